@@ -1,0 +1,32 @@
+-- The shape of a table: which node names which (document 01, "The formula table").
+-- Assumes nothing.
+use mathlib.Core.Bool.{Bool, true, false, not, _&&_}
+use mathlib.Core.List.{List, [], _∷_}
+use mathlib.Core.Path.{_≡_}
+use Prim.Native.Nat.{ℕ, zero, suc, _+_, _-_, _<_, _≤_}
+use lib.Dec.{eqb, ltb}
+use lib.ListN.{length}
+use Rattle.lists.specs.Choice.{pick}
+use Rattle.lists.specs.Search.{lowest}
+use Rattle.lists.specs.Members.{mem, times, distinct}
+use Rattle.lists.specs.Parts.{sum}
+use Rattle.formula.specs.Node.{Node, Table, operands, isBlock, bound}
+
+-- How often the nodes of a table name node i.
+unfoldable pub timesNamed : Table → ℕ → ℕ
+timesNamed t i = sum (λ j. times i (operands (t .node j))) (t .size)
+
+-- "Operands and bodies have lower indices than the node that names them, and each node but the last is named exactly
+-- once: a table is a tree."
+pub record Tree (t : Table) : Type 0 where
+  pub nonempty : 0 < t .size
+  pub lower : (i a : ℕ) → i < t .size → mem a (operands (t .node i)) ≡ true → a < i
+  pub once : (i : ℕ) → suc i < t .size → timesNamed t i ≡ 1
+
+-- The number of variables that node i binds: its count at a block, 0 elsewhere.
+unfoldable pub count : Table → ℕ → ℕ
+count t i = length (bound (t .node i))
+
+-- The sum of the counts of the blocks below node i. At the table's size it is document 01's q.
+unfoldable pub boundBelow : Table → ℕ → ℕ
+boundBelow t i = sum (count t) i

@@ -1,0 +1,4 @@
+pub mod Choice
+pub mod Search
+pub mod Members
+pub mod Parts

@@ -1,0 +1,33 @@
+-- Membership in a list of numbers, as a test.
+-- Assumes nothing.
+use mathlib.Core.Path.{_≡_, refl}
+use mathlib.Core.Bool.{Bool, true, false, not, _&&_, _||_}
+use mathlib.Core.List.{List, [], _∷_}
+use Prim.Native.Nat.{ℕ, zero, suc, _+_}
+use lib.Dec.{eqb}
+use Rattle.lists.specs.Choice.{pick}
+
+-- x stands in the list
+unfoldable pub mem : ℕ → List ℕ → Bool
+mem x [] = false
+mem x (y ∷ ys) = eqb x y || mem x ys
+
+-- every element passes the test
+unfoldable pub all : (ℕ → Bool) → List ℕ → Bool
+all p [] = true
+all p (y ∷ ys) = p y && all p ys
+
+-- no element stands twice
+unfoldable pub distinct : List ℕ → Bool
+distinct [] = true
+distinct (y ∷ ys) = not (mem y ys) && distinct ys
+
+-- how often x stands in the list
+unfoldable pub times : ℕ → List ℕ → ℕ
+times x [] = 0
+times x (y ∷ ys) = pick (eqb x y) 1 0 + times x ys
+
+-- the place of x in the list, counted from 0; the list's length if it is not there
+unfoldable pub place : ℕ → List ℕ → ℕ
+place x [] = 0
+place x (y ∷ ys) = pick (eqb x y) 0 (suc (place x ys))
