@@ -30,3 +30,8 @@ count t i = length (bound (t .node i))
 -- The sum of the counts of the blocks below node i. At the table's size it is document 01's q.
 unfoldable pub boundBelow : Table → ℕ → ℕ
 boundBelow t i = sum (count t) i
+
+-- What lifting needs of a table: it is a tree, and no block binds a number twice.
+pub record Proper (t : Table) : Type 0 where
+  pub tree : Tree t
+  pub apart : (i : ℕ) → i < t .size → distinct (bound (t .node i)) ≡ true
