@@ -30,7 +30,7 @@ unfoldable pub blockAt : List ℕ → List ℕ → ℕ → Block
 blockAt ps xs j =
     record {
       quantifier = quantifierOf (getD ps (prefixWidth * j) 0);
-      variables = range xs (getD ps (prefixWidth * j + 1) 0) (getD ps (prefixWidth * j + 2) 0)
+      variables = range xs (getD ps (prefixWidth * j + 1) 0) (getD ps (prefixWidth * j + 2) 0);
     }
 
 -- m blocks from block j on

@@ -1,3 +1,4 @@
 pub mod Search
 pub mod Members
 pub mod Parts
+pub mod Overwrite

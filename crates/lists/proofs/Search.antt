@@ -1,13 +1,12 @@
 -- Laws of `lowest`: it is what its name says.
 -- Assumes nothing.
-use mathlib.Core.Path.{_≡_, refl, sym, _∙_, subst}
+use mathlib.Core.Path.{_≡_, refl, _∙_}
 use mathlib.Core.Bool.{Bool, true, false}
-use Prim.Native.Nat.{ℕ, zero, suc, _+_, _≤_, _<_}
+use Prim.Native.Nat.{ℕ, zero, suc, _≤_, _<_}
 use native.Mathlib.Omega.{arith}
-use native.Mathlib.Nat.{le-of-suc-le-suc, not-suc-le-zero}
 use lib.Dec.{ltb}
-use borrow.Author.Tests.{ltb-true, ltb-false, lt-ltb, le-ltb}
-use Rattle.lists.specs.Choice.{pick, pick-yes, pick-no, Is, is-true, is-false, look, clash}
+use borrow.Author.Tests.{ltb-true, ltb-false}
+use Rattle.lists.specs.Choice.{pick-yes, pick-no, Is, is-true, is-false, look, clash}
 use Rattle.lists.specs.Search.{lowest}
 
 -- the three ways to go one further

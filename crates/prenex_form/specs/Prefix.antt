@@ -28,7 +28,7 @@ unfoldable pub prefixBlock : Table → ℕ → Block
 prefixBlock t j =
     record {
       quantifier = levelQuantifier t j;
-      variables = leading t j ++ flatMap (copies t) (blocksAt t (suc j))
+      variables = leading t j ++ flatMap (copies t) (blocksAt t (suc j));
     }
 
 -- "A table without blocks has no prefix at all"; any other has one block more than levels.

@@ -39,5 +39,5 @@ sizes t =
       depth = depth t;
       nodes = kept t + sum (addedBy t) (t .size);
       blocks = prefixCount t;
-      entries = boundCount t + innerBoundBelow t (t .size) + innerBelow t (t .size)
+      entries = boundCount t + innerBoundBelow t (t .size) + innerBelow t (t .size);
     }
