@@ -1,0 +1,2 @@
+pub mod Quantify
+pub mod Unfolding

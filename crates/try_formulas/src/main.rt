@@ -1,0 +1,227 @@
+// Document 01's "Formulas to try" under the table checker: each formula's name and its verdict.
+ghost use Prim.Native.Nat.{_+_, _*_, _≤_};
+ghost use lib.ListN.{length};
+ghost use Rattle.formula.specs.Words.{width};
+use formula::WIDTH;
+
+const OUT: i32 = 1;
+
+fn main() {
+    small();
+    ranges();
+    edges();
+    large();
+    long_list();
+    crowded();
+}
+
+// Prints a formula's name and what the checker says of its table.
+fn show(name: &[u8], words: &[u32], list: &[u32]) {
+    io::write_all(OUT, name);
+    let v = table_check::check(words, list);
+    let number = v.number;
+    let position = v.position;
+    if number == 0 {
+        io::write_all(OUT, b": accepted\n");
+        return;
+    }
+    io::write_all(OUT, b": refused, ");
+    io::print_decimal(OUT, wide(number));
+    io::write_all(OUT, b" at ");
+    io::print_decimal(OUT, wide(position));
+    io::write_all(OUT, b"\n");
+}
+
+fn wide(x: u32) -> u64 {
+    x as u64
+}
+
+// The formulas without blocks.
+fn small() {
+    let none = [0u32; 1];
+    let nothing = [0u32; 1];
+    show(b"no words", &nothing[..0], &none[..0]);
+    show(b"five words", &[1, 1, 0, 0, 0], &none[..0]);
+    show(b"constant 1", &[1, 1, 0, 0], &none[..0]);
+    show(b"a node named twice", &[2, 1, 0, 0, 4, 9, 0, 0], &none[..0]);
+    show(
+        b"variable 0 under a not that names itself",
+        &[2, 0, 0, 0, 3, 1, 0, 0],
+        &none[..0],
+    );
+    show(b"variable 65,535", &[2, 65535, 0, 0], &none[..0]);
+    show(b"variable 65,536", &[2, 65536, 0, 0], &none[..0]);
+}
+
+// The formulas with blocks and short lists.
+fn ranges() {
+    let none = [0u32; 1];
+    show(
+        b"exists nothing over constant 0",
+        &[1, 0, 0, 0, 5, 0, 0, 0],
+        &none[..0],
+    );
+    show(
+        b"not exists nothing",
+        &[1, 1, 0, 0, 5, 0, 0, 0, 3, 1, 0, 0],
+        &none[..0],
+    );
+    show(
+        b"a block below an exclusive or",
+        &[
+            2,
+            1,
+            0,
+            0,
+            2,
+            2,
+            0,
+            0,
+            2,
+            1,
+            0,
+            0,
+            4,
+            8,
+            1,
+            2,
+            5,
+            0,
+            1,
+            3,
+            4,
+            6,
+            0,
+            4,
+        ],
+        &[2],
+    );
+    show(
+        b"two blocks that bind one number",
+        &[2, 1, 0, 0, 2, 1, 0, 0, 6, 0, 1, 1, 4, 8, 0, 2, 5, 0, 1, 3],
+        &[1],
+    );
+    show(
+        b"a range past a list of one",
+        &[2, 1, 0, 0, 5, 1, 1, 0],
+        &[1],
+    );
+    show(
+        b"an empty range at its end",
+        &[2, 1, 0, 0, 5, 1, 0, 0],
+        &[1],
+    );
+    show(
+        b"a number twice in one block",
+        &[2, 1, 0, 0, 5, 0, 2, 0],
+        &[2, 2],
+    );
+}
+
+// Ranges at the edges of 32 bits.
+fn edges() {
+    show(
+        b"first 4,294,967,295, count 1",
+        &[2, 1, 0, 0, 5, 4294967295, 1, 0],
+        &[1],
+    );
+    show(
+        b"first 1, count 4,294,967,295",
+        &[2, 1, 0, 0, 5, 1, 4294967295, 0],
+        &[1],
+    );
+    show(
+        b"first and count 4,294,967,295",
+        &[2, 1, 0, 0, 6, 4294967295, 4294967295, 0],
+        &[1],
+    );
+    show(
+        b"operand 4,294,967,295",
+        &[2, 1, 0, 0, 3, 4294967295, 0, 0],
+        &[1],
+    );
+    show(b"covered entry 65,535", &[2, 1, 0, 0, 5, 0, 1, 0], &[65535]);
+    show(b"covered entry 65,536", &[2, 1, 0, 0, 5, 0, 1, 0], &[65536]);
+    show(b"covered entry 0", &[2, 1, 0, 0, 5, 0, 1, 0], &[0]);
+}
+
+// Chains of 4,096 and 4,097 nodes.
+fn large() {
+    let mut words = [0u32; 16388];
+    chain(&mut words);
+    show_chains(&words);
+}
+
+fn show_chains(words: &[u32; 16388]) {
+    let none = [0u32; 1];
+    show_first(b"4,096 nodes", words, 16384, &none[..0]);
+    show(b"4,097 nodes", words, &none[..0]);
+}
+
+// A table of the first n words.
+fn show_first(name: &[u8], words: &[u32], n: usize, list: &[u32]) {
+    if n <= words.len() {
+        show(name, &words[..n], list);
+    }
+}
+
+// Lists of 4,096 and 4,097 entries.
+fn long_list() {
+    let list = [0u32; 4097];
+    show(b"a list of 4,096", &[2, 1, 0, 0], &list[..4096]);
+    show(b"a list of 4,097", &[2, 1, 0, 0], &list);
+}
+
+// Two blocks over one range of 2,049 entries, and over one of 2,048.
+fn crowded() {
+    let mut list = [0u32; 2049];
+    count_up(&mut list);
+    show(
+        b"two blocks of 2,048",
+        &[2, 1, 0, 0, 5, 0, 2048, 0, 5, 0, 2048, 1],
+        &list,
+    );
+    show(
+        b"two blocks of 2,049",
+        &[2, 1, 0, 0, 5, 0, 2049, 0, 5, 0, 2049, 1],
+        &list,
+    );
+}
+
+// Variable 1 under as many not nodes as there is room for.
+fn chain(words: &mut [u32]) {
+    let n = words.len() / WIDTH;
+    if n == 0 {
+        return;
+    }
+    put_node(words, 0, 2, 1);
+    let mut below: u32 = 0;
+    let mut i = 1;
+    while i < n {
+        put_node(words, i, 3, below);
+        below = std::num::wrapping_add_u32(below, 1);
+        i += 1;
+    }
+}
+
+// Kind and first field of node i; the other fields are 0.
+fn put_node(words: &mut [u32], i: usize, kind: u32, a: u32)
+    requires { ⌜ width * i + width ≤ length (now words) ⌝ }
+{
+    let at = WIDTH * i;
+    words[at] = kind;
+    words[at + 1] = a;
+    words[at + 2] = 0;
+    words[at + 3] = 0;
+}
+
+// 1, 2, 3 and so on.
+fn count_up(list: &mut [u32]) {
+    let mut i = 0;
+    let mut x: u32 = 1;
+    while i < list.len() {
+        list[i] = x;
+        x = std::num::wrapping_add_u32(x, 1);
+        i += 1;
+    }
+}
