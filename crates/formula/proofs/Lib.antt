@@ -1,2 +1,7 @@
+pub mod Coincidence
+pub mod Nodes
+pub mod Operators
 pub mod Quantify
+pub mod Ranges
+pub mod Reading
 pub mod Unfolding

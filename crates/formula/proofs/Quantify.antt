@@ -65,7 +65,8 @@ outside-tail x xs v u out y m = go (look (eqb y x))
     go (is-false e) = pick-no _ _ _ e ∙ out y (or-neither (eqb y x) (mem y xs) e m)
 
 -- Valuations that are equal inside xs, and outside xs only have the same value at x, are equal inside x ∷ xs.
-inside-cons : (x : ℕ) (b : Bool) (xs : List ℕ) (v u v' u' : Valuation) → Inside xs v' u' → Outside xs v' (update v x b) → Outside xs u' (update u x b) → Inside (x ∷ xs) v' u'
+inside-cons : (x : ℕ) (b : Bool) (xs : List ℕ) (v u v' u' : Valuation)
+    → Inside xs v' u' → Outside xs v' (update v x b) → Outside xs u' (update u x b) → Inside (x ∷ xs) v' u'
 unfolding mem update
 inside-cons x b xs v u v' u' in′ ov ou y m = go (look (mem y xs)) (look (eqb y x))
   where
@@ -101,17 +102,22 @@ join-attain q a = go q (a false) (a true) refl refl
     go for-all true r h k = (true, sym k)
     go for-all false r h k = (false, sym h)
 
-join-cong : (q : Quantifier) (a c : Bool → Bool) → ((b : Bool) → a b ≡ c b) → join q (a false) (a true) ≡ join q (c false) (c true)
+join-cong : (q : Quantifier) (a c : Bool → Bool)
+    → ((b : Bool) → a b ≡ c b) → join q (a false) (a true) ≡ join q (c false) (c true)
 join-cong q a c h = ap₂ (join q) (h false) (h true)
 
 -- A valuation within reach that has the deciding value decides.
-pub quant-reach : (q : Quantifier) (xs : List ℕ) (f : Valuation → Bool) (v u : Valuation) → Outside xs v u → f u ≡ decides q → quant q xs f v ≡ decides q
+pub quant-reach : (q : Quantifier) (xs : List ℕ) (f : Valuation → Bool) (v u : Valuation)
+    → Outside xs v u → f u ≡ decides q → quant q xs f v ≡ decides q
 unfolding quant mem
 quant-reach q [] f v u out h = ap f (fun-ext (λ y. out y refl)) ∙ h
-quant-reach q (x ∷ xs) f v u out h = join-reach q (λ b. quant q xs f (update v x b)) (u x) (quant-reach q xs f (update v x (u x)) u (outside-tail x xs v u out) h)
+quant-reach q (x ∷ xs) f v u out h =
+    join-reach q (λ b. quant q xs f (update v x b)) (u x)
+    (quant-reach q xs f (update v x (u x)) u (outside-tail x xs v u out) h)
 
 -- The value is that at some valuation within reach.
-pub quant-attain : (q : Quantifier) (xs : List ℕ) (f : Valuation → Bool) (v : Valuation) → (u : Valuation) × Outside xs v u × (quant q xs f v ≡ f u)
+pub quant-attain : (q : Quantifier) (xs : List ℕ) (f : Valuation → Bool) (v : Valuation)
+    → (u : Valuation) × Outside xs v u × (quant q xs f v ≡ f u)
 unfolding quant
 quant-attain q [] f v = (v, λ y m. refl, refl)
 quant-attain q (x ∷ xs) f v =
@@ -119,12 +125,14 @@ quant-attain q (x ∷ xs) f v =
     let r = quant-attain q xs f (update v x (j .0)) in
     (r .0, outside-cons x (j .0) xs v (r .0) (r .1), j .1 ∙ r .2)
 
-pub quant-append : (q : Quantifier) (xs ys : List ℕ) (f : Valuation → Bool) (v : Valuation) → quant q (xs ++ ys) f v ≡ quant q xs (quant q ys f) v
+pub quant-append : (q : Quantifier) (xs ys : List ℕ) (f : Valuation → Bool) (v : Valuation)
+    → quant q (xs ++ ys) f v ≡ quant q xs (quant q ys f) v
 unfolding quant
 quant-append q [] ys f v = refl
 quant-append q (x ∷ xs) ys f v = join-cong q _ _ (λ b. quant-append q xs ys f (update v x b))
 
-pub quant-cong : (q : Quantifier) (xs : List ℕ) (f g : Valuation → Bool) (v : Valuation) → ((u : Valuation) → f u ≡ g u) → quant q xs f v ≡ quant q xs g v
+pub quant-cong : (q : Quantifier) (xs : List ℕ) (f g : Valuation → Bool) (v : Valuation)
+    → ((u : Valuation) → f u ≡ g u) → quant q xs f v ≡ quant q xs g v
 quant-cong q xs f g v h = ap (λ k. quant q xs k v) (fun-ext h)
 
 -- Two functions under one list, from two valuations.
@@ -139,7 +147,8 @@ quant-same q (x ∷ xs) f g v u same =
     (λ v' u' i ov ou. same v' u' (inside-cons x b xs v u v' u' i ov ou) (outside-cons′ x b xs v v' ov) (outside-cons′ x b xs u u' ou)))
 
 -- A number that is not in xs keeps its value.
-kept : (x : ℕ) (b : Bool) (xs : List ℕ) (v v' : Valuation) → distinct (x ∷ xs) ≡ true → Outside xs v' (update v x b) → v' x ≡ b
+kept : (x : ℕ) (b : Bool) (xs : List ℕ) (v v' : Valuation)
+    → distinct (x ∷ xs) ≡ true → Outside xs v' (update v x b) → v' x ≡ b
 unfolding distinct
 kept x b xs v v' d out = out x (not-true (mem x xs) (and-left (not (mem x xs)) (distinct xs) d)) ∙ update-same v x b
 
@@ -148,7 +157,8 @@ unfolding distinct
 distinct-tail x xs d = and-right (not (mem x xs)) (distinct xs) d
 
 -- Equal values at equal places of the tails, and at the heads, are equal values at equal places.
-places-cons : (x y : ℕ) (xs ys : List ℕ) (v w : Valuation) → v x ≡ w y → ((k : ℕ) → k < length xs → v (getD xs k 0) ≡ w (getD ys k 0))
+places-cons : (x y : ℕ) (xs ys : List ℕ) (v w : Valuation)
+    → v x ≡ w y → ((k : ℕ) → k < length xs → v (getD xs k 0) ≡ w (getD ys k 0))
     → (k : ℕ) → k < length (x ∷ xs) → v (getD (x ∷ xs) k 0) ≡ w (getD (y ∷ ys) k 0)
 places-cons x y xs ys v w e r zero l = e
 places-cons x y xs ys v w e r (suc k) l = r k (le-of-suc-le-suc l)
@@ -156,7 +166,8 @@ places-cons x y xs ys v w e r (suc k) l = r k (le-of-suc-le-suc l)
 -- Two functions under two lists of one length, related place by place.
 pub quant-two : (q : Quantifier) (xs ys : List ℕ) → length xs ≡ length ys → distinct xs ≡ true → distinct ys ≡ true
     → (f g : Valuation → Bool) (v w : Valuation)
-    → ((v' w' : Valuation) → ((k : ℕ) → k < length xs → v' (getD xs k 0) ≡ w' (getD ys k 0)) → Outside xs v' v → Outside ys w' w → f v' ≡ g w')
+    → ((v' w' : Valuation) → ((k : ℕ) → k < length xs → v' (getD xs k 0) ≡ w' (getD ys k 0))
+    → Outside xs v' v → Outside ys w' w → f v' ≡ g w')
     → quant q xs f v ≡ quant q ys g w
 unfolding quant
 quant-two q [] [] e dx dy f g v w same = same v w (λ k l. absurd (not-suc-le-zero l)) (λ y m. refl) (λ y m. refl)

@@ -1,0 +1,64 @@
+-- What the working arrays of a lift hold of a table t.
+-- Assumes nothing.
+use mathlib.Core.Bool.{Bool, true, _&&_}
+use mathlib.Core.List.{List, []}
+use mathlib.Core.Path.{_≡_}
+use Prim.Native.Nat.{ℕ, suc, _+_, _<_, _≤_}
+use lib.Dec.{eqb, ltb}
+use lib.ListN.{length, getD}
+use Rattle.lists.specs.Choice.{pick}
+use Rattle.lists.specs.Search.{lowest}
+use Rattle.lists.specs.Members.{place}
+use Rattle.lists.specs.Parts.{upTo}
+use Rattle.formula.specs.Node.{Node, Table, isBlock, bound}
+use Rattle.formula.specs.Tree.{boundBelow}
+use Rattle.prenex_form.specs.Scope.{above, binder, inner, level}
+use Rattle.prenex_form.specs.Names.{highestNumber, boundCount, innerBoundBelow, definitionVariable}
+use Rattle.arrays.specs.Link.{link}
+
+-- The nearest block above node i, its parent among the blocks; the table's size if there is none.
+unfoldable pub enclosing : Table → ℕ → ℕ
+enclosing t i = lowest (λ b. isBlock (t .node b) && above t b i) (t .size)
+
+-- Node i is an inner block of level l.
+abbrev pub atLevel : Table → ℕ → ℕ → Bool
+atLevel t l i = inner t i && eqb (level t i) l
+
+-- Each node's parent block and level.
+pub record Scopes (t : Table) (parents levels : List ℕ) : Type 0 where
+  pub parents-are : (i : ℕ) → i < t .size → getD parents i 0 ≡ enclosing t i
+  pub levels-are : (i : ℕ) → i < t .size → getD levels i 0 ≡ level t i
+
+-- The blocks of each level chained in node order: where the first stands, and after each the next.
+pub record LevelChains (t : Table) (firsts nexts : List ℕ) : Type 0 where
+  pub first-is : (l : ℕ) → l ≤ t .size → getD firsts l 0 ≡ link (atLevel t l) 0 (t .size)
+  pub next-is : (i : ℕ) → i < t .size → inner t i ≡ true → getD nexts i 0 ≡ link (atLevel t (level t i)) (suc i) (t .size)
+
+-- The bound variables of all blocks, in node and list order. Entry e is one of block i's where boundBelow t i ≤ e and
+-- e < boundBelow t (suc i).
+unfoldable pub entries : Table → List ℕ
+entries t = upTo (λ i. bound (t .node i)) (t .size)
+
+-- How many entries stand before each node's.
+pub record Starts (t : Table) (starts : List ℕ) : Type 0 where
+  pub start-is : (i : ℕ) → i < t .size → getD starts i 0 ≡ boundBelow t i
+
+-- The entries of each number chained in order, and the block of each.
+pub record EntryChains (t : Table) (heads nexts owners : List ℕ) : Type 0 where
+  pub head-is : (x : ℕ) → x < 65536 → getD heads x 0 ≡ link (λ e. eqb (getD (entries t) e 0) x) 0 (boundCount t)
+  pub next-is : (e : ℕ) → e < boundCount t → getD nexts e 0 ≡ link (λ k. eqb (getD (entries t) k 0) (getD (entries t) e 0)) (suc e) (boundCount t)
+  pub owner-lt : (e : ℕ) → e < boundCount t → getD owners e 0 < t .size
+  pub owner-from : (e : ℕ) → e < boundCount t → boundBelow t (getD owners e 0) ≤ e
+  pub owner-below : (e : ℕ) → e < boundCount t → e < boundBelow t (suc (getD owners e 0))
+
+-- The entry that binds the number x at node i, and one more, so that 0 says that x is free there.
+unfoldable pub boundEntry : Table → ℕ → ℕ → ℕ
+boundEntry t i x =
+    let b = binder t i x in
+    pick (ltb b (t .size)) (suc (boundBelow t b + place x (bound (t .node b)))) 0
+
+-- The new name and the copy of each entry, and the definition variable of each inner block.
+pub record Names (t : Table) (names copies marks : List ℕ) : Type 0 where
+  pub name-is : (e : ℕ) → e < boundCount t → getD names e 0 ≡ highestNumber t + 1 + e
+  pub copy-is : (e : ℕ) → e < innerBoundBelow t (t .size) → getD copies e 0 ≡ highestNumber t + boundCount t + 1 + e
+  pub mark-is : (i : ℕ) → i < t .size → inner t i ≡ true → getD marks i 0 ≡ definitionVariable t i

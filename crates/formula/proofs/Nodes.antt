@@ -1,0 +1,67 @@
+-- Which node the words of a table make at each kind.
+-- Assumes nothing.
+use mathlib.Core.Path.{_≡_, refl}
+use mathlib.Core.Bool.{false}
+use mathlib.Core.List.{List}
+use Prim.Native.Nat.{ℕ, zero, suc, _<_}
+use native.Mathlib.Omega.{arith}
+use lib.Dec.{eqb}
+use borrow.Author.Tests.{ne-eqb}
+use Rattle.lists.specs.Choice.{pick}
+use Rattle.formula.specs.Node.{exists, for-all, constant, variable, negation, operator, block}
+use Rattle.formula.specs.Words.{field, range, nodeOf, nodeAt}
+
+-- A word is one of the six kinds, or none.
+pub data Kind (k : ℕ) : Type 0 where
+  kind-constant : k ≡ 1 → Kind k
+  kind-variable : k ≡ 2 → Kind k
+  kind-negation : k ≡ 3 → Kind k
+  kind-operator : k ≡ 4 → Kind k
+  kind-exists : k ≡ 5 → Kind k
+  kind-for-all : k ≡ 6 → Kind k
+  kind-none : eqb k 1 ≡ false → eqb k 2 ≡ false → eqb k 3 ≡ false → eqb k 4 ≡ false → eqb k 5 ≡ false → eqb k 6 ≡ false → Kind k
+
+above : (n k : ℕ) → k < 7 → eqb (suc (suc (suc (suc (suc (suc (suc n))))))) k ≡ false
+above n k h = ne-eqb (suc (suc (suc (suc (suc (suc (suc n))))))) k (λ e. omega arith)
+
+pub kind-of : (k : ℕ) → Kind k
+kind-of zero = kind-none refl refl refl refl refl refl
+kind-of (suc zero) = kind-constant refl
+kind-of (suc (suc zero)) = kind-variable refl
+kind-of (suc (suc (suc zero))) = kind-negation refl
+kind-of (suc (suc (suc (suc zero)))) = kind-operator refl
+kind-of (suc (suc (suc (suc (suc zero))))) = kind-exists refl
+kind-of (suc (suc (suc (suc (suc (suc zero)))))) = kind-for-all refl
+kind-of (suc (suc (suc (suc (suc (suc (suc n))))))) =
+    kind-none (above n 1 (omega arith)) (above n 2 (omega arith)) (above n 3 (omega arith)) (above n 4 (omega arith)) (above n 5 (omega arith)) (above n 6 (omega arith))
+
+module _ (ws ls : List ℕ) (i : ℕ) where
+  pub node-constant : field ws i 0 ≡ 1 → nodeAt ws ls i ≡ constant (eqb (field ws i 1) 1)
+  unfolding nodeAt nodeOf pick
+  node-constant e = rw e
+
+  pub node-variable : field ws i 0 ≡ 2 → nodeAt ws ls i ≡ variable (field ws i 1)
+  unfolding nodeAt nodeOf pick
+  node-variable e = rw e
+
+  pub node-negation : field ws i 0 ≡ 3 → nodeAt ws ls i ≡ negation (field ws i 1)
+  unfolding nodeAt nodeOf pick
+  node-negation e = rw e
+
+  pub node-operator : field ws i 0 ≡ 4 → nodeAt ws ls i ≡ operator (field ws i 1) (field ws i 2) (field ws i 3)
+  unfolding nodeAt nodeOf pick
+  node-operator e = rw e
+
+  pub node-exists : field ws i 0 ≡ 5 → nodeAt ws ls i ≡ block exists (range ls (field ws i 1) (field ws i 2)) (field ws i 3)
+  unfolding nodeAt nodeOf pick
+  node-exists e = rw e
+
+  pub node-for-all : field ws i 0 ≡ 6 → nodeAt ws ls i ≡ block for-all (range ls (field ws i 1) (field ws i 2)) (field ws i 3)
+  unfolding nodeAt nodeOf pick
+  node-for-all e = rw e
+
+  -- a word that is no kind, which no accepted table has
+  pub node-none : eqb (field ws i 0) 1 ≡ false → eqb (field ws i 0) 2 ≡ false → eqb (field ws i 0) 3 ≡ false → eqb (field ws i 0) 4 ≡ false
+      → eqb (field ws i 0) 5 ≡ false → eqb (field ws i 0) 6 ≡ false → nodeAt ws ls i ≡ constant false
+  unfolding nodeAt nodeOf pick
+  node-none e1 e2 e3 e4 e5 e6 = rw (e1, e2, e3, e4, e5, e6)
