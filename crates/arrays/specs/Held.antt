@@ -24,10 +24,13 @@ enclosing t i = lowest (λ b. isBlock (t .node b) && above t b i) (t .size)
 abbrev pub atLevel : Table → ℕ → ℕ → Bool
 atLevel t l i = inner t i && eqb (level t i) l
 
--- Each node's parent block and level.
-pub record Scopes (t : Table) (parents levels : List ℕ) : Type 0 where
-  pub parents-are : (i : ℕ) → i < t .size → getD parents i 0 ≡ enclosing t i
-  pub levels-are : (i : ℕ) → i < t .size → getD levels i 0 ≡ level t i
+-- Each node's parent block.
+pub record Parents (t : Table) (parents : List ℕ) : Type 0 where
+  pub parent-is : (i : ℕ) → i < t .size → getD parents i 0 ≡ enclosing t i
+
+-- Each node's level.
+pub record NodeLevels (t : Table) (levels : List ℕ) : Type 0 where
+  pub level-is : (i : ℕ) → i < t .size → getD levels i 0 ≡ level t i
 
 -- The blocks of each level chained in node order: where the first stands, and after each the next.
 pub record LevelChains (t : Table) (firsts nexts : List ℕ) : Type 0 where
