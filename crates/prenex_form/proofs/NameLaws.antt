@@ -38,7 +38,7 @@ entry-le (operator f a b) x m = clash m refl
 entry-le (block q xs a) x m = maximum-ge x xs m
 
 -- a node that is no block binds nothing
-none-bound : (nd : Node) → isBlock nd ≡ false → length (bound nd) ≡ 0
+pub none-bound : (nd : Node) → isBlock nd ≡ false → length (bound nd) ≡ 0
 unfolding isBlock bound
 none-bound (constant b) h = refl
 none-bound (variable y) h = refl
@@ -46,7 +46,7 @@ none-bound (negation a) h = refl
 none-bound (operator f a b) h = refl
 none-bound (block q xs a) h = clash refl h
 
-pick-le : (b : Bool) (n : ℕ) → pick b n 0 ≤ n
+pub pick-le : (b : Bool) (n : ℕ) → pick b n 0 ≤ n
 unfolding pick
 pick-le true n = omega arith
 pick-le false n = omega arith
