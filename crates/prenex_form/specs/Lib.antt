@@ -5,3 +5,4 @@ pub mod Matrix
 pub mod Prefix
 pub mod Sizes
 pub mod FreeVariables
+pub mod Promise

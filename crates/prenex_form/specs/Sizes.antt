@@ -8,19 +8,11 @@ use Rattle.lists.specs.Choice.{pick}
 use Rattle.lists.specs.Parts.{sum}
 use Rattle.formula.specs.Node.{Node, Table, isBlock}
 use Rattle.formula.specs.Tree.{count}
+use Rattle.prenex_form.specs.declared.Sizes.{Sizes}
 use Rattle.prenex_form.specs.Scope.{inner, depth}
 use Rattle.prenex_form.specs.Names.{boundCount, innerBoundBelow, innerBelow}
 use Rattle.prenex_form.specs.Matrix.{kept}
 use Rattle.prenex_form.specs.Prefix.{blockCount}
-
-pub record Sizes : Type 0 where
-  pub n : ℕ
-  pub b : ℕ
-  pub q : ℕ
-  pub depth : ℕ
-  pub nodes : ℕ
-  pub blocks : ℕ
-  pub entries : ℕ
 
 -- "K nodes are joined by 4 × count + 5 for each inner block, or 3 where its count is 0."
 unfoldable pub addedBy : Table → ℕ → ℕ
