@@ -38,11 +38,11 @@ and-off : (a b : Bool) → b ≡ false → (a && b) ≡ false
 and-off true b h = h
 and-off false b h = refl
 
-or-right : (a b : Bool) → b ≡ true → (a || b) ≡ true
+pub or-right : (a b : Bool) → b ≡ true → (a || b) ≡ true
 or-right true b h = refl
 or-right false b h = h
 
-or-cases : {P : Type 0} (a b : Bool) → (a || b) ≡ true → (a ≡ true → P) → (b ≡ true → P) → P
+pub or-cases : {P : Type 0} (a b : Bool) → (a || b) ≡ true → (a ≡ true → P) → (b ≡ true → P) → P
 or-cases true b h f g = f refl
 or-cases false b h f g = g h
 
@@ -98,7 +98,7 @@ unfolding mem
 mem-none x = refl
 
 -- bodies and operands
-body-named : (n : Node) → isBlock n ≡ true → mem (bodyOf n) (operands n) ≡ true
+pub body-named : (n : Node) → isBlock n ≡ true → mem (bodyOf n) (operands n) ≡ true
 unfolding isBlock bodyOf operands
 body-named (constant b) h = clash h refl
 body-named (variable x) h = clash h refl
@@ -115,7 +115,7 @@ body-only (operator f a b) i h m = clash h refl
 body-only (block q xs a) i h m = eqb-true i a (sym (mem-one i a) ∙ m)
 
 -- blocks other than the root are inner
-inner-is : (t : Table) (i : ℕ) → suc i < t .size → inner t i ≡ isBlock (t .node i)
+pub inner-is : (t : Table) (i : ℕ) → suc i < t .size → inner t i ≡ isBlock (t .node i)
 unfolding inner
 inner-is t i h = rw (ne-eqb (suc i) (t .size) (λ e. omega arith)) (and-true _)
 
@@ -222,7 +222,7 @@ module _ (t : Table) (tree : Tree t) where
   path-step i h = path-longer i (omega arith) ∙ path-on t (t .size) i (parent-lt i h)
 
   -- a path begins with its node, and goes up
-  path-self : (i : ℕ) → i < t .size → mem i (path t i) ≡ true
+  pub path-self : (i : ℕ) → i < t .size → mem i (path t i) ≡ true
   path-self =
       climb (λ i. mem i (path t i) ≡ true)
       (λ i h. rw (path-root i h) (mem-head i []))
@@ -261,7 +261,7 @@ module _ (t : Table) (tree : Tree t) where
       ∙ with-or (eqb b (parent t i)) (mem b (path t (parent t i)))
       (λ e. subst (λ c. mem c (path t (parent t i)) ≡ true) (sym (eqb-true b (parent t i) e)) (path-self (parent t i) (parent-lt i h)))
 
-  above-cases : {P : Type 0} (b i : ℕ) → suc i < t .size → above t b i ≡ true → (b ≡ parent t i → P) → (above t b (parent t i) ≡ true → P) → P
+  pub above-cases : {P : Type 0} (b i : ℕ) → suc i < t .size → above t b i ≡ true → (b ≡ parent t i → P) → (above t b (parent t i) ≡ true → P) → P
   above-cases b i h a f g =
       or-cases (eqb b (parent t i)) (above t b (parent t i)) (sym (above-step b i h) ∙ a) (λ e. f (eqb-true b (parent t i) e)) g
 

@@ -8,12 +8,3 @@ pub struct Verdict {
     pub position: u32,
 }
 
-// Refuses a table by document 01's refusals 1 to 8, in that order, or accepts it.
-pub fn check(words: &[u32], list: &[u32]) -> Verdict
-    ensures { λ r. ⌜ r ≡ verdict (now (words .entry)) (now (list .entry)) ⌝ }
-{
-    Verdict {
-        number: 0,
-        position: 0,
-    }
-}

@@ -1,0 +1,103 @@
+-- Laws of `enclosing`, the nearest block above a node of a tree.
+-- Assumes nothing.
+use mathlib.Core.Path.{_≡_, refl, sym, _∙_, subst}
+use mathlib.Core.Bool.{Bool, true, false, _&&_, _||_}
+use mathlib.Core.Logic.{_⊎_, inl, inr}
+use Prim.Native.Nat.{ℕ, suc, _≤_, _<_}
+use native.Mathlib.Omega.{arith}
+use lib.Dec.{eqb, ltb}
+use borrow.Author.Tests.{ltb-true, ltb-false, eqb-true, eqb-false, eq-eqb}
+use Rattle.lists.specs.Choice.{pick, pick-yes, pick-no, Is, is-true, is-false, look, clash, and-left, and-right, and-both, or-neither}
+use Rattle.lists.specs.Search.{lowest}
+use Rattle.lists.specs.Members.{mem}
+use Rattle.lists.proofs.Search.{lowest-le, lowest-holds, lowest-least, lowest-is, lowest-none, lowest-cong}
+use Rattle.formula.specs.Node.{Table, operands, isBlock}
+use Rattle.formula.specs.Tree.{Tree}
+use Rattle.prenex_form.specs.Scope.{parent, above}
+use Rattle.prenex_form.proofs.Paths.{parent-is, above-root, above-step, above-higher, above-line}
+use Rattle.arrays.specs.Held.{enclosing}
+
+off-right : (a b : Bool) → b ≡ false → (a && b) ≡ false
+off-right true b h = h
+off-right false b h = refl
+
+-- node b is a block above node i
+abbrev encloses : Table → ℕ → ℕ → Bool
+encloses t i b = isBlock (t .node b) && above t b i
+
+module _ (t : Table) (tree : Tree t) where
+  pub enclosing-le : (i : ℕ) → enclosing t i ≤ t .size
+  unfolding enclosing
+  enclosing-le i = lowest-le (encloses t i) (t .size)
+
+  pub enclosing-root : (i : ℕ) → suc i ≡ t .size → enclosing t i ≡ t .size
+  unfolding enclosing
+  enclosing-root i h =
+      lowest-none (encloses t i) (t .size) (λ b l. off-right (isBlock (t .node b)) (above t b i) (above-root t tree b i h))
+
+  -- the parent, if it is a block, or else the block that encloses the parent
+  pub enclosing-step : (j i : ℕ) → j < t .size → mem i (operands (t .node j)) ≡ true
+      → enclosing t i ≡ pick (isBlock (t .node j)) j (enclosing t j)
+  unfolding enclosing
+  enclosing-step j i h m = go (look (isBlock (t .node j)))
+    where
+      p : parent t i ≡ j
+      p = parent-is t tree j i h m
+
+      up : (b : ℕ) → above t b i ≡ (eqb b j || above t b j)
+      up b = subst (λ k. above t b i ≡ (eqb b k || above t b k)) p (above-step t tree b i (omega (arith, tree .lower j i h m)))
+
+      -- nothing between a node and its parent is above either
+      under : (b : ℕ) → b < j → Is (eqb b j) → Is (above t b j) → above t b i ≡ false
+      under b k (is-true e) a = absurd (omega (arith, eqb-true b j e))
+      under b k (is-false e) (is-true a) = absurd (omega (arith, above-higher t tree b j h a))
+      under b k (is-false e) (is-false a) = up b ∙ or-neither (eqb b j) (above t b j) e a
+
+      alike : isBlock (t .node j) ≡ false → (b : ℕ) → Is (eqb b j) → encloses t i b ≡ encloses t j b
+      alike n b (is-true e) = subst (λ c. encloses t i c ≡ encloses t j c) (sym (eqb-true b j e)) (rw n)
+      alike n b (is-false e) = rw (up b, e)
+
+      go : Is (isBlock (t .node j)) → lowest (encloses t i) (t .size) ≡ pick (isBlock (t .node j)) j (lowest (encloses t j) (t .size))
+      go (is-true e) =
+          lowest-is (encloses t i) (t .size) j h
+          (and-both _ _ e (up j ∙ rw (eq-eqb j j refl)))
+          (λ b k. off-right (isBlock (t .node b)) (above t b i) (under b k (look (eqb b j)) (look (above t b j)))) ∙ sym (pick-yes _ _ _ e)
+      go (is-false e) =
+          lowest-cong (encloses t i) (encloses t j) (t .size) (λ b k. alike e b (look (eqb b j))) ∙ sym (pick-no _ _ _ e)
+
+  holds : (i : ℕ) → enclosing t i < t .size → encloses t i (enclosing t i) ≡ true
+  unfolding enclosing
+  holds i h = lowest-holds (encloses t i) (t .size) h
+
+  pub enclosing-block : (i : ℕ) → enclosing t i < t .size → isBlock (t .node (enclosing t i)) ≡ true
+  enclosing-block i h = and-left _ (above t (enclosing t i) i) (holds i h)
+
+  pub enclosing-above : (i : ℕ) → enclosing t i < t .size → above t (enclosing t i) i ≡ true
+  enclosing-above i h = and-right (isBlock (t .node (enclosing t i))) _ (holds i h)
+
+  pub enclosing-higher : (i : ℕ) → i < t .size → i < enclosing t i
+  enclosing-higher i h = go (look (ltb (enclosing t i) (t .size)))
+    where
+      go : Is (ltb (enclosing t i) (t .size)) → i < enclosing t i
+      go (is-true e) = above-higher t tree (enclosing t i) i h (enclosing-above i (ltb-true _ _ e))
+      go (is-false e) = omega (arith, ltb-false (enclosing t i) (t .size) e)
+
+  -- no block above a node is nearer
+  pub enclosing-least : (b i : ℕ) → b < t .size → isBlock (t .node b) ≡ true → above t b i ≡ true → enclosing t i ≤ b
+  unfolding enclosing
+  enclosing-least b i h e a = lowest-least (encloses t i) (t .size) b h (and-both _ _ e a)
+
+  -- every other block above a node is above that which encloses it
+  pub enclosing-next : (b i : ℕ) → i < t .size → b < t .size → isBlock (t .node b) ≡ true → above t b i ≡ true
+      → (b ≡ enclosing t i) ⊎ (above t b (enclosing t i) ≡ true)
+  enclosing-next b i k h e a = go (look (eqb b (enclosing t i)))
+    where
+      l : enclosing t i ≤ b
+      l = enclosing-least b i h e a
+
+      go : Is (eqb b (enclosing t i)) → (b ≡ enclosing t i) ⊎ (above t b (enclosing t i) ≡ true)
+      go (is-true q) = inl (eqb-true _ _ q)
+      go (is-false q) =
+          let n = eqb-false b (enclosing t i) q in
+          let s : enclosing t i < b = omega (arith, l) in
+          inr (above-line t tree (enclosing t i) b i k (enclosing-above i (omega (arith, s))) a s)

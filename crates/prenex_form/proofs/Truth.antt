@@ -1,0 +1,184 @@
+-- The prenex form of a table has the table's truth value under every valuation (document 01, "Truth and size").
+-- Assumes nothing.
+use mathlib.Core.Path.{_≡_, refl, sym, _∙_, ap, fun-ext}
+use mathlib.Core.Bool.{Bool, true, false, _&&_}
+use mathlib.Core.List.{List, [], _∷_, _++_, flatMap}
+use Prim.Native.Nat.{ℕ, zero, suc, _-_, _<_}
+use native.Mathlib.Omega.{arith}
+use lib.Dec.{eqb, ltb, leb}
+use lib.ListN.{length}
+use borrow.Author.Tests.{eqb-true, ltb-true, ltb-false}
+use Rattle.lists.specs.Choice.{pick, pick-yes, pick-no, Is, is-true, is-false, look, clash, and-left}
+use Rattle.lists.specs.Members.{mem}
+use Rattle.lists.specs.Parts.{upTo, numbers}
+use Rattle.lists.proofs.Members.{mem-head}
+use Rattle.lists.proofs.Parts.{term-le}
+use Rattle.formula.specs.Node.{Quantifier, Node, constant, variable, negation, operator, block, Table, operands, isBlock}
+use Rattle.formula.specs.Tree.{Tree, Proper, count}
+use Rattle.formula.specs.Valuation.{Valuation, quant}
+use Rattle.formula.specs.Truth.{truth}
+use Rattle.formula.specs.Form.{Block, quantify, formTruth}
+use Rattle.formula.proofs.Quantify.{quant-append, quant-cong}
+use Rattle.formula.proofs.Unfolding.{Lower, value-block}
+use Rattle.prenex_form.specs.Scope.{inner, level}
+use Rattle.prenex_form.specs.Names.{firstName, newNames, copies, definitionVariable}
+use Rattle.prenex_form.specs.Levels.{blocksAt, levels, quantifierAt, levelQuantifier}
+use Rattle.prenex_form.specs.Matrix.{kept, bodyOf, writtenNodes}
+use Rattle.prenex_form.specs.Prefix.{blockCount, leading, prefixBlock, prefixBlocks, writtenPrefix, writtenVariables}
+use Rattle.prenex_form.proofs.Cut.{cutNode, cut, valueAt, matrixAt}
+use Rattle.prenex_form.proofs.Paths.{inner-lt, level-le-levels, blocksAt-lt, blocksAt-inner, blocksAt-level, level-nonempty, root-body}
+use Rattle.prenex_form.proofs.NameLaws.{none-bound}
+use Rattle.prenex_form.proofs.Renaming.{renamed-truth}
+use Rattle.prenex_form.proofs.Exchange.{exchange}
+use Rattle.prenex_form.proofs.PrefixNames.{prefix-read}
+use Rattle.prenex_form.proofs.WrittenOrder.{matrix-truth}
+
+quantify-append : (bs cs : List Block) (f : Valuation → Bool) (v : Valuation) → quantify (bs ++ cs) f v ≡ quantify bs (quantify cs f) v
+unfolding quantify
+quantify-append [] cs f v = refl
+quantify-append (b ∷ bs) cs f v =
+    quant-cong (b .quantifier) (b .variables) (quantify (bs ++ cs) f) (quantify bs (quantify cs f)) v (quantify-append bs cs f)
+
+quantify-cong : (bs : List Block) (f g : Valuation → Bool) (v : Valuation) → ((u : Valuation) → f u ≡ g u) → quantify bs f v ≡ quantify bs g v
+quantify-cong bs f g v h = ap (λ k. quantify bs k v) (fun-ext h)
+
+empty : (xs : List ℕ) → ((x : ℕ) → mem x xs ≡ true → ⊥) → xs ≡ []
+empty [] h = refl
+empty (x ∷ xs) h = absurd (h x (mem-head x xs))
+
+absent : (a : Bool) → (a ≡ true → ⊥) → a ≡ false
+absent true h = absurd (h refl)
+absent false h = refl
+
+-- a cut table names no node that the table does not name
+cut-operands : (t : Table) (c i : ℕ) (nd : Node) (a : ℕ) → mem a (operands (cutNode t c i nd)) ≡ true → mem a (operands nd) ≡ true
+unfolding cutNode operands pick mem
+cut-operands t c i (constant b) a m = m
+cut-operands t c i (variable x) a m = m
+cut-operands t c i (negation b) a m = m
+cut-operands t c i (operator f b d) a m = m
+cut-operands t c i (block q xs b) a m = go (inner t i && leb (level t i) c) m
+  where
+    go : (k : Bool) → mem a (operands (pick k (variable (definitionVariable t i)) (block q (newNames t i) b))) ≡ true → mem a (b ∷ []) ≡ true
+    go true m = clash m refl
+    go false m = m
+
+cut-lower : (t : Table) → Tree t → (c : ℕ) → Lower (cut t c .node) (t .size)
+unfolding cut
+cut-lower t tree c i a h m = tree .lower i a h (cut-operands t c i (t .node i) a m)
+
+module _ (t : Table) (tree : Tree t) where
+  -- the matrix after j levels, under what the form binds for the last of them
+  bound-matrix : ℕ → Valuation → Bool
+  bound-matrix j = quant (levelQuantifier t j) (leading t j) (matrixAt t j j)
+
+  -- one block of the prefix
+  one-block : (j : ℕ) (v : Valuation) → quantify (prefixBlock t j ∷ []) (bound-matrix (suc j)) v ≡ bound-matrix j v
+  unfolding quantify prefixBlock bound-matrix levelQuantifier
+  one-block j v =
+      let q = levelQuantifier t j in
+      let cs = flatMap (copies t) (blocksAt t (suc j)) in
+      quant-append q (leading t j) cs (bound-matrix (suc j)) v
+      ∙ quant-cong q (leading t j) (quant q cs (bound-matrix (suc j))) (matrixAt t j j) v (λ u. sym (exchange t tree j u))
+
+  blocks-before : (j : ℕ) (v : Valuation) → quantify (upTo (λ i. prefixBlock t i ∷ []) j) (bound-matrix j) v ≡ bound-matrix 0 v
+  unfolding upTo quantify
+  blocks-before zero v = refl
+  blocks-before (suc j) v =
+      let bs = upTo (λ i. prefixBlock t i ∷ []) j in
+      quantify-append bs (prefixBlock t j ∷ []) (bound-matrix (suc j)) v
+      ∙ quantify-cong bs (quantify (prefixBlock t j ∷ []) (bound-matrix (suc j))) (bound-matrix j) v (one-block j)
+      ∙ blocks-before j v
+
+  -- below the deepest level there is nothing to bind
+  none-deeper : blocksAt t (suc (levels t)) ≡ []
+  none-deeper =
+      empty (blocksAt t (suc (levels t)))
+      (λ i m. omega (arith, blocksAt-level t tree (suc (levels t)) i m, level-le-levels t tree i (blocksAt-lt t tree (suc (levels t)) i m)))
+
+  deepest : (v : Valuation) → matrixAt t (levels t) (levels t) v ≡ bound-matrix (suc (levels t)) v
+  unfolding quant flatMap bound-matrix levelQuantifier
+  deepest v =
+      exchange t tree (levels t) v
+      ∙ ap (λ is. quant (levelQuantifier t (levels t)) (flatMap (copies t) is) (bound-matrix (suc (levels t))) v) none-deeper
+
+  -- at the root
+  root-outer : inner t (t .size - 1) ≡ false
+  root-outer =
+      let h = tree .nonempty in absent _ (λ n. omega (arith, inner-lt t tree (t .size - 1) (omega arith) n))
+
+  root-other : isBlock (t .node (t .size - 1)) ≡ false → kept t ≡ t .size
+  unfolding kept
+  root-other b = omega (arith, pick-no {A = ℕ} (isBlock (t .node (t .size - 1))) 1 0 b)
+
+  root-names : isBlock (t .node (t .size - 1)) ≡ false → newNames t (t .size - 1) ≡ []
+  unfolding newNames count numbers
+  root-names b = ap (numbers (firstName t (t .size - 1))) (none-bound (t .node (t .size - 1)) b)
+
+  root-block : (nd : Node) → t .node (t .size - 1) ≡ nd → isBlock nd ≡ true → (v : Valuation)
+      → quant (quantifierAt nd) (newNames t (t .size - 1)) (valueAt t 0 (bodyOf nd)) v ≡ valueAt t 0 (t .size - 1) v
+  unfolding quantifierAt bodyOf isBlock valueAt cut cutNode
+  root-block (constant b) e h v = clash h refl
+  root-block (variable x) e h v = clash h refl
+  root-block (negation a) e h v = clash h refl
+  root-block (operator f a b) e h v = clash h refl
+  root-block (block q xs a) e h v =
+      let k = tree .nonempty in
+      sym (value-block (cut t 0) (cut-lower t tree 0) (t .size - 1) (omega arith) v q (newNames t (t .size - 1)) a
+      (ap (cutNode t 0 (t .size - 1)) e ∙ pick-no _ _ _ (rw root-outer refl)))
+
+  root-value : (v : Valuation) → Is (isBlock (t .node (t .size - 1))) → bound-matrix 0 v ≡ valueAt t 0 (t .size - 1) v
+  unfolding bound-matrix levelQuantifier leading matrixAt quant
+  root-value v (is-true b) =
+      let k = tree .nonempty in
+      ap (λ a. quant (quantifierAt (t .node (t .size - 1))) (newNames t (t .size - 1)) (valueAt t 0 a) v)
+      (sym (root-body t tree (t .size - 1) (omega arith) b))
+      ∙ root-block (t .node (t .size - 1)) refl b v
+  root-value v (is-false b) =
+      ap (λ xs. quant (quantifierAt (t .node (t .size - 1))) xs (valueAt t 0 (kept t - 1)) v) (root-names b)
+      ∙ ap (λ n. valueAt t 0 (n - 1) v) (root-other b)
+
+  -- without blocks
+  no-block : blockCount t ≡ 0 → (i : ℕ) → i < t .size → isBlock (t .node i) ≡ false
+  unfolding blockCount
+  no-block e i h =
+      absent _ (λ b. omega (arith, term-le (λ j. pick (isBlock (t .node j)) 1 0) (t .size) i h, pick-yes {A = ℕ} (isBlock (t .node i)) 1 0 b))
+
+  no-level : blockCount t ≡ 0 → Is (ltb 0 (levels t)) → levels t ≡ 0
+  unfolding inner
+  no-level e (is-true p) =
+      let r = level-nonempty t tree (levels t) (ltb-true _ _ p) (omega arith) in
+      clash (and-left _ _ (blocksAt-inner t tree (levels t) (r .0) (r .1))) (no-block e (r .0) (blocksAt-lt t tree (levels t) (r .0) (r .1)))
+  no-level e (is-false p) = omega (arith, ltb-false 0 (levels t) p)
+
+  plain-truth : blockCount t ≡ 0 → (v : Valuation) → matrixAt t (levels t) (levels t) v ≡ valueAt t 0 (t .size - 1) v
+  unfolding matrixAt
+  plain-truth e v =
+      let h = tree .nonempty in
+      ap (λ l. matrixAt t l l v) (no-level e (look (ltb 0 (levels t))))
+      ∙ ap (λ n. valueAt t 0 (n - 1) v) (root-other (no-block e (t .size - 1) (omega arith)))
+
+  -- the prefix around the matrix is the renamed table
+  pub prefix-truth : (v : Valuation) → quantify (prefixBlocks t) (matrixAt t (levels t) (levels t)) v ≡ valueAt t 0 (t .size - 1) v
+  unfolding prefixBlocks quantify
+  prefix-truth v = go (look (eqb (blockCount t) 0))
+    where
+      bs : List Block
+      bs = upTo (λ j. prefixBlock t j ∷ []) (suc (levels t))
+
+      go : Is (eqb (blockCount t) 0) → quantify (pick (eqb (blockCount t) 0) [] bs) (matrixAt t (levels t) (levels t)) v ≡ valueAt t 0 (t .size - 1) v
+      go (is-true e) = rw (pick-yes _ [] bs e) (plain-truth (eqb-true _ _ e) v)
+      go (is-false e) =
+          rw (pick-no _ [] bs e)
+          (quantify-cong bs (matrixAt t (levels t) (levels t)) (bound-matrix (suc (levels t))) v deepest
+          ∙ blocks-before (suc (levels t)) v
+          ∙ root-value v (look (isBlock (t .node (t .size - 1)))))
+
+-- The written form has the table's truth value.
+pub same-truth : (t : Table) → Proper t → (v : Valuation) → formTruth (writtenNodes t) (writtenPrefix t) (writtenVariables t) v ≡ truth t v
+unfolding formTruth
+same-truth t proper v =
+    rw (prefix-read t)
+    (quantify-cong (prefixBlocks t) _ (matrixAt t (levels t) (levels t)) v (matrix-truth t (proper .tree))
+    ∙ prefix-truth t (proper .tree) v
+    ∙ sym (renamed-truth t proper v))

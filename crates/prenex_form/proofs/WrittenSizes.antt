@@ -1,0 +1,185 @@
+-- How many nodes are written, and that they are few.
+-- Assumes nothing.
+use mathlib.Core.Path.{_≡_, refl, sym, _∙_, ap, ap₂, subst}
+use mathlib.Core.Bool.{Bool, true, false, not, _&&_, _||_}
+use mathlib.Core.List.{List, [], _∷_, _++_}
+use Prim.Native.Nat.{ℕ, zero, suc, _+_, _-_, _*_, _≤_, _<_}
+use native.Mathlib.Omega.{arith}
+use native.Mathlib.Nat.{not-suc-le-zero}
+use lib.Dec.{eqb, leb, eqb·suc-zero}
+use lib.ListN.{length, length-append}
+use borrow.Author.Tests.{eqb-true, eqb-false, eq-eqb, ne-eqb, leb-true, leb-false, le-leb, lt-leb}
+use Rattle.lists.specs.Choice.{pick, pick-yes, pick-no, Is, is-true, is-false, look, clash, and-left, and-right, and-both}
+use Rattle.lists.specs.Parts.{upTo, sum}
+use Rattle.lists.proofs.Parts.{sum-cong, sum-mono, sum-add}
+use Rattle.formula.specs.Node.{Node, Table, isBlock}
+use Rattle.formula.specs.Tree.{Tree, count, boundBelow}
+use Rattle.prenex_form.specs.Scope.{inner, level}
+use Rattle.prenex_form.specs.Names.{boundCount}
+use Rattle.prenex_form.specs.Levels.{blocksAt, levels, levelQuantifier}
+use Rattle.prenex_form.specs.Matrix.{kept, firstNodes, constraint, further, constraints, wrap, levelNodes, nodesTo, prenexNodes}
+use Rattle.prenex_form.specs.Prefix.{blockCount}
+use Rattle.prenex_form.specs.Sizes.{sizes, addedBy}
+use Rattle.prenex_form.proofs.Paths.{inner-level, level-le-levels}
+use Rattle.prenex_form.proofs.Written.{length-constraint-bare, length-constraint-full, length-firstNodes, kept-le, level-some, inner-block}
+
+-- the sum of g over a list
+unfoldable pub sumOf : (ℕ → ℕ) → List ℕ → ℕ
+sumOf g [] = 0
+sumOf g (i ∷ is) = g i + sumOf g is
+
+sumOf-append : (g : ℕ → ℕ) (is js : List ℕ) → sumOf g (is ++ js) ≡ sumOf g is + sumOf g js
+unfolding sumOf
+sumOf-append g [] js = omega arith
+sumOf-append g (i ∷ is) js = omega (arith, sumOf-append g is js)
+
+sumOf-pick : (g : ℕ → ℕ) (b : Bool) (i : ℕ) → sumOf g (pick b (i ∷ []) []) ≡ pick b (g i) 0
+unfolding sumOf pick
+sumOf-pick g true i = omega arith
+sumOf-pick g false i = refl
+
+-- over the numbers below n that pass a test
+sumOf-upTo : (g : ℕ → ℕ) (p : ℕ → Bool) (n : ℕ) → sumOf g (upTo (λ i. pick (p i) (i ∷ []) []) n) ≡ sum (λ i. pick (p i) (g i) 0) n
+unfolding upTo sum sumOf
+sumOf-upTo g p zero = refl
+sumOf-upTo g p (suc n) =
+    sumOf-append g (upTo (λ i. pick (p i) (i ∷ []) []) n) (pick (p n) (n ∷ []) []) ∙ ap₂ _+_ (sumOf-upTo g p n) (sumOf-pick g (p n) n)
+
+and-true : (b : Bool) → (b && true) ≡ b
+and-true true = refl
+and-true false = refl
+
+-- one level more
+level-more : (b : Bool) (l j x : ℕ) → Is (leb l j) → Is (eqb l (suc j)) → pick (b && leb l (suc j)) x 0 ≡ pick (b && leb l j) x 0 + pick (b && eqb l (suc j)) x 0
+unfolding pick
+level-more false l j x p q = refl
+level-more true l j x (is-true p) (is-true q) = let h = leb-true l j p in let e = eqb-true l (suc j) q in absurd (omega arith)
+level-more true l j x (is-true p) (is-false q) =
+    let h = leb-true l j p in rw (p, q, le-leb l (suc j) (omega arith)) (omega arith)
+level-more true l j x (is-false p) (is-true q) =
+    let e = eqb-true l (suc j) q in rw (p, q, le-leb l (suc j) (omega arith)) (omega arith)
+level-more true l j x (is-false p) (is-false q) =
+    let h = leb-false l j p in
+    let n : l ≡ suc j → ⊥ = eqb-false l (suc j) q in rw (p, q, lt-leb l (suc j) (omega arith)) (omega arith)
+
+sum-zero : (n : ℕ) → sum (λ i. 0) n ≡ 0
+unfolding sum
+sum-zero zero = refl
+sum-zero (suc n) = omega (arith, sum-zero n)
+
+-- the blocks of one level
+sum-level : (t : Table) (g : ℕ → ℕ) (l : ℕ) → sumOf g (blocksAt t l) ≡ sum (λ i. pick (inner t i && eqb (level t i) l) (g i) 0) (t .size)
+unfolding blocksAt
+sum-level t g l = sumOf-upTo g (λ i. inner t i && eqb (level t i) l) (t .size)
+
+module _ (t : Table) (tree : Tree t) (g : ℕ → ℕ) where
+  -- no block has level 0, and each has one of the levels
+  level-zero : (i : ℕ) → i < t .size → Is (inner t i) → pick (inner t i && leb (level t i) 0) (g i) 0 ≡ 0
+  level-zero i h (is-true e) = pick-no _ _ _ (rw (e, lt-leb (level t i) 0 (inner-level t tree i h e)))
+  level-zero i h (is-false e) = pick-no _ _ _ (rw e)
+
+  level-last : (i : ℕ) → i < t .size → pick (inner t i && leb (level t i) (levels t)) (g i) 0 ≡ pick (inner t i) (g i) 0
+  level-last i h = ap (λ (b : Bool). pick b (g i) 0) (rw (le-leb (level t i) (levels t) (level-le-levels t tree i h)) (and-true (inner t i)))
+
+  -- the blocks of the first j levels
+  sum-levels : (j : ℕ) → sum (λ l. sumOf g (blocksAt t (suc l))) j ≡ sum (λ i. pick (inner t i && leb (level t i) j) (g i) 0) (t .size)
+  unfolding sum
+  sum-levels zero = sym (sum-cong _ (λ i. 0) (t .size) (λ i h. level-zero i h (look (inner t i))) ∙ sum-zero (t .size))
+  sum-levels (suc j) =
+      ap₂ _+_ (sum-levels j) (sum-level t g (suc j))
+      ∙ sym (sum-add (λ i. pick (inner t i && leb (level t i) j) (g i) 0) (λ i. pick (inner t i && eqb (level t i) (suc j)) (g i) 0) (t .size))
+      ∙ sum-cong _ _ (t .size) (λ i h. sym (level-more (inner t i) (level t i) j (g i) (look (leb (level t i) j)) (look (eqb (level t i) (suc j)))))
+
+  -- level by level, the inner blocks
+  pub sum-blocks : sum (λ l. sumOf g (blocksAt t (suc l))) (levels t) ≡ sum (λ i. pick (inner t i) (g i) 0) (t .size)
+  sum-blocks = sum-levels (levels t) ∙ sum-cong _ _ (t .size) level-last
+
+-- what an inner block adds
+abbrev added : Table → ℕ → ℕ
+added t i = pick (eqb (count t i) 0) 3 (4 * count t i + 5)
+
+length-constraint-by : (t : Table) (i s n : ℕ) → count t i ≡ n → suc (length (constraint t i s)) ≡ added t i
+length-constraint-by t i s zero e =
+    let p : _≡_ {A = ℕ} (pick (eqb (count t i) 0) 3 (4 * count t i + 5)) 3 = pick-yes _ _ _ (eq-eqb _ _ e) in
+    omega (arith, length-constraint-bare t i s e)
+length-constraint-by t i s (suc n) e =
+    let p : _≡_ {A = ℕ} (pick (eqb (count t i) 0) 3 (4 * count t i + 5)) (4 * count t i + 5) = pick-no _ _ _ (ne-eqb (count t i) 0 (λ z. omega arith)) in
+    omega (arith, length-constraint-full t i s n e)
+
+length-constraint : (t : Table) (i s : ℕ) → suc (length (constraint t i s)) ≡ added t i
+length-constraint t i s = length-constraint-by t i s (count t i) refl
+
+length-further : (t : Table) (is : List ℕ) (s : ℕ) → length (further t is s) ≡ sumOf (added t) is
+unfolding further sumOf
+length-further t [] s = refl
+length-further t (i ∷ is) s =
+    let e = s + length (constraint t i s) in
+    length-append (constraint t i s) _ ∙ omega (arith, length-constraint t i s, length-further t is (e + 1))
+
+length-constraints : (t : Table) (is : List ℕ) (s : ℕ) → 0 < length is → suc (length (constraints t is s)) ≡ sumOf (added t) is
+unfolding constraints sumOf
+length-constraints t [] s h = absurd (not-suc-le-zero h)
+length-constraints t (i ∷ is) s h =
+    omega (arith, length-append (constraint t i s) (further t is (s + length (constraint t i s))), length-constraint t i s, length-further t is (s + length (constraint t i s)))
+
+length-levelNodes : (t : Table) (j s : ℕ) → 0 < length (blocksAt t (suc j)) → length (levelNodes t j s) ≡ sumOf (added t) (blocksAt t (suc j))
+unfolding levelNodes
+length-levelNodes t j s h =
+    length-append (constraints t (blocksAt t (suc j)) s) _ ∙ omega (arith, length-constraints t (blocksAt t (suc j)) s h)
+
+module _ (t : Table) (tree : Tree t) where
+  length-nodesTo : (j : ℕ) → j ≤ levels t → length (nodesTo t j) ≡ kept t + sum (λ l. sumOf (added t) (blocksAt t (suc l))) j
+  unfolding nodesTo sum
+  length-nodesTo zero h = omega (arith, length-firstNodes t)
+  length-nodesTo (suc j) h =
+      length-append (nodesTo t j) _
+      ∙ omega (arith, length-nodesTo j (omega arith), length-levelNodes t j (length (nodesTo t j)) (level-some t tree j h))
+
+  pub length-prenexNodes : length (prenexNodes t) ≡ sizes t .nodes
+  unfolding prenexNodes sizes addedBy
+  length-prenexNodes = length-nodesTo (levels t) (omega arith) ∙ ap (λ (n : ℕ). kept t + n) (sum-blocks t tree (added t))
+
+sum-times : (f : ℕ → ℕ) (n : ℕ) → (sum (λ i. 5 * f i) n ≡ 5 * sum f n) × (sum (λ i. 4 * f i) n ≡ 4 * sum f n)
+unfolding sum
+sum-times f zero = (refl, refl)
+sum-times f (suc n) = let r = sum-times f n in (omega (arith, r .0), omega (arith, r .1))
+
+added-le : (t : Table) (i n : ℕ) → count t i ≡ n → added t i ≤ 5 + 4 * count t i
+added-le t i zero e = let p : _≡_ {A = ℕ} (added t i) 3 = pick-yes _ _ _ (eq-eqb _ _ e) in omega arith
+added-le t i (suc n) e = let p : _≡_ {A = ℕ} (added t i) (4 * count t i + 5) = pick-no _ _ _ (ne-eqb (count t i) 0 (λ z. omega arith)) in omega arith
+
+added-by-le : (t : Table) (i : ℕ) → Is (inner t i) → addedBy t i ≤ 5 * pick (isBlock (t .node i)) 1 0 + 4 * count t i
+unfolding addedBy
+added-by-le t i (is-true e) =
+    let a : pick (inner t i) (added t i) 0 ≡ added t i = pick-yes _ _ _ e in
+    let b : _≡_ {A = ℕ} (pick (isBlock (t .node i)) 1 0) 1 = pick-yes _ _ _ (inner-block t i e) in
+    omega (arith, added-le t i (count t i) refl)
+added-by-le t i (is-false e) = let a : pick (inner t i) (added t i) 0 ≡ 0 = pick-no _ _ _ e in omega arith
+
+-- the bound of document 01
+pub nodes-le : (t : Table) → sizes t .nodes ≤ t .size + 5 * blockCount t + 4 * boundCount t
+unfolding sizes blockCount boundCount boundBelow
+nodes-le t =
+    let b : ℕ → ℕ = λ i. pick (isBlock (t .node i)) 1 0 in
+    let m = sum-mono (addedBy t) (λ i. 5 * b i + 4 * count t i) (t .size) (λ i h. added-by-le t i (look (inner t i))) in
+    let a = sum-add (λ i. 5 * b i) (λ i. 4 * count t i) (t .size) in
+    let x = sum-times b (t .size) .0 in
+    let y = sum-times (count t) (t .size) .1 in
+    omega (arith, kept-le t)
+
+pick-le-one : (b : Bool) → pick b 1 0 ≤ 1
+unfolding pick
+pick-le-one true = omega arith
+pick-le-one false = omega arith
+
+sum-ones : (f : ℕ → ℕ) (n : ℕ) → ((i : ℕ) → f i ≤ 1) → sum f n ≤ n
+unfolding sum
+sum-ones f zero h = omega arith
+sum-ones f (suc n) h = omega (arith, sum-ones f n h, h n)
+
+pub blockCount-le : (t : Table) → blockCount t ≤ t .size
+unfolding blockCount
+blockCount-le t = sum-ones _ (t .size) (λ i. pick-le-one (isBlock (t .node i)))
+
+pub nodes-few : (t : Table) → t .size ≤ 4096 → boundCount t ≤ 4096 → sizes t .nodes ≤ 40960
+nodes-few t n q = omega (arith, nodes-le t, blockCount-le t)
