@@ -25,7 +25,7 @@ abbrev pub Plain : List Node → Type 0
 Plain ns = (i : ℕ) → i < length ns → isBlock (getD ns i (constant false)) ≡ false
 
 -- the words of a list of nodes, read back
-length-words : (ns : List Node) → length (flatMap nodeWords ns) ≡ 4 * length ns
+pub length-words : (ns : List Node) → length (flatMap nodeWords ns) ≡ 4 * length ns
 unfolding flatMap nodeWords
 length-words [] = refl
 length-words (constant b ∷ ns) = omega (arith, length-words ns)
@@ -85,6 +85,30 @@ pub words-table : (ns : List Node) → Plain ns → tableOf (flatMap nodeWords n
 unfolding tableOf listTable
 words-table ns plain =
     ap₂ (λ (n : ℕ) (f : ℕ → Node). record { size = n; node = f }) (words-count ns) (fun-ext (words-read ns plain))
+
+-- every node's kind is 1 to 4
+kind-next : (nd : Node) (ns : List Node) (i : ℕ) → field (flatMap nodeWords (nd ∷ ns)) (suc i) 0 ≡ field (flatMap nodeWords ns) i 0
+unfolding flatMap nodeWords
+kind-next (constant b) ns i = field-next _ _ _ _ _ i 0
+kind-next (variable x) ns i = field-next _ _ _ _ _ i 0
+kind-next (negation a) ns i = field-next _ _ _ _ _ i 0
+kind-next (operator f a b) ns i = field-next _ _ _ _ _ i 0
+kind-next (block q xs a) ns i = field-next _ _ _ _ _ i 0
+
+kind-first : (nd : Node) (ns : List Node) → isBlock nd ≡ false → (1 ≤ field (flatMap nodeWords (nd ∷ ns)) 0 0) × (field (flatMap nodeWords (nd ∷ ns)) 0 0 ≤ 4)
+unfolding flatMap nodeWords field isBlock
+kind-first (constant b) ns h = omega arith
+kind-first (variable x) ns h = omega arith
+kind-first (negation a) ns h = omega arith
+kind-first (operator f a b) ns h = omega arith
+kind-first (block q xs a) ns h = clash refl h
+
+pub kinds-plain : (ns : List Node) → Plain ns → (i : ℕ) → i < length ns
+    → (1 ≤ field (flatMap nodeWords ns) i 0) × (field (flatMap nodeWords ns) i 0 ≤ 4)
+kinds-plain [] plain i h = absurd (not-suc-le-zero h)
+kinds-plain (nd ∷ ns) plain zero h = kind-first nd ns (plain zero h)
+kinds-plain (nd ∷ ns) plain (suc i) h =
+    rw (kind-next nd ns i) (kinds-plain ns (λ j k. plain (suc j) (omega arith)) i (le-of-suc-le-suc h))
 
 -- the four truth tables of the form
 pub value-and : (l r : Bool) → operatorValue and l r ≡ (l && r)
