@@ -1,20 +1,20 @@
 -- Lists of nodes as tables: their words read back, and the values of their nodes.
 -- Assumes nothing.
 use mathlib.Core.Path.{_≡_, refl, sym, _∙_, ap, ap₂, subst, fun-ext}
-use mathlib.Core.Bool.{Bool, true, false, not, _&&_, _||_, Bool·beq}
+use mathlib.Core.Bool.{Bool, true, false, not}
 use mathlib.Core.List.{List, [], _∷_, _++_, flatMap}
-use Prim.Native.Nat.{ℕ, zero, suc, _+_, _-_, _*_, _/_, _≤_, _<_}
+use Prim.Native.Nat.{ℕ, zero, suc, _+_, _-_, _*_, _≤_, _<_}
 use native.Mathlib.Omega.{arith}
-use native.Mathlib.Nat.{le-of-suc-le-suc, not-suc-le-zero}
+use native.Mathlib.Nat.{not-suc-le-zero}
 use lib.Dec.{eqb}
 use lib.ListN.{length, getD, length-append, List·getD-append}
 use lib.Seq.{getD-append-add}
 use Rattle.lists.specs.Choice.{pick, clash}
 use Rattle.formula.specs.Node.{Node, constant, variable, negation, operator, block, Table, isBlock}
-use Rattle.formula.specs.Words.{nodeCount, field, nodeOf, nodeAt, tableOf}
+use Rattle.formula.specs.Words.{width, nodeCount, field, nodeOf, nodeAt, tableOf}
 use Rattle.formula.specs.Valuation.{Valuation}
-use Rattle.formula.specs.Truth.{bit, digit, operatorValue, nodeValue, value, truth}
-use Rattle.prenex_form.specs.Matrix.{nodeWords, and, or, iff, implies}
+use Rattle.formula.specs.Truth.{digit, operatorValue, nodeValue, value, truth}
+use Rattle.prenex_form.specs.Matrix.{nodeWords}
 
 -- A list of nodes as a table.
 unfoldable pub listTable : List Node → Table
@@ -25,7 +25,7 @@ abbrev pub Plain : List Node → Type 0
 Plain ns = (i : ℕ) → i < length ns → isBlock (getD ns i (constant false)) ≡ false
 
 -- the words of a list of nodes, read back
-pub length-words : (ns : List Node) → length (flatMap nodeWords ns) ≡ 4 * length ns
+length-words : (ns : List Node) → length (flatMap nodeWords ns) ≡ 4 * length ns
 unfolding flatMap nodeWords
 length-words [] = refl
 length-words (constant b ∷ ns) = omega (arith, length-words ns)
@@ -36,6 +36,9 @@ length-words (block q xs a ∷ ns) = omega (arith, length-words ns)
 
 pub words-count : (ns : List Node) → nodeCount (flatMap nodeWords ns) ≡ length ns
 words-count ns = omega (arith, length-words ns)
+
+pub words-whole : (ns : List Node) → length (flatMap nodeWords ns) ≡ width * nodeCount (flatMap nodeWords ns)
+words-whole ns = length-words ns ∙ ap (λ (n : ℕ). 4 * n) (sym (words-count ns))
 
 -- four words further on
 field-next : (a b c d : ℕ) (ws : List ℕ) (i f : ℕ) → field (a ∷ b ∷ c ∷ d ∷ ws) (suc i) f ≡ field ws i f
@@ -74,6 +77,31 @@ words-none : (i : ℕ) → nodeAt [] [] i ≡ constant false
 unfolding nodeAt field nodeOf pick
 words-none i = refl
 
+-- kinds 1 to 4
+kind-first : (nd : Node) (ns : List Node) → isBlock nd ≡ false
+    → (1 ≤ field (flatMap nodeWords (nd ∷ ns)) 0 0) × (field (flatMap nodeWords (nd ∷ ns)) 0 0 ≤ 4)
+unfolding flatMap nodeWords field isBlock
+kind-first (constant b) ns h = omega arith
+kind-first (variable x) ns h = omega arith
+kind-first (negation a) ns h = omega arith
+kind-first (operator f a b) ns h = omega arith
+kind-first (block q xs a) ns h = clash refl h
+
+kind-next : (nd : Node) (ns : List Node) (i : ℕ) → field (flatMap nodeWords (nd ∷ ns)) (suc i) 0 ≡ field (flatMap nodeWords ns) i 0
+unfolding flatMap nodeWords
+kind-next (constant b) ns i = field-next _ _ _ _ _ i 0
+kind-next (variable x) ns i = field-next _ _ _ _ _ i 0
+kind-next (negation a) ns i = field-next _ _ _ _ _ i 0
+kind-next (operator f a b) ns i = field-next _ _ _ _ _ i 0
+kind-next (block q xs a) ns i = field-next _ _ _ _ _ i 0
+
+pub words-kinds : (ns : List Node) → Plain ns → (i : ℕ) → i < length ns
+    → (1 ≤ field (flatMap nodeWords ns) i 0) × (field (flatMap nodeWords ns) i 0 ≤ 4)
+words-kinds [] plain i h = absurd (not-suc-le-zero h)
+words-kinds (nd ∷ ns) plain zero h = kind-first nd ns (plain zero h)
+words-kinds (nd ∷ ns) plain (suc i) h =
+    rw (kind-next nd ns i) (words-kinds ns (λ j l. plain (suc j) (omega arith)) i (omega arith))
+
 -- beyond the end too, both read as constant 0
 pub words-read : (ns : List Node) → Plain ns → (i : ℕ) → nodeAt (flatMap nodeWords ns) [] i ≡ getD ns i (constant false)
 unfolding flatMap
@@ -86,65 +114,13 @@ unfolding tableOf listTable
 words-table ns plain =
     ap₂ (λ (n : ℕ) (f : ℕ → Node). record { size = n; node = f }) (words-count ns) (fun-ext (words-read ns plain))
 
--- every node's kind is 1 to 4
-kind-next : (nd : Node) (ns : List Node) (i : ℕ) → field (flatMap nodeWords (nd ∷ ns)) (suc i) 0 ≡ field (flatMap nodeWords ns) i 0
-unfolding flatMap nodeWords
-kind-next (constant b) ns i = field-next _ _ _ _ _ i 0
-kind-next (variable x) ns i = field-next _ _ _ _ _ i 0
-kind-next (negation a) ns i = field-next _ _ _ _ _ i 0
-kind-next (operator f a b) ns i = field-next _ _ _ _ _ i 0
-kind-next (block q xs a) ns i = field-next _ _ _ _ _ i 0
-
-kind-first : (nd : Node) (ns : List Node) → isBlock nd ≡ false → (1 ≤ field (flatMap nodeWords (nd ∷ ns)) 0 0) × (field (flatMap nodeWords (nd ∷ ns)) 0 0 ≤ 4)
-unfolding flatMap nodeWords field isBlock
-kind-first (constant b) ns h = omega arith
-kind-first (variable x) ns h = omega arith
-kind-first (negation a) ns h = omega arith
-kind-first (operator f a b) ns h = omega arith
-kind-first (block q xs a) ns h = clash refl h
-
-pub kinds-plain : (ns : List Node) → Plain ns → (i : ℕ) → i < length ns
-    → (1 ≤ field (flatMap nodeWords ns) i 0) × (field (flatMap nodeWords ns) i 0 ≤ 4)
-kinds-plain [] plain i h = absurd (not-suc-le-zero h)
-kinds-plain (nd ∷ ns) plain zero h = kind-first nd ns (plain zero h)
-kinds-plain (nd ∷ ns) plain (suc i) h =
-    rw (kind-next nd ns i) (kinds-plain ns (λ j k. plain (suc j) (omega arith)) i (le-of-suc-le-suc h))
-
--- the four truth tables of the form
-pub value-and : (l r : Bool) → operatorValue and l r ≡ (l && r)
-unfolding operatorValue bit digit
-value-and true true = refl
-value-and true false = refl
-value-and false true = refl
-value-and false false = refl
-
-pub value-or : (l r : Bool) → operatorValue or l r ≡ (l || r)
-unfolding operatorValue bit digit
-value-or true true = refl
-value-or true false = refl
-value-or false true = refl
-value-or false false = refl
-
-pub value-iff : (l r : Bool) → operatorValue iff l r ≡ Bool·beq l r
-unfolding operatorValue bit digit
-value-iff true true = refl
-value-iff true false = refl
-value-iff false true = refl
-value-iff false false = refl
-
-pub value-implies : (l r : Bool) → operatorValue implies l r ≡ (not l || r)
-unfolding operatorValue bit digit
-value-implies true true = refl
-value-implies true false = refl
-value-implies false true = refl
-value-implies false false = refl
-
 -- Node i of the list has value b under v, however far down its operands are followed.
 abbrev pub Val : List Node → Valuation → ℕ → Bool → Type 0
 Val ms v i b = (f : ℕ) → i < f → value f (listTable ms) i v ≡ b
 
 module _ (ms : List Node) (v : Valuation) where
-  step : (i f : ℕ) (nd : Node) → getD ms i (constant false) ≡ nd → value (suc f) (listTable ms) i v ≡ nodeValue (value f (listTable ms)) nd v
+  step : (i f : ℕ) (nd : Node) → getD ms i (constant false) ≡ nd
+      → value (suc f) (listTable ms) i v ≡ nodeValue (value f (listTable ms)) nd v
   unfolding value listTable
   step i f nd e = ap (λ (n : Node). nodeValue (value f (listTable ms)) n v) e
 

@@ -1,15 +1,15 @@
 -- The value of the written nodes: the matrix after all levels.
 -- Assumes nothing.
-use mathlib.Core.Path.{_≡_, refl, sym, _∙_, ap, ap₂, subst}
-use mathlib.Core.Bool.{Bool, true, false, not, _&&_, _||_, Bool·beq}
-use mathlib.Core.List.{List, [], _∷_, _++_, flatMap, append-nil}
+use mathlib.Core.Path.{_≡_, refl, sym, _∙_, ap, ap₂}
+use mathlib.Core.Bool.{Bool, true, false, not, _&&_, Bool·beq}
+use mathlib.Core.List.{List, [], _∷_, _++_}
 use Prim.Native.Nat.{ℕ, zero, suc, _+_, _-_, _*_, _≤_, _<_}
 use native.Mathlib.Omega.{arith}
 use native.Mathlib.Nat.{le-of-suc-le-suc, not-suc-le-zero}
 use lib.Dec.{eqb, leb, eqb·suc-zero}
 use lib.ListN.{length, getD, take, length-append}
 use lib.Seq.{take-all}
-use borrow.Author.Tests.{eqb-true, eqb-false, ne-eqb, le-leb}
+use borrow.Author.Tests.{eqb-true, le-leb}
 use Rattle.lists.specs.Choice.{pick, pick-yes, pick-no, Is, is-true, is-false, look, clash, and-left, and-both}
 use Rattle.lists.specs.Members.{mem, all}
 use Rattle.lists.specs.Parts.{upTo}
@@ -19,6 +19,7 @@ use Rattle.formula.specs.Node.{Quantifier, exists, for-all, Node, constant, var
 use Rattle.formula.specs.Valuation.{Valuation}
 use Rattle.formula.specs.Truth.{operatorValue, nodeValue, value, truth}
 use Rattle.formula.specs.Tree.{Tree, count}
+use Rattle.formula.proofs.Operators.{and-is-8, or-is-14, biconditional-is-9, implies-is-11}
 use Rattle.prenex_form.specs.Scope.{inner, level}
 use Rattle.prenex_form.specs.Names.{newName, newNames, copies, definitionVariable}
 use Rattle.prenex_form.specs.Levels.{blocksAt, levels, quantifierAt, levelQuantifier}
@@ -26,14 +27,16 @@ use Rattle.prenex_form.specs.Matrix.{and, iff, implies, kept, renamed, f
 use Rattle.prenex_form.proofs.Cut.{cutNode, cut, valueAt, agree, guarded, holds, blockHolds, joined, matrixAt}
 use Rattle.prenex_form.proofs.Paths.{inner-lt, level-le-levels, blocksAt-lt, blocksAt-inner, level-nonempty, kept-positive}
 use Rattle.prenex_form.proofs.NameLaws.{length-newNames, length-copies}
-use Rattle.prenex_form.proofs.NodeLists.{listTable, value-and, value-or, value-iff, value-implies, Val, val-constant, val-variable, val-negation, val-operator, val-is, val-truth, Placed, placed-all, placed-left, placed-right, placed-at}
+use Rattle.prenex_form.proofs.NodeLists.{listTable, Val, val-constant, val-variable, val-negation, val-operator, val-is, val-truth, Placed, placed-all, placed-left, placed-right, placed-at}
 
 -- the nodes of an equation, with sums for differences
-pub equation-first : (t : Table) (i s : ℕ) → equation t i s 0 ≡ variable (getD (newNames t i) 0 0) ∷ variable (getD (copies t i) 0 0) ∷ operator iff s (s + 1) ∷ []
+pub equation-first : (t : Table) (i s : ℕ)
+    → equation t i s 0 ≡ variable (getD (newNames t i) 0 0) ∷ variable (getD (copies t i) 0 0) ∷ operator iff s (s + 1) ∷ []
 unfolding equation pick
 equation-first t i s = refl
 
-pub equation-next : (t : Table) (i s k : ℕ) → equation t i s (suc k) ≡ variable (getD (newNames t i) (suc k) 0) ∷ variable (getD (copies t i) (suc k) 0)
+pub equation-next : (t : Table) (i s k : ℕ)
+    → equation t i s (suc k) ≡ variable (getD (newNames t i) (suc k) 0) ∷ variable (getD (copies t i) (suc k) 0)
     ∷ operator iff (s + 4 * k + 3) (s + 4 * k + 4) ∷ operator and (s + 4 * k + 2) (s + 4 * k + 5) ∷ []
 unfolding equation
 equation-next t i s k =
@@ -49,8 +52,7 @@ length-equations t i s zero = rw equation-first
 length-equations t i s (suc k) =
     length-append (upTo (equation t i s) (suc k)) (equation t i s (suc k)) ∙ rw equation-next (omega (arith, length-equations t i s k))
 
--- agreement up to one place further
-and-true : (b : Bool) → (b && true) ≡ b
+pub and-true : (b : Bool) → (b && true) ≡ b
 and-true true = refl
 and-true false = refl
 
@@ -58,6 +60,7 @@ and-assoc : (a b c : Bool) → (a && (b && c)) ≡ ((a && b) && c)
 and-assoc true b c = refl
 and-assoc false b c = refl
 
+-- agreement up to one place further
 agree-next : (v : Valuation) (xs ys : List ℕ) (k : ℕ) → k < length xs → k < length ys
     → agree v (take (suc k) xs) (take (suc k) ys) ≡ (agree v (take k xs) (take k ys) && Bool·beq (v (getD xs k 0)) (v (getD ys k 0)))
 unfolding agree
@@ -77,11 +80,11 @@ module _ (t : Table) (ms : List Node) (v : Valuation) where
   -- operator 9 or 8 of two values
   equal-values : (i a b : ℕ) (x y : Bool) → getD ms i (constant false) ≡ operator iff a b → a < i → b < i
       → Val ms v a x → Val ms v b y → Val ms v i (Bool·beq x y)
-  equal-values i a b x y e l r p q = val-is ms v i i _ _ refl (value-iff x y) (val-operator ms v i iff a b x y e l r p q)
+  equal-values i a b x y e l r p q = val-is ms v i i _ _ refl (biconditional-is-9 x y) (val-operator ms v i iff a b x y e l r p q)
 
   both-values : (i a b : ℕ) (x y : Bool) → getD ms i (constant false) ≡ operator and a b → a < i → b < i
       → Val ms v a x → Val ms v b y → Val ms v i (x && y)
-  both-values i a b x y e l r p q = val-is ms v i i _ _ refl (value-and x y) (val-operator ms v i and a b x y e l r p q)
+  both-values i a b x y e l r p q = val-is ms v i i _ _ refl (and-is-8 x y) (val-operator ms v i and a b x y e l r p q)
 
   -- a variable, its copy and operator 9 of the two
   entry-values : (p x y a b : ℕ) (rest : List Node) → Placed ms p (variable x ∷ variable y ∷ operator iff a b ∷ rest) → a ≡ p → b ≡ p + 1
@@ -108,10 +111,13 @@ module _ (t : Table) (ms : List Node) (v : Valuation) where
       let part = variable (getD xs (suc k) 0) ∷ variable (getD ys (suc k) 0) ∷ operator iff (s + 4 * k + 3) (s + 4 * k + 4) ∷ last ∷ [] in
       let q : Placed ms (s + length before) part = rw equation-next at (placed-right ms s before (equation t i s (suc k)) p) in
       let old = equations-values i s k (omega arith) (placed-left ms s before (equation t i s (suc k)) p) in
-      let new = entry-values (s + length before) (getD xs (suc k) 0) (getD ys (suc k) 0) (s + 4 * k + 3) (s + 4 * k + 4) (last ∷ []) q (omega arith) (omega arith) in
+      let new =
+      entry-values (s + length before) (getD xs (suc k) 0) (getD ys (suc k) 0) (s + 4 * k + 3) (s + 4 * k + 4) (last ∷ []) q (omega arith)
+      (omega arith) in
       let e = agree-next v xs ys (suc k) (omega (arith, length-newNames t i)) (omega (arith, length-copies t i)) in
       val-is ms v (s + 4 * k + 6) (s + 4 * suc k + 2) _ _ (omega arith) (sym e)
-      (both-values (s + 4 * k + 6) (s + 4 * k + 2) (s + 4 * k + 5) _ _ (placed-at ms _ part q 3 (s + 4 * k + 6) (omega arith) (omega arith)) (omega arith) (omega arith)
+      (both-values (s + 4 * k + 6) (s + 4 * k + 2) (s + 4 * k + 5) _ _
+      (placed-at ms _ part q 3 (s + 4 * k + 6) (omega arith) (omega arith)) (omega arith) (omega arith)
       old (val-is ms v (s + length before + 2) (s + 4 * k + 5) _ _ (omega arith) refl new))
 
 -- a constraint, by whether its block binds anything
@@ -145,6 +151,11 @@ length-by t i s (suc n) e = omega (arith, length-constraint-full t i s n e)
 pub length-constraint-ge : (t : Table) (i s : ℕ) → 2 ≤ length (constraint t i s)
 length-constraint-ge t i s = length-by t i s (count t i) refl
 
+pub length-constraints-ge : (t : Table) (i : ℕ) (is : List ℕ) (s : ℕ) → 2 ≤ length (constraints t (i ∷ is) s)
+unfolding constraints
+length-constraints-ge t i is s =
+    omega (arith, length-append (constraint t i s) (further t is (s + length (constraint t i s))), length-constraint-ge t i s)
+
 agree-none : (v : Valuation) (xs ys : List ℕ) → length xs ≡ 0 → agree v xs ys ≡ true
 unfolding agree
 agree-none v [] ys h = refl
@@ -152,8 +163,8 @@ agree-none v (x ∷ xs) ys h = absurd (omega arith)
 
 value-guard : (q : Quantifier) (m e : Bool) → operatorValue (guard q) m e ≡ guarded q m e
 unfolding guard guarded
-value-guard exists m e = value-or m e
-value-guard for-all m e = value-implies m e
+value-guard exists m e = or-is-14 m e
+value-guard for-all m e = implies-is-11 m e
 
 guarded-true : (q : Quantifier) (m : Bool) → guarded q m true ≡ true
 unfolding guarded
@@ -169,13 +180,15 @@ holds-bare q xs ys m f v h = rw (agree-none v xs ys h, guarded-true q (v m)) (an
 
 module _ (t : Table) (ms : List Node) (v : Valuation) (c : ℕ) where
   -- the mark, and operator 9 of it and the body
-  mark-value : (i s : ℕ) → Placed ms s (variable (definitionVariable t i) ∷ operator iff s (bodyOf (t .node i)) ∷ []) → bodyOf (t .node i) < s
+  mark-value : (i s : ℕ) → Placed ms s (variable (definitionVariable t i) ∷ operator iff s (bodyOf (t .node i)) ∷ [])
+      → bodyOf (t .node i) < s
       → Val ms v (bodyOf (t .node i)) (valueAt t c (bodyOf (t .node i)) v)
       → Val ms v (s + 1) (Bool·beq (v (definitionVariable t i)) (valueAt t c (bodyOf (t .node i)) v))
   mark-value i s p h b =
       let part = variable (definitionVariable t i) ∷ operator iff s (bodyOf (t .node i)) ∷ [] in
       let m = val-variable ms v s (definitionVariable t i) (placed-at ms s part p 0 s (omega arith) (omega arith)) in
-      equal-values t ms v (s + 1) s (bodyOf (t .node i)) _ _ (placed-at ms s part p 1 (s + 1) (omega arith) (omega arith)) (omega arith) (omega arith) m b
+      equal-values t ms v (s + 1) s (bodyOf (t .node i)) _ _ (placed-at ms s part p 1 (s + 1) (omega arith) (omega arith)) (omega arith)
+      (omega arith) m b
 
   constraint-value-bare : (i s : ℕ) → count t i ≡ 0 → Placed ms s (constraint t i s) → bodyOf (t .node i) < s
       → Val ms v (bodyOf (t .node i)) (valueAt t c (bodyOf (t .node i)) v)
@@ -183,7 +196,8 @@ module _ (t : Table) (ms : List Node) (v : Valuation) (c : ℕ) where
   unfolding blockHolds
   constraint-value-bare i s e p h b =
       val-is ms v (s + 1) (s + length (constraint t i s) - 1) _ _ (omega (arith, length-constraint-bare t i s e))
-      (sym (holds-bare (quantifierAt (t .node i)) (newNames t i) (copies t i) _ (valueAt t c (bodyOf (t .node i))) v (length-newNames t i ∙ e)))
+      (sym (holds-bare (quantifierAt (t .node i)) (newNames t i) (copies t i) _ (valueAt t c (bodyOf (t .node i))) v
+      (length-newNames t i ∙ e)))
       (mark-value i s (rw (constraint-bare t i s e) at p) h b)
 
   closing-value : (i s e : ℕ) (a b : Bool) → Placed ms (e + 1) (closing t i s e) → s < e → Val ms v s a → Val ms v e b
@@ -194,16 +208,20 @@ module _ (t : Table) (ms : List Node) (v : Valuation) (c : ℕ) where
       let d = definitionVariable t i in
       let part = variable d ∷ operator (guard q) (e + 1) e ∷ operator and s (e + 2) ∷ [] in
       let m = val-variable ms v (e + 1) d (placed-at ms (e + 1) part p 0 (e + 1) (omega arith) (omega arith)) in
-      let g = val-operator ms v (e + 2) (guard q) (e + 1) e _ _ (placed-at ms (e + 1) part p 1 (e + 2) (omega arith) (omega arith)) (omega arith) (omega arith) m y in
+      let g =
+      val-operator ms v (e + 2) (guard q) (e + 1) e _ _ (placed-at ms (e + 1) part p 1 (e + 2) (omega arith) (omega arith)) (omega arith)
+      (omega arith) m y in
       let k = val-is ms v (e + 2) (e + 2) _ _ refl (value-guard q (v d) b) g in
-      both-values t ms v (e + 3) s (e + 2) _ _ (placed-at ms (e + 1) part p 2 (e + 3) (omega arith) (omega arith)) (omega arith) (omega arith) x k
+      both-values t ms v (e + 3) s (e + 2) _ _ (placed-at ms (e + 1) part p 2 (e + 3) (omega arith) (omega arith)) (omega arith)
+      (omega arith) x k
 
   equations-whole : (i s n : ℕ) → count t i ≡ suc n → Placed ms (s + 2) (upTo (equation t i (s + 2)) (suc n))
       → Val ms v (s + 4 * suc n) (agree v (newNames t i) (copies t i))
   equations-whole i s n e p =
       let xs : take (suc n) (newNames t i) ≡ newNames t i = take-all (suc n) (newNames t i) (omega (arith, length-newNames t i)) in
       let ys : take (suc n) (copies t i) ≡ copies t i = take-all (suc n) (copies t i) (omega (arith, length-copies t i)) in
-      val-is ms v (s + 2 + 4 * n + 2) (s + 4 * suc n) _ _ (omega arith) (ap₂ (agree v) xs ys) (equations-values t ms v i (s + 2) n (omega arith) p)
+      val-is ms v (s + 2 + 4 * n + 2) (s + 4 * suc n) _ _ (omega arith) (ap₂ (agree v) xs ys)
+      (equations-values t ms v i (s + 2) n (omega arith) p)
 
   constraint-value-full : (i s n : ℕ) → count t i ≡ suc n → Placed ms s (constraint t i s) → bodyOf (t .node i) < s
       → Val ms v (bodyOf (t .node i)) (valueAt t c (bodyOf (t .node i)) v)
@@ -235,7 +253,8 @@ module _ (t : Table) (ms : List Node) (v : Valuation) (c : ℕ) where
 
 -- the bodies of these blocks are below k and have their values
 abbrev Bodies : Table → List Node → Valuation → ℕ → ℕ → List ℕ → Type 0
-Bodies t ms v c k is = (i : ℕ) → mem i is ≡ true → (bodyOf (t .node i) < k) × Val ms v (bodyOf (t .node i)) (valueAt t c (bodyOf (t .node i)) v)
+Bodies t ms v c k is =
+    (i : ℕ) → mem i is ≡ true → (bodyOf (t .node i) < k) × Val ms v (bodyOf (t .node i)) (valueAt t c (bodyOf (t .node i)) v)
 
 module _ (t : Table) (ms : List Node) (v : Valuation) (c k : ℕ) where
   head-value : (i : ℕ) (is : List ℕ) (s : ℕ) → k ≤ s → Bodies t ms v c k (i ∷ is) → Placed ms s (constraint t i s)
@@ -246,7 +265,8 @@ module _ (t : Table) (ms : List Node) (v : Valuation) (c k : ℕ) where
   tail-bodies : (i : ℕ) (is : List ℕ) → Bodies t ms v c k (i ∷ is) → Bodies t ms v c k is
   tail-bodies i is ready j m = ready j (mem-tail j i is m)
 
-  further-value : (is : List ℕ) (s : ℕ) (b : Bool) → 0 < s → k ≤ s → Bodies t ms v c k is → Placed ms s (further t is s) → Val ms v (s - 1) b
+  further-value : (is : List ℕ) (s : ℕ) (b : Bool) → 0 < s → k ≤ s → Bodies t ms v c k is → Placed ms s (further t is s)
+      → Val ms v (s - 1) b
       → Val ms v (s + length (further t is s) - 1) (b && all (blockHolds t c v) is)
   unfolding further all
   further-value [] s b h l ready p x = val-is ms v (s - 1) (s + 0 - 1) _ _ (omega arith) (sym (and-true b)) x
@@ -259,8 +279,12 @@ module _ (t : Table) (ms : List Node) (v : Valuation) (c k : ℕ) where
       let q : Placed ms e ((o ∷ []) ++ rest) = placed-right ms s cs (o ∷ rest) p in
       let r : Placed ms (e + 1) rest = placed-right ms e (o ∷ []) rest q in
       let y = head-value i is s l ready (placed-left ms s cs (o ∷ rest) p) in
-      let z = both-values t ms v e (s - 1) (e - 1) b (blockHolds t c v i) (placed-at ms e (o ∷ rest) q 0 e (omega arith) (omega arith)) (omega arith) (omega arith) x y in
-      let w = further-value is (e + 1) (b && blockHolds t c v i) (omega arith) (omega arith) (tail-bodies i is ready) r (val-is ms v e (e + 1 - 1) _ _ (omega arith) refl z) in
+      let z =
+      both-values t ms v e (s - 1) (e - 1) b (blockHolds t c v i) (placed-at ms e (o ∷ rest) q 0 e (omega arith) (omega arith))
+      (omega arith) (omega arith) x y in
+      let w =
+      further-value is (e + 1) (b && blockHolds t c v i) (omega arith) (omega arith) (tail-bodies i is ready) r
+      (val-is ms v e (e + 1 - 1) _ _ (omega arith) refl z) in
       let u : e + 1 + length rest - 1 ≡ s + length (cs ++ (o ∷ rest)) - 1 = omega (arith, length-append cs (o ∷ rest)) in
       val-is ms v _ _ _ _ u (sym (and-assoc b (blockHolds t c v i) (all (blockHolds t c v) is))) w
 
@@ -272,19 +296,17 @@ module _ (t : Table) (ms : List Node) (v : Valuation) (c k : ℕ) where
       let n = length-constraint-ge t i s in
       let rest = further t is (s + length cs) in
       let y = head-value i is s l ready (placed-left ms s cs rest p) in
-      let w = further-value is (s + length cs) (blockHolds t c v i) (omega arith) (omega arith) (tail-bodies i is ready) (placed-right ms s cs rest p) y in
+      let w =
+      further-value is (s + length cs) (blockHolds t c v i) (omega arith) (omega arith) (tail-bodies i is ready)
+      (placed-right ms s cs rest p) y in
       let u : s + length cs + length rest - 1 ≡ s + length (cs ++ rest) - 1 = omega (arith, length-append cs rest) in
       val-is ms v _ _ _ _ u refl w
 
   wrap-value : (q : Quantifier) (i m d : ℕ) (x y : Bool) → getD ms i (constant false) ≡ wrap q m d → m < i → d < i
       → Val ms v m x → Val ms v d y → Val ms v i (joined q x y)
   unfolding wrap joined
-  wrap-value exists i m d x y e l r p q = val-is ms v i i _ _ refl (value-implies y x) (val-operator ms v i implies d m y x e r l q p)
+  wrap-value exists i m d x y e l r p q = val-is ms v i i _ _ refl (implies-is-11 y x) (val-operator ms v i implies d m y x e r l q p)
   wrap-value for-all i m d x y e l r p q = both-values t ms v i m d x y e l r p q
-
-  length-constraints-ge : (i : ℕ) (is : List ℕ) (s : ℕ) → 2 ≤ length (constraints t (i ∷ is) s)
-  unfolding constraints
-  length-constraints-ge i is s = omega (arith, length-append (constraint t i s) (further t is (s + length (constraint t i s))), length-constraint-ge t i s)
 
   level-value-of : (is : List ℕ) (q : Quantifier) (s : ℕ) (x : Bool) → 0 < length is → 0 < s → k ≤ s → Bodies t ms v c k is
       → Placed ms s (constraints t is s ++ (wrap q (s - 1) (s + length (constraints t is s) - 1) ∷ [])) → Val ms v (s - 1) x
@@ -293,10 +315,11 @@ module _ (t : Table) (ms : List Node) (v : Valuation) (c k : ℕ) where
   level-value-of (i ∷ is) q s x some h l ready p m =
       let cs = constraints t (i ∷ is) s in
       let w = wrap q (s - 1) (s + length cs - 1) in
-      let n = length-constraints-ge i is s in
+      let n = length-constraints-ge t i is s in
       let r : Placed ms (s + length cs) (w ∷ []) = placed-right ms s cs (w ∷ []) p in
       let y = constraints-value i is s l ready (placed-left ms s cs (w ∷ []) p) in
-      wrap-value q (s + length cs) (s - 1) (s + length cs - 1) x _ (placed-at ms (s + length cs) (w ∷ []) r 0 (s + length cs) (omega arith) (omega arith)) (omega arith) (omega arith) m y
+      wrap-value q (s + length cs) (s - 1) (s + length cs - 1) x _
+      (placed-at ms (s + length cs) (w ∷ []) r 0 (s + length cs) (omega arith) (omega arith)) (omega arith) (omega arith) m y
 
   level-value : (j s : ℕ) (x : Bool) → 0 < length (blocksAt t (suc j)) → 0 < s → k ≤ s → Bodies t ms v c k (blocksAt t (suc j))
       → Placed ms s (levelNodes t j s) → Val ms v (s - 1) x
@@ -322,7 +345,9 @@ module _ (t : Table) (ms : List Node) (v : Valuation) (c k : ℕ) where
       let n = r .0 in
       let q : Placed ms (0 + length ns) ls = placed-right ms 0 ns ls p in
       let e : 0 + length ns ≡ length ns = omega arith in
-      let y = level-value j (length ns) (matrixAt t c j v) (some j (omega arith)) (omega arith) (omega arith) (ready j (omega arith)) (rw e at q) (r .1) in
+      let y =
+      level-value j (length ns) (matrixAt t c j v) (some j (omega arith)) (omega arith) (omega arith) (ready j (omega arith)) (rw e at q)
+      (r .1) in
       let u = length-append ns ls in
       (omega arith, val-is ms v _ _ _ _ (ap (λ (a : ℕ). a - 1) (sym u)) refl y)
 
@@ -432,7 +457,8 @@ module _ (t : Table) (tree : Tree t) (ms : List Node) (v : Valuation) (p : Place
       let k = kept-positive t tree in
       let n = kept-le t in
       let l = length-firstNodes t in
-      val-is ms v (kept t - 1) (length (firstNodes t) - 1) _ _ (omega arith) refl (first-value (t .size) (kept t - 1) (omega arith) (omega arith))
+      val-is ms v (kept t - 1) (length (firstNodes t) - 1) _ _ (omega arith) refl
+      (first-value (t .size) (kept t - 1) (omega arith) (omega arith))
 
 placed-first : (t : Table) (ms : List Node) (j : ℕ) → Placed ms 0 (nodesTo t j) → Placed ms 0 (firstNodes t)
 unfolding nodesTo
@@ -446,7 +472,9 @@ nodes-value t tree ms v j h p =
     let first : Placed ms 0 (firstNodes t) = placed-first t ms j p in
     let l = length-firstNodes t in
     let k = kept-positive t tree in
-    let r = levels-value t ms v (levels t) (kept t) j (omega arith) (omega arith) (λ i m. level-some t tree i (omega arith)) (λ i m. bodies-value t tree ms v first (suc i)) p (base-value t tree ms v first) in
+    let r =
+    levels-value t ms v (levels t) (kept t) j (omega arith) (omega arith) (λ i m. level-some t tree i (omega arith))
+    (λ i m. bodies-value t tree ms v first (suc i)) p (base-value t tree ms v first) in
     (omega (arith, r .0), r .1)
 
 pub written-truth : (t : Table) → Tree t → (v : Valuation) → truth (listTable (prenexNodes t)) v ≡ matrixAt t (levels t) (levels t) v

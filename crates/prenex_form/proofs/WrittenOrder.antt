@@ -1,9 +1,9 @@
 -- The written nodes hold no block, and each names only nodes before it.
 -- Assumes nothing.
-use mathlib.Core.Path.{_≡_, refl, sym, _∙_, ap, subst}
-use mathlib.Core.Bool.{Bool, true, false}
+use mathlib.Core.Path.{_≡_, refl, _∙_, ap, subst}
+use mathlib.Core.Bool.{true, false}
 use mathlib.Core.List.{List, [], _∷_, _++_}
-use Prim.Native.Nat.{ℕ, zero, suc, _+_, _-_, _*_, _≤_, _<_}
+use Prim.Native.Nat.{ℕ, zero, suc, _+_, _*_, _≤_, _<_}
 use native.Mathlib.Omega.{arith}
 use native.Mathlib.Nat.{le-of-suc-le-suc, not-suc-le-zero}
 use lib.Dec.{ltb}
@@ -20,14 +20,13 @@ use Rattle.formula.specs.Valuation.{Valuation}
 use Rattle.formula.specs.Truth.{truth}
 use Rattle.formula.specs.Tree.{Tree, count}
 use Rattle.formula.specs.Form.{matrixTruth}
-use Rattle.prenex_form.specs.Scope.{inner}
-use Rattle.prenex_form.specs.Names.{newNames, copies, definitionVariable}
+use Rattle.prenex_form.specs.Names.{definitionVariable}
 use Rattle.prenex_form.specs.Levels.{blocksAt, levels, levelQuantifier}
 use Rattle.prenex_form.specs.Matrix.{and, iff, kept, renamed, firstNodes, bodyOf, equation, constraint, further, constraints, wrap, levelNodes, nodesTo, prenexNodes, writtenNodes}
 use Rattle.prenex_form.proofs.Cut.{matrixAt}
 use Rattle.prenex_form.proofs.Paths.{blocksAt-lt, blocksAt-inner, kept-positive}
 use Rattle.prenex_form.proofs.NodeLists.{listTable, Plain, words-table}
-use Rattle.prenex_form.proofs.Written.{equation-first, equation-next, length-equations, closing, constraint-bare, constraint-full, length-constraint-ge, length-firstNodes, kept-le, body-kept, level-some, written-truth}
+use Rattle.prenex_form.proofs.Written.{equation-first, equation-next, length-equations, closing, constraint-bare, constraint-full, length-constraint-ge, length-firstNodes, kept-le, body-kept, written-truth}
 
 -- A node that is no block and names only nodes below i.
 abbrev Fits : ℕ → Node → Type 0
@@ -47,7 +46,8 @@ ordered-from s r ns e o = subst (λ (k : ℕ). Ordered k ns) e o
 
 ordered-append : (s : ℕ) (xs ys : List Node) → Ordered s xs → Ordered (s + length xs) ys → Ordered s (xs ++ ys)
 ordered-append s [] ys none o = ordered-from (s + 0) s ys (omega arith) o
-ordered-append s (x ∷ xs) ys (next _ f r) o = next x f (ordered-append (suc s) xs ys r (ordered-from (s + suc (length xs)) (suc s + length xs) ys (omega arith) o))
+ordered-append s (x ∷ xs) ys (next _ f r) o =
+    next x f (ordered-append (suc s) xs ys r (ordered-from (s + suc (length xs)) (suc s + length xs) ys (omega arith) o))
 
 of-variable : {s x : ℕ} {ns : List Node} → Ordered (suc s) ns → Ordered s (variable x ∷ ns)
 of-variable {s} {x} o = next (variable x) tt o
@@ -144,8 +144,10 @@ module _ (t : Table) (tree : Tree t) where
       let r = nodes-ordered j in
       let ns = nodesTo t j in
       let k = kept-positive t tree in
-      let o = level-ordered t (kept t) j (length ns) (omega (arith, r .0)) (r .0) (level-low (suc j)) in
-      (omega (arith, r .0, length-append ns (levelNodes t j (length ns))), ordered-append 0 ns _ (r .1) (ordered-from (length ns) (0 + length ns) _ (omega arith) o))
+      let o = level-ordered t (kept t) j (length ns) (omega (arith, r .0)) (r .0) (level-low (suc j)) in (
+        omega (arith, r .0, length-append ns (levelNodes t j (length ns))),
+        ordered-append 0 ns _ (r .1) (ordered-from (length ns) (0 + length ns) _ (omega arith) o),
+      )
 
 fits-plain : (i : ℕ) (nd : Node) → Fits i nd → isBlock nd ≡ false
 unfolding isBlock

@@ -1,27 +1,28 @@
 -- How many nodes are written, and that they are few.
 -- Assumes nothing.
-use mathlib.Core.Path.{_≡_, refl, sym, _∙_, ap, ap₂, subst}
-use mathlib.Core.Bool.{Bool, true, false, not, _&&_, _||_}
+use mathlib.Core.Path.{_≡_, refl, sym, _∙_, ap, ap₂}
+use mathlib.Core.Bool.{Bool, true, false, _&&_}
 use mathlib.Core.List.{List, [], _∷_, _++_}
-use Prim.Native.Nat.{ℕ, zero, suc, _+_, _-_, _*_, _≤_, _<_}
+use Prim.Native.Nat.{ℕ, zero, suc, _+_, _*_, _≤_, _<_}
 use native.Mathlib.Omega.{arith}
 use native.Mathlib.Nat.{not-suc-le-zero}
-use lib.Dec.{eqb, leb, eqb·suc-zero}
+use lib.Dec.{eqb, leb}
 use lib.ListN.{length, length-append}
 use borrow.Author.Tests.{eqb-true, eqb-false, eq-eqb, ne-eqb, leb-true, leb-false, le-leb, lt-leb}
-use Rattle.lists.specs.Choice.{pick, pick-yes, pick-no, Is, is-true, is-false, look, clash, and-left, and-right, and-both}
+use Rattle.lists.specs.Choice.{pick, pick-yes, pick-no, Is, is-true, is-false, look}
 use Rattle.lists.specs.Parts.{upTo, sum}
 use Rattle.lists.proofs.Parts.{sum-cong, sum-mono, sum-add}
-use Rattle.formula.specs.Node.{Node, Table, isBlock}
+use Rattle.formula.specs.Node.{Table, isBlock}
 use Rattle.formula.specs.Tree.{Tree, count, boundBelow}
 use Rattle.prenex_form.specs.Scope.{inner, level}
 use Rattle.prenex_form.specs.Names.{boundCount}
-use Rattle.prenex_form.specs.Levels.{blocksAt, levels, levelQuantifier}
-use Rattle.prenex_form.specs.Matrix.{kept, firstNodes, constraint, further, constraints, wrap, levelNodes, nodesTo, prenexNodes}
+use Rattle.prenex_form.specs.Levels.{blocksAt, levels}
+use Rattle.prenex_form.specs.Matrix.{kept, constraint, further, constraints, levelNodes, nodesTo, prenexNodes}
 use Rattle.prenex_form.specs.Prefix.{blockCount}
 use Rattle.prenex_form.specs.Sizes.{sizes, addedBy}
 use Rattle.prenex_form.proofs.Paths.{inner-level, level-le-levels}
-use Rattle.prenex_form.proofs.Written.{length-constraint-bare, length-constraint-full, length-firstNodes, kept-le, level-some, inner-block}
+use Rattle.prenex_form.proofs.PrefixNames.{blockCount-le}
+use Rattle.prenex_form.proofs.Written.{and-true, length-constraint-bare, length-constraint-full, length-firstNodes, kept-le, level-some, inner-block}
 
 -- the sum of g over a list
 unfoldable pub sumOf : (ℕ → ℕ) → List ℕ → ℕ
@@ -45,12 +46,9 @@ sumOf-upTo g p zero = refl
 sumOf-upTo g p (suc n) =
     sumOf-append g (upTo (λ i. pick (p i) (i ∷ []) []) n) (pick (p n) (n ∷ []) []) ∙ ap₂ _+_ (sumOf-upTo g p n) (sumOf-pick g (p n) n)
 
-and-true : (b : Bool) → (b && true) ≡ b
-and-true true = refl
-and-true false = refl
-
 -- one level more
-level-more : (b : Bool) (l j x : ℕ) → Is (leb l j) → Is (eqb l (suc j)) → pick (b && leb l (suc j)) x 0 ≡ pick (b && leb l j) x 0 + pick (b && eqb l (suc j)) x 0
+level-more : (b : Bool) (l j x : ℕ) → Is (leb l j) → Is (eqb l (suc j))
+    → pick (b && leb l (suc j)) x 0 ≡ pick (b && leb l j) x 0 + pick (b && eqb l (suc j)) x 0
 unfolding pick
 level-more false l j x p q = refl
 level-more true l j x (is-true p) (is-true q) = let h = leb-true l j p in let e = eqb-true l (suc j) q in absurd (omega arith)
@@ -79,7 +77,8 @@ module _ (t : Table) (tree : Tree t) (g : ℕ → ℕ) where
   level-zero i h (is-false e) = pick-no _ _ _ (rw e)
 
   level-last : (i : ℕ) → i < t .size → pick (inner t i && leb (level t i) (levels t)) (g i) 0 ≡ pick (inner t i) (g i) 0
-  level-last i h = ap (λ (b : Bool). pick b (g i) 0) (rw (le-leb (level t i) (levels t) (level-le-levels t tree i h)) (and-true (inner t i)))
+  level-last i h =
+      ap (λ (b : Bool). pick b (g i) 0) (rw (le-leb (level t i) (levels t) (level-le-levels t tree i h)) (and-true (inner t i)))
 
   -- the blocks of the first j levels
   sum-levels : (j : ℕ) → sum (λ l. sumOf g (blocksAt t (suc l))) j ≡ sum (λ i. pick (inner t i && leb (level t i) j) (g i) 0) (t .size)
@@ -87,8 +86,8 @@ module _ (t : Table) (tree : Tree t) (g : ℕ → ℕ) where
   sum-levels zero = sym (sum-cong _ (λ i. 0) (t .size) (λ i h. level-zero i h (look (inner t i))) ∙ sum-zero (t .size))
   sum-levels (suc j) =
       ap₂ _+_ (sum-levels j) (sum-level t g (suc j))
-      ∙ sym (sum-add (λ i. pick (inner t i && leb (level t i) j) (g i) 0) (λ i. pick (inner t i && eqb (level t i) (suc j)) (g i) 0) (t .size))
-      ∙ sum-cong _ _ (t .size) (λ i h. sym (level-more (inner t i) (level t i) j (g i) (look (leb (level t i) j)) (look (eqb (level t i) (suc j)))))
+      ∙ sym (sum-add (λ i. pick (inner t i && leb (level t i) j) (g i) 0) _ (t .size))
+      ∙ sum-cong _ _ (t .size) (λ i h. sym (level-more (inner t i) (level t i) j (g i) (look _) (look _)))
 
   -- level by level, the inner blocks
   pub sum-blocks : sum (λ l. sumOf g (blocksAt t (suc l))) (levels t) ≡ sum (λ i. pick (inner t i) (g i) 0) (t .size)
@@ -103,7 +102,8 @@ length-constraint-by t i s zero e =
     let p : _≡_ {A = ℕ} (pick (eqb (count t i) 0) 3 (4 * count t i + 5)) 3 = pick-yes _ _ _ (eq-eqb _ _ e) in
     omega (arith, length-constraint-bare t i s e)
 length-constraint-by t i s (suc n) e =
-    let p : _≡_ {A = ℕ} (pick (eqb (count t i) 0) 3 (4 * count t i + 5)) (4 * count t i + 5) = pick-no _ _ _ (ne-eqb (count t i) 0 (λ z. omega arith)) in
+    let p : _≡_ {A = ℕ} (pick (eqb (count t i) 0) 3 (4 * count t i + 5)) (4 * count t i + 5) =
+    pick-no _ _ _ (ne-eqb (count t i) 0 (λ z. omega arith)) in
     omega (arith, length-constraint-full t i s n e)
 
 length-constraint : (t : Table) (i s : ℕ) → suc (length (constraint t i s)) ≡ added t i
@@ -120,9 +120,11 @@ length-constraints : (t : Table) (is : List ℕ) (s : ℕ) → 0 < length is →
 unfolding constraints sumOf
 length-constraints t [] s h = absurd (not-suc-le-zero h)
 length-constraints t (i ∷ is) s h =
-    omega (arith, length-append (constraint t i s) (further t is (s + length (constraint t i s))), length-constraint t i s, length-further t is (s + length (constraint t i s)))
+    let e = s + length (constraint t i s) in
+    omega (arith, length-append (constraint t i s) (further t is e), length-constraint t i s, length-further t is e)
 
-length-levelNodes : (t : Table) (j s : ℕ) → 0 < length (blocksAt t (suc j)) → length (levelNodes t j s) ≡ sumOf (added t) (blocksAt t (suc j))
+length-levelNodes : (t : Table) (j s : ℕ) → 0 < length (blocksAt t (suc j))
+    → length (levelNodes t j s) ≡ sumOf (added t) (blocksAt t (suc j))
 unfolding levelNodes
 length-levelNodes t j s h =
     length-append (constraints t (blocksAt t (suc j)) s) _ ∙ omega (arith, length-constraints t (blocksAt t (suc j)) s h)
@@ -146,7 +148,8 @@ sum-times f (suc n) = let r = sum-times f n in (omega (arith, r .0), omega (arit
 
 added-le : (t : Table) (i n : ℕ) → count t i ≡ n → added t i ≤ 5 + 4 * count t i
 added-le t i zero e = let p : _≡_ {A = ℕ} (added t i) 3 = pick-yes _ _ _ (eq-eqb _ _ e) in omega arith
-added-le t i (suc n) e = let p : _≡_ {A = ℕ} (added t i) (4 * count t i + 5) = pick-no _ _ _ (ne-eqb (count t i) 0 (λ z. omega arith)) in omega arith
+added-le t i (suc n) e =
+    let p : _≡_ {A = ℕ} (added t i) (4 * count t i + 5) = pick-no _ _ _ (ne-eqb (count t i) 0 (λ z. omega arith)) in omega arith
 
 added-by-le : (t : Table) (i : ℕ) → Is (inner t i) → addedBy t i ≤ 5 * pick (isBlock (t .node i)) 1 0 + 4 * count t i
 unfolding addedBy
@@ -166,20 +169,6 @@ nodes-le t =
     let x = sum-times b (t .size) .0 in
     let y = sum-times (count t) (t .size) .1 in
     omega (arith, kept-le t)
-
-pick-le-one : (b : Bool) → pick b 1 0 ≤ 1
-unfolding pick
-pick-le-one true = omega arith
-pick-le-one false = omega arith
-
-sum-ones : (f : ℕ → ℕ) (n : ℕ) → ((i : ℕ) → f i ≤ 1) → sum f n ≤ n
-unfolding sum
-sum-ones f zero h = omega arith
-sum-ones f (suc n) h = omega (arith, sum-ones f n h, h n)
-
-pub blockCount-le : (t : Table) → blockCount t ≤ t .size
-unfolding blockCount
-blockCount-le t = sum-ones _ (t .size) (λ i. pick-le-one (isBlock (t .node i)))
 
 pub nodes-few : (t : Table) → t .size ≤ 4096 → boundCount t ≤ 4096 → sizes t .nodes ≤ 40960
 nodes-few t n q = omega (arith, nodes-le t, blockCount-le t)

@@ -7,4 +7,3 @@ pub struct Verdict {
     pub number: u32,
     pub position: u32,
 }
-

@@ -1,0 +1,458 @@
+-- The numbers that are free in a table are those that are free in its prenex form (document 01, "Truth and size").
+-- Assumes nothing.
+use mathlib.Core.Path.{_≡_, refl, sym, _∙_, ap, subst}
+use mathlib.Core.Bool.{Bool, true, false, not, _&&_, _||_}
+use mathlib.Core.List.{List, [], _∷_, _++_, flatMap}
+use Prim.Native.Nat.{ℕ, zero, suc, _+_, _-_, _*_, _≤_, _<_}
+use native.Mathlib.Omega.{arith}
+use native.Mathlib.Nat.{not-suc-le-zero}
+use lib.Dec.{eqb, ltb}
+use lib.ListN.{length, getD, length-append, List·getD-append}
+use borrow.Author.Tests.{eqb-true, eqb-false, eq-eqb, ne-eqb, ltb-true, ltb-false, not-true}
+use Rattle.lists.specs.Choice.{pick, pick-yes, pick-no, Is, is-true, is-false, look, clash, and-left, and-right, and-both, or-neither}
+use Rattle.lists.specs.Members.{mem}
+use Rattle.lists.specs.Parts.{upTo}
+use Rattle.lists.proofs.Search.{lowest-le, lowest-none}
+use Rattle.lists.proofs.Members.{mem-append, mem-left, mem-right, mem-one, mem-head, mem-tail, mem-getD, mem-flatMap, mem-flatMap-from}
+use Rattle.lists.proofs.Parts.{term-le}
+use Rattle.formula.specs.Node.{Quantifier, exists, for-all, Node, constant, variable, negation, operator, block, Table, operands, isBlock, bound}
+use Rattle.formula.specs.Tree.{Tree, Proper, count}
+use Rattle.formula.specs.Truth.{nodeFree, freeAt, free}
+use Rattle.formula.specs.Form.{Block, binds, formFree}
+use Rattle.formula.proofs.Unfolding.{freeAt-node}
+use Rattle.prenex_form.specs.Scope.{binder, inner, level, above, parent}
+use Rattle.prenex_form.specs.Names.{highestNumber, newNames, newName, copies, definitionVariable}
+use Rattle.prenex_form.specs.Levels.{blocksAt, levels, quantifierAt, levelQuantifier}
+use Rattle.prenex_form.specs.Matrix.{and, kept, renamed, firstNodes, bodyOf, equation, guard, constraint, further, constraints, wrap, levelNodes, nodesTo, prenexNodes, writtenNodes}
+use Rattle.prenex_form.specs.Prefix.{blockCount, leading, prefixBlock, prefixBlocks, writtenPrefix, writtenVariables}
+use Rattle.prenex_form.proofs.Paths.{climb, parent-lt, parent-names, binder-root, binder-step, binder-block, inner-lt, inner-level, level-le-levels, mem-blocksAt, blocksAt-lt, blocksAt-inner}
+use Rattle.prenex_form.proofs.NameLaws.{variable-le, length-newNames, length-copies, newNames-above, copies-above, definition-above, newName-free, newName-bound}
+use Rattle.prenex_form.proofs.NodeLists.{listTable, Plain}
+use Rattle.prenex_form.proofs.Written.{length-firstNodes, getD-firstNodes, kept-le, kept-ge, kept-root, kept-inner, inner-block}
+use Rattle.prenex_form.proofs.WrittenOrder.{prenex-plain, written-table}
+use Rattle.prenex_form.proofs.WrittenTree.{prenex-tree}
+use Rattle.prenex_form.proofs.PrefixNames.{prefix-read}
+
+-- laws of tests
+absent : (a : Bool) → (a ≡ true → ⊥) → a ≡ false
+absent true h = absurd (h refl)
+absent false h = refl
+
+or-left : (a b : Bool) → a ≡ true → (a || b) ≡ true
+or-left a b h = rw h
+
+or-right : (a b : Bool) → b ≡ true → (a || b) ≡ true
+or-right true b h = refl
+or-right false b h = h
+
+or-cases : {P : Type 0} (a b : Bool) → (a || b) ≡ true → (a ≡ true → P) → (b ≡ true → P) → P
+or-cases true b h f g = f refl
+or-cases false b h f g = g h
+
+and-not : (a b : Bool) → (a && not b) ≡ true → b ≡ false
+and-not true true h = sym h
+and-not true false h = refl
+and-not false b h = clash h refl
+
+same-test : (a b : Bool) → (a ≡ true → b ≡ true) → (b ≡ true → a ≡ true) → a ≡ b
+same-test true b f g = sym (f refl)
+same-test false true f g = g refl
+same-test false false f g = refl
+
+-- the free numbers of a tree
+
+-- x is free in an operand of the node, and the node does not bind it
+data Through (at : ℕ → Bool) (x : ℕ) (nd : Node) : Type 0 where
+  through : (a : ℕ) → mem a (operands nd) ≡ true → at a ≡ true → (isBlock nd && mem x (bound nd)) ≡ false → Through at x nd
+  here : nd ≡ variable x → Through at x nd
+
+free-through : (at : ℕ → Bool) (x : ℕ) (nd : Node) → nodeFree at x nd ≡ true → Through at x nd
+unfolding nodeFree operands isBlock bound
+free-through at x (constant b) h = clash h refl
+free-through at x (variable y) h = here (ap variable (sym (eqb-true x y h)))
+free-through at x (negation a) h = through a (mem-head a []) h refl
+free-through at x (operator f a b) h =
+    or-cases (at a) (at b) h
+    (λ k. through a (mem-head a (b ∷ [])) k refl)
+    (λ k. through b (mem-tail b a (b ∷ []) (mem-head b [])) k refl)
+free-through at x (block q xs a) h =
+    through a (mem-head a []) (and-right (not (mem x xs)) (at a) h) (not-true (mem x xs) (and-left (not (mem x xs)) (at a) h))
+
+one-operand : (i a : ℕ) (at : ℕ → Bool) → mem i (a ∷ []) ≡ true → at i ≡ true → at a ≡ true
+one-operand i a at m h = rw (eqb-true i a (sym (mem-one i a) ∙ m)) at h
+
+through-free : (at : ℕ → Bool) (x : ℕ) (nd : Node) (i : ℕ) → mem i (operands nd) ≡ true → at i ≡ true
+    → (isBlock nd && mem x (bound nd)) ≡ false → nodeFree at x nd ≡ true
+unfolding nodeFree operands isBlock bound mem
+through-free at x (constant b) i m h n = clash m refl
+through-free at x (variable y) i m h n = clash m refl
+through-free at x (negation a) i m h n = one-operand i a at m h
+through-free at x (operator f a b) i m h n =
+    or-cases (eqb i a) (mem i (b ∷ [])) m
+    (λ e. or-left (at a) (at b) (rw (eqb-true i a e) at h))
+    (λ k. or-right (at a) (at b) (one-operand i b at k h))
+through-free at x (block q xs a) i m h n = and-both _ _ (ap not n) (one-operand i a at m h)
+
+-- x stands at a variable node that no block above binds
+pub record Stands (t : Table) (x : ℕ) : Type 0 where
+  pub node : ℕ
+  pub within : node < t .size
+  pub variable-is : t .node node ≡ variable x
+  pub unbound : binder t node x ≡ t .size
+
+module _ (t : Table) (tree : Tree t) (x : ℕ) where
+  -- from a node to what it names and back: no binder in between
+  binder-down : (j i : ℕ) → j < t .size → mem i (operands (t .node j)) ≡ true → (isBlock (t .node j) && mem x (bound (t .node j))) ≡ false
+      → binder t j x ≡ t .size → binder t i x ≡ t .size
+  binder-down j i h m n b = binder-step t tree j i x h m ∙ pick-no _ _ _ n ∙ b
+
+  binder-up : (j i : ℕ) → j < t .size → mem i (operands (t .node j)) ≡ true → binder t i x ≡ t .size
+      → Is (isBlock (t .node j) && mem x (bound (t .node j)))
+      → ((isBlock (t .node j) && mem x (bound (t .node j))) ≡ false) × (binder t j x ≡ t .size)
+  binder-up j i h m b (is-true e) =
+      let s : binder t i x ≡ j = binder-step t tree j i x h m ∙ pick-yes _ _ _ e in absurd (omega arith)
+  binder-up j i h m b (is-false e) = (e, sym (pick-no _ _ _ e) ∙ sym (binder-step t tree j i x h m) ∙ b)
+
+  stands-below : (f i : ℕ) → i < f → i < t .size → binder t i x ≡ t .size → freeAt (t .size) t x i ≡ true → Stands t x
+  stands-below zero i l h b e = absurd (not-suc-le-zero l)
+  stands-below (suc f) i l h b e =
+      go (free-through (freeAt (t .size) t x) x (t .node i) (sym (freeAt-node t (tree .lower) x i h) ∙ e)) (stands-below f)
+    where
+      go : Through (freeAt (t .size) t x) x (t .node i)
+          → ((a : ℕ) → a < f → a < t .size → binder t a x ≡ t .size → freeAt (t .size) t x a ≡ true → Stands t x) → Stands t x
+      go (here v) next = record { node = i; within = h; variable-is = v; unbound = b }
+      go (through a m k n) next =
+          let s = tree .lower i a h m in next a (omega arith) (omega arith) (binder-down i a h m n b) k
+
+  pub free-stands : free t x ≡ true → Stands t x
+  unfolding free
+  free-stands e =
+      let h = tree .nonempty in
+      stands-below (t .size) (t .size - 1) (omega arith) (omega arith) (binder-root t tree (t .size - 1) x (omega arith)) e
+
+  free-above : (i : ℕ) → i < t .size → binder t i x ≡ t .size → freeAt (t .size) t x i ≡ true → free t x ≡ true
+  unfolding free
+  free-above =
+      climb t tree (λ i. binder t i x ≡ t .size → freeAt (t .size) t x i ≡ true → freeAt (t .size) t x (t .size - 1) ≡ true)
+      (λ i h b e. let s : i ≡ t .size - 1 = omega arith in rw s at e)
+      (λ i h r b e.
+      let j = parent t i in
+      let l = parent-lt t tree i h in
+      let m = parent-names t tree i h in
+      let u = binder-up j i l m b (look _) in
+      r (u .1) (freeAt-node t (tree .lower) x j l ∙ through-free (freeAt (t .size) t x) x (t .node j) i m e (u .0)))
+
+  pub stands-free : Stands t x → free t x ≡ true
+  unfolding nodeFree
+  stands-free s =
+      free-above (s .node) (s .within) (s .unbound)
+      (freeAt-node t (tree .lower) x (s .node) (s .within)
+      ∙ ap (nodeFree (freeAt (t .size) t x) x) (s .variable-is) ∙ eq-eqb x x refl)
+
+-- what the prefix binds
+
+binds-append : (bs cs : List Block) (x : ℕ) → binds (bs ++ cs) x ≡ (binds bs x || binds cs x)
+unfolding binds
+binds-append [] cs x = refl
+binds-append (b ∷ bs) cs x = or-group (mem x (b .variables)) (binds (bs ++ cs) x) (binds bs x) (binds cs x) (binds-append bs cs x)
+  where
+    or-group : (a b c d : Bool) → b ≡ (c || d) → (a || b) ≡ ((a || c) || d)
+    or-group true b c d h = refl
+    or-group false b c d h = h
+
+binds-one : (b : Block) (x : ℕ) → binds (b ∷ []) x ≡ mem x (b .variables)
+unfolding binds
+binds-one b x = or-false (mem x (b .variables))
+  where
+    or-false : (a : Bool) → (a || false) ≡ a
+    or-false true = refl
+    or-false false = refl
+
+module _ (g : ℕ → Block) (x : ℕ) where
+  binds-each : (n : ℕ) → binds (upTo (λ j. g j ∷ []) (suc n)) x ≡ (binds (upTo (λ j. g j ∷ []) n) x || mem x (g n .variables))
+  unfolding upTo
+  binds-each n = binds-append (upTo (λ j. g j ∷ []) n) (g n ∷ []) x ∙ ap (_||_ (binds (upTo (λ j. g j ∷ []) n) x)) (binds-one (g n) x)
+
+  binds-upTo : (n j : ℕ) → j < n → mem x (g j .variables) ≡ true → binds (upTo (λ j. g j ∷ []) n) x ≡ true
+  binds-upTo zero j h m = absurd (not-suc-le-zero h)
+  binds-upTo (suc n) j h m = binds-each n ∙ go (look (eqb j n)) (binds-upTo n j)
+    where
+      go : Is (eqb j n) → (j < n → mem x (g j .variables) ≡ true → binds (upTo (λ j. g j ∷ []) n) x ≡ true)
+          → (binds (upTo (λ j. g j ∷ []) n) x || mem x (g n .variables)) ≡ true
+      go (is-true e) next = or-right (binds (upTo (λ j. g j ∷ []) n) x) _ (rw (eqb-true j n e) at m)
+      go (is-false e) next = or-left _ _ (let k = eqb-false j n e in next (omega arith) m)
+
+  upTo-binds : (n : ℕ) → binds (upTo (λ j. g j ∷ []) n) x ≡ true → (j : ℕ) × (mem x (g j .variables) ≡ true)
+  unfolding upTo binds
+  upTo-binds zero h = clash h refl
+  upTo-binds (suc n) h =
+      or-cases (binds (upTo (λ j. g j ∷ []) n) x) (mem x (g n .variables)) (sym (binds-each n) ∙ h) (upTo-binds n) (λ m. (n, m))
+
+module _ (t : Table) where
+  prefix-binds : (j x : ℕ) → j ≤ levels t → eqb (blockCount t) 0 ≡ false → mem x (prefixBlock t j .variables) ≡ true
+      → binds (prefixBlocks t) x ≡ true
+  unfolding prefixBlocks
+  prefix-binds j x h e m =
+      rw (pick-no _ [] (upTo (λ j. prefixBlock t j ∷ []) (suc (levels t))) e)
+      (binds-upTo (prefixBlock t) x (suc (levels t)) j (omega arith) m)
+
+  prefix-from : (x : ℕ) → binds (prefixBlocks t) x ≡ true → (j : ℕ) × (mem x (prefixBlock t j .variables) ≡ true)
+  unfolding prefixBlocks binds
+  prefix-from x h = go (look (eqb (blockCount t) 0)) h
+    where
+      bs : List Block
+      bs = upTo (λ j. prefixBlock t j ∷ []) (suc (levels t))
+
+      go : Is (eqb (blockCount t) 0) → binds (pick (eqb (blockCount t) 0) [] bs) x ≡ true → (j : ℕ) × (mem x (prefixBlock t j .variables) ≡ true)
+      go (is-true e) h = clash (subst (λ l. binds l x ≡ true) (pick-yes _ [] bs e) h) refl
+      go (is-false e) h = upTo-binds (prefixBlock t) x (suc (levels t)) (subst (λ l. binds l x ≡ true) (pick-no _ [] bs e) h)
+
+  some-block : (i : ℕ) → i < t .size → isBlock (t .node i) ≡ true → eqb (blockCount t) 0 ≡ false
+  unfolding blockCount
+  some-block i h b =
+      ne-eqb (blockCount t) 0 (λ e. omega (arith, term-le (λ j. pick (isBlock (t .node j)) 1 0) (t .size) i h, pick-yes {A = ℕ} (isBlock (t .node i)) 1 0 b))
+
+  -- only new names: none of the table's numbers
+  leading-above : (j x : ℕ) → mem x (leading t j) ≡ true → highestNumber t < x
+  unfolding leading
+  leading-above zero x m = newNames-above t (t .size - 1) x m
+  leading-above (suc j) x m =
+      let r = mem-flatMap-from (λ i. newNames t i ++ (definitionVariable t i ∷ [])) x (blocksAt t (suc j)) m in
+      or-cases (mem x (newNames t (r .0))) (mem x (definitionVariable t (r .0) ∷ [])) (sym (mem-append x (newNames t (r .0)) _) ∙ r .2)
+      (newNames-above t (r .0) x)
+      (λ k. omega (arith, eqb-true x _ (sym (mem-one x (definitionVariable t (r .0))) ∙ k), definition-above t (r .0)))
+
+  copied-above : (j x : ℕ) → mem x (flatMap (copies t) (blocksAt t j)) ≡ true → highestNumber t < x
+  copied-above j x m =
+      let r = mem-flatMap-from (copies t) x (blocksAt t j) m in omega (arith, copies-above t (r .0) x (r .2))
+
+  prefix-above : (x : ℕ) → binds (prefixBlocks t) x ≡ true → highestNumber t < x
+  unfolding prefixBlock
+  prefix-above x h =
+      let r = prefix-from x h in
+      or-cases (mem x (leading t (r .0))) (mem x (flatMap (copies t) (blocksAt t (suc (r .0)))))
+      (sym (mem-append x (leading t (r .0)) _) ∙ r .1) (leading-above (r .0) x) (copied-above (suc (r .0)) x)
+
+  module _ (tree : Tree t) where
+    -- the names and the definition variable of an inner block are in the prefix block of its level, its copies in the one before
+    level-own : (i x : ℕ) → i < t .size → inner t i ≡ true → mem x (newNames t i ++ (definitionVariable t i ∷ [])) ≡ true
+        → binds (prefixBlocks t) x ≡ true
+    unfolding prefixBlock leading
+    level-own i x h n m =
+        let l = inner-level t tree i h n in
+        let e : level t i ≡ suc (level t i - 1) = omega arith in
+        prefix-binds (suc (level t i - 1)) x (omega (arith, level-le-levels t tree i h)) (some-block i h (inner-block t i n))
+        (mem-left x _ _
+        (mem-flatMap (λ k. newNames t k ++ (definitionVariable t k ∷ [])) x i (blocksAt t (suc (level t i - 1)))
+        (mem-blocksAt t tree (suc (level t i - 1)) i h n e) m))
+
+    binds-definition : (i : ℕ) → i < t .size → inner t i ≡ true → binds (prefixBlocks t) (definitionVariable t i) ≡ true
+    binds-definition i h n = level-own i _ h n (mem-right _ (newNames t i) _ (mem-head (definitionVariable t i) []))
+
+    binds-copy : (i x : ℕ) → i < t .size → inner t i ≡ true → mem x (copies t i) ≡ true → binds (prefixBlocks t) x ≡ true
+    unfolding prefixBlock
+    binds-copy i x h n m =
+        let l = inner-level t tree i h n in
+        let e : level t i ≡ suc (level t i - 1) = omega arith in
+        prefix-binds (level t i - 1) x (omega (arith, level-le-levels t tree i h)) (some-block i h (inner-block t i n))
+        (mem-right x (leading t (level t i - 1)) _
+        (mem-flatMap (copies t) x i (blocksAt t (suc (level t i - 1))) (mem-blocksAt t tree (suc (level t i - 1)) i h n e) m))
+
+    -- a root block's names are in prefix block 0
+    binds-name : (i x : ℕ) → i < t .size → isBlock (t .node i) ≡ true → mem x (newNames t i) ≡ true → binds (prefixBlocks t) x ≡ true
+    unfolding prefixBlock leading inner
+    binds-name i x h b m = go (look (eqb (suc i) (t .size)))
+      where
+        go : Is (eqb (suc i) (t .size)) → binds (prefixBlocks t) x ≡ true
+        go (is-true e) =
+            let s : i ≡ t .size - 1 = omega (arith, eqb-true (suc i) (t .size) e) in
+            prefix-binds 0 x (omega arith) (some-block i h b) (mem-left x _ _ (rw s at m))
+        go (is-false e) = level-own i x h (and-both _ _ b (ap not e)) (mem-left x _ _ m)
+
+-- the variables at the nodes of the form
+
+-- x is a free number of the table, or the prefix binds it
+data Source (t : Table) (x : ℕ) : Type 0 where
+  of-table : Stands t x → Source t x
+  of-prefix : binds (prefixBlocks t) x ≡ true → Source t x
+
+abbrev Sourced : Table → Node → Type 0
+Sourced t (constant b) = Unit {0}
+Sourced t (variable x) = Source t x
+Sourced t (negation a) = Unit {0}
+Sourced t (operator f a b) = Unit {0}
+Sourced t (block q xs a) = Unit {0}
+
+data AllSourced (t : Table) : List Node → Type 0 where
+  none : AllSourced t []
+  next : (nd : Node) {ns : List Node} → Sourced t nd → AllSourced t ns → AllSourced t (nd ∷ ns)
+
+sourced-at : (t : Table) (ns : List Node) → AllSourced t ns → (k : ℕ) → Sourced t (getD ns k (constant false))
+sourced-at t [] none k = tt
+sourced-at t (nd ∷ ns) (next _ p r) zero = p
+sourced-at t (nd ∷ ns) (next _ p r) (suc k) = sourced-at t ns r k
+
+of-variable : {t : Table} {x : ℕ} {ns : List Node} → Source t x → AllSourced t ns → AllSourced t (variable x ∷ ns)
+of-variable {t} {x} p r = next (variable x) p r
+
+of-operator : {t : Table} {f a b : ℕ} {ns : List Node} → AllSourced t ns → AllSourced t (operator f a b ∷ ns)
+of-operator {t} {f} {a} {b} r = next (operator f a b) tt r
+
+module _ (t : Table) where
+  append-sourced : (ms ns : List Node) → AllSourced t ms → AllSourced t ns → AllSourced t (ms ++ ns)
+  append-sourced [] ns none q = q
+  append-sourced (m ∷ ms) ns (next _ p r) q = next m p (append-sourced ms ns r q)
+
+  upTo-sourced : (g : ℕ → List Node) (n : ℕ) → ((i : ℕ) → i < n → AllSourced t (g i)) → AllSourced t (upTo g n)
+  unfolding upTo
+  upTo-sourced g zero h = none
+  upTo-sourced g (suc n) h = append-sourced (upTo g n) (g n) (upTo-sourced g n (λ i l. h i (omega arith))) (h n (omega arith))
+
+  pick-sourced : (b : Bool) (ms ns : List Node) → AllSourced t ms → AllSourced t ns → AllSourced t (pick b ms ns)
+  unfolding pick
+  pick-sourced true ms ns p q = p
+  pick-sourced false ms ns p q = q
+
+  wrap-sourced : (q : Quantifier) (m c : ℕ) → AllSourced t (wrap q m c ∷ [])
+  unfolding wrap
+  wrap-sourced exists m c = of-operator none
+  wrap-sourced for-all m c = of-operator none
+
+  module _ (tree : Tree t) where
+    new-sourced : (i x : ℕ) → i < t .size → t .node i ≡ variable x → Is (ltb (binder t i x) (t .size)) → Source t (newName t i x)
+    unfolding binder
+    new-sourced i x h e (is-true l) =
+        let k = ltb-true (binder t i x) (t .size) l in
+        of-prefix (binds-name t tree (binder t i x) (newName t i x) k (binder-block t tree i x k) (newName-bound t i x k))
+    new-sourced i x h e (is-false l) =
+        let k = ltb-false (binder t i x) (t .size) l in
+        let b : binder t i x ≡ t .size = omega (arith, lowest-le (λ b. isBlock (t .node b) && mem x (bound (t .node b)) && above t b i) (t .size)) in
+        rw (newName-free t i x b) (of-table (record { node = i; within = h; variable-is = e; unbound = b }))
+
+    renamed-sourced : (i : ℕ) → i < kept t → (nd : Node) → t .node i ≡ nd → Sourced t (renamed t i nd)
+    unfolding renamed isBlock
+    renamed-sourced i h (constant b) e = tt
+    renamed-sourced i h (variable x) e = new-sourced i x (omega (arith, kept-le t)) e (look _)
+    renamed-sourced i h (negation a) e = tt
+    renamed-sourced i h (operator f a b) e = tt
+    renamed-sourced i h (block q xs a) e = of-prefix (binds-definition t tree i (omega (arith, kept-le t)) (kept-inner t i h (ap isBlock e)))
+
+    first-sourced : AllSourced t (firstNodes t)
+    unfolding firstNodes
+    first-sourced =
+        upTo-sourced (λ i. renamed t i (t .node i) ∷ []) (kept t)
+        (λ i h. next (renamed t i (t .node i)) (renamed-sourced i h (t .node i) refl) none)
+
+    module _ (i : ℕ) (h : i < t .size) (n : inner t i ≡ true) where
+      mark-sourced : Source t (definitionVariable t i)
+      mark-sourced = of-prefix (binds-definition t tree i h n)
+
+      equation-sourced : (s k : ℕ) → k < count t i → AllSourced t (equation t i s k)
+      unfolding equation
+      equation-sourced s k l =
+          let x = getD (newNames t i) k 0 in
+          let y = getD (copies t i) k 0 in
+          let a : Source t x = of-prefix (binds-name t tree i x h (inner-block t i n) (mem-getD (newNames t i) k 0 (omega (arith, length-newNames t i)))) in
+          let b : Source t y = of-prefix (binds-copy t tree i y h n (mem-getD (copies t i) k 0 (omega (arith, length-copies t i)))) in
+          pick-sourced (eqb k 0) _ _ (of-variable a (of-variable b (of-operator none))) (of-variable a (of-variable b (of-operator (of-operator none))))
+
+      constraint-sourced : (s : ℕ) → AllSourced t (constraint t i s)
+      unfolding constraint
+      constraint-sourced s =
+          of-variable mark-sourced
+          (of-operator
+          (pick-sourced (eqb (count t i) 0) _ _ none
+          (append-sourced (upTo (equation t i (s + 2)) (count t i)) _
+          (upTo-sourced (equation t i (s + 2)) (count t i) (λ k l. equation-sourced (s + 2) k l))
+          (of-variable mark-sourced (of-operator (of-operator none))))))
+
+    -- inner blocks
+    abbrev Inner : List ℕ → Type 0
+    Inner is = (i : ℕ) → mem i is ≡ true → (i < t .size) × (inner t i ≡ true)
+
+    further-sourced : (is : List ℕ) (s : ℕ) → Inner is → AllSourced t (further t is s)
+    unfolding further
+    further-sourced [] s h = none
+    further-sourced (i ∷ is) s h =
+        let r = h i (mem-head i is) in
+        append-sourced (constraint t i s) _ (constraint-sourced i (r .0) (r .1) s)
+        (of-operator (further-sourced is _ (λ j m. h j (mem-tail j i is m))))
+
+    constraints-sourced : (is : List ℕ) (s : ℕ) → Inner is → AllSourced t (constraints t is s)
+    unfolding constraints
+    constraints-sourced [] s h = none
+    constraints-sourced (i ∷ is) s h =
+        let r = h i (mem-head i is) in
+        append-sourced (constraint t i s) _ (constraint-sourced i (r .0) (r .1) s) (further-sourced is _ (λ j m. h j (mem-tail j i is m)))
+
+    nodes-sourced : (j : ℕ) → AllSourced t (nodesTo t j)
+    unfolding nodesTo levelNodes
+    nodes-sourced zero = first-sourced
+    nodes-sourced (suc j) =
+        append-sourced (nodesTo t j) _ (nodes-sourced j)
+        (append-sourced (constraints t (blocksAt t (suc j)) (length (nodesTo t j))) _
+        (constraints-sourced (blocksAt t (suc j)) _ (λ i m. (blocksAt-lt t tree (suc j) i m, blocksAt-inner t tree (suc j) i m)))
+        (wrap-sourced (levelQuantifier t j) _ _))
+
+    -- the first nodes stand first
+    first-at : (j i : ℕ) → i < kept t → (i < length (nodesTo t j)) × (getD (nodesTo t j) i (constant false) ≡ renamed t i (t .node i))
+    unfolding nodesTo
+    first-at zero i h = (omega (arith, length-firstNodes t), getD-firstNodes t i h)
+    first-at (suc j) i h =
+        let r = first-at j i h in
+        let ns = nodesTo t j in
+        let ls = levelNodes t j (length ns) in
+        (omega (arith, r .0, length-append ns ls), List·getD-append ns ls (constant false) i (r .0) ∙ r .1)
+
+    -- a variable node is kept
+    variable-kept : (i x : ℕ) → i < t .size → t .node i ≡ variable x → i < kept t
+    unfolding isBlock kept
+    variable-kept i x h e = go (look (isBlock (t .node (t .size - 1))))
+      where
+        go : Is (isBlock (t .node (t .size - 1))) → i < t .size - pick (isBlock (t .node (t .size - 1))) 1 0
+        go (is-true b) =
+            let p = pick-yes {A = ℕ} (isBlock (t .node (t .size - 1))) 1 0 b in
+            let n : i ≡ t .size - 1 → ⊥ = λ s. clash (subst (λ k. isBlock (t .node k) ≡ true) (sym s) b) (ap isBlock e) in omega arith
+        go (is-false b) = omega (arith, pick-no {A = ℕ} (isBlock (t .node (t .size - 1))) 1 0 b)
+
+-- a table without blocks binds nothing
+plain-binder : (ns : List Node) → Plain ns → (i x : ℕ) → binder (listTable ns) i x ≡ listTable ns .size
+unfolding binder listTable
+plain-binder ns plain i x = lowest-none _ (length ns) (λ b h. rw (plain b h) refl)
+
+module _ (t : Table) (tree : Tree t) (x : ℕ) where
+  form-table : free (listTable (prenexNodes t)) x ≡ true → binds (prefixBlocks t) x ≡ false → free t x ≡ true
+  unfolding listTable prenexNodes
+  form-table h n =
+      let s = free-stands (listTable (prenexNodes t)) (prenex-tree t tree) x h in
+      let r : Source t x = subst (Sourced t) (s .variable-is) (sourced-at t (prenexNodes t) (nodes-sourced t tree (levels t)) (s .node)) in
+      go r
+    where
+      go : Source t x → free t x ≡ true
+      go (of-table s) = stands-free t tree x s
+      go (of-prefix b) = clash b n
+
+  table-form : free t x ≡ true → free (listTable (prenexNodes t)) x ≡ true
+  unfolding listTable prenexNodes renamed
+  table-form h =
+      let s = free-stands t tree x h in
+      let r = first-at t tree (levels t) (s .node) (variable-kept t tree (s .node) x (s .within) (s .variable-is)) in
+      let e : renamed t (s .node) (t .node (s .node)) ≡ variable x
+      = ap (renamed t (s .node)) (s .variable-is) ∙ ap variable (newName-free t (s .node) x (s .unbound)) in
+      stands-free (listTable (prenexNodes t)) (prenex-tree t tree) x
+      (record { node = s .node; within = r .0; variable-is = r .1 ∙ e; unbound = plain-binder (prenexNodes t) (prenex-plain t tree) (s .node) x })
+
+  table-unbound : free t x ≡ true → binds (prefixBlocks t) x ≡ false
+  table-unbound h =
+      let s = free-stands t tree x h in
+      absent _ (λ b. omega (arith, prefix-above t x b, variable-le t (s .node) x (s .within) (s .variable-is)))
+
+-- The written form has the table's free variables.
+pub same-free : (t : Table) → Proper t → (x : ℕ) → formFree (writtenNodes t) (writtenPrefix t) (writtenVariables t) x ≡ free t x
+unfolding formFree
+same-free t proper x =
+    let tree = proper .tree in
+    rw (prefix-read t, written-table t tree)
+    (same-test _ _
+    (λ h. form-table t tree x (and-left _ _ h) (and-not (free (listTable (prenexNodes t)) x) _ h))
+    (λ h. and-both _ _ (table-form t tree x h) (ap not (table-unbound t tree x h))))

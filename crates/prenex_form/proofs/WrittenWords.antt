@@ -1,0 +1,43 @@
+-- The words of the written nodes: whole nodes of kinds 1 to 4, a tree, and few.
+-- Assumes nothing.
+use mathlib.Core.Path.{_≡_, sym, _∙_, subst}
+use mathlib.Core.List.{[]}
+use Prim.Native.Nat.{ℕ, _+_, _*_, _≤_, _<_}
+use native.Mathlib.Omega.{arith}
+use lib.ListN.{length}
+use Rattle.formula.specs.Node.{Table}
+use Rattle.formula.specs.Words.{width, nodeCount, field, tableOf}
+use Rattle.formula.specs.Tree.{Tree}
+use Rattle.prenex_form.specs.Names.{boundCount}
+use Rattle.prenex_form.specs.Matrix.{prenexNodes, writtenNodes}
+use Rattle.prenex_form.specs.Prefix.{blockCount}
+use Rattle.prenex_form.specs.Sizes.{sizes}
+use Rattle.prenex_form.proofs.NodeLists.{words-count, words-whole, words-kinds}
+use Rattle.prenex_form.proofs.WrittenOrder.{prenex-plain, written-table}
+use Rattle.prenex_form.proofs.WrittenSizes.{length-prenexNodes, nodes-le, nodes-few}
+use Rattle.prenex_form.proofs.WrittenTree.{prenex-tree}
+
+module _ (t : Table) (tree : Tree t) where
+  pub written-whole : length (writtenNodes t) ≡ width * nodeCount (writtenNodes t)
+  unfolding writtenNodes
+  written-whole = words-whole (prenexNodes t)
+
+  written-length : nodeCount (writtenNodes t) ≡ length (prenexNodes t)
+  unfolding writtenNodes
+  written-length = words-count (prenexNodes t)
+
+  pub written-kinds : (i : ℕ) → i < nodeCount (writtenNodes t) → (1 ≤ field (writtenNodes t) i 0) × (field (writtenNodes t) i 0 ≤ 4)
+  unfolding writtenNodes
+  written-kinds i h = words-kinds (prenexNodes t) (prenex-plain t tree) i (rw words-count at h)
+
+  pub written-tree : Tree (tableOf (writtenNodes t) [])
+  written-tree = subst Tree (sym (written-table t tree)) (prenex-tree t tree)
+
+  pub written-count : nodeCount (writtenNodes t) ≡ sizes t .nodes
+  written-count = written-length ∙ length-prenexNodes t tree
+
+  pub written-bound : nodeCount (writtenNodes t) ≤ t .size + 5 * blockCount t + 4 * boundCount t
+  written-bound = omega (arith, written-count, nodes-le t)
+
+  pub written-few : t .size ≤ 4096 → boundCount t ≤ 4096 → nodeCount (writtenNodes t) ≤ 40960
+  written-few n q = omega (arith, written-count, nodes-few t n q)
