@@ -7,14 +7,13 @@ use mathlib.Core.List.{flatMap}
 use Prim.Native.Nat.{ℕ, suc, _+_, _-_, _<_}
 use native.Mathlib.Omega.{arith}
 use lib.Dec.{eqb}
-use lib.ListN.{length}
 use borrow.Author.Tests.{eqb-true, eq-eqb}
 use Rattle.lists.specs.Choice.{and-left, and-right, and-both}
 use Rattle.lists.specs.Search.{lowest}
 use Rattle.lists.specs.Members.{mem}
 use Rattle.lists.proofs.Search.{lowest-is}
 use Rattle.formula.specs.Node.{dual, Table}
-use Rattle.formula.specs.Tree.{Tree, count}
+use Rattle.formula.specs.Tree.{Tree}
 use Rattle.formula.specs.Valuation.{Valuation, quant}
 use Rattle.prenex_form.specs.Scope.{inner}
 use Rattle.prenex_form.specs.Names.{boundCount, newNames, copies, definitionVariable}
@@ -22,7 +21,7 @@ use Rattle.prenex_form.specs.Levels.{blocksAt, quantifierAt, levelQuanti
 use Rattle.prenex_form.specs.Matrix.{bodyOf}
 use Rattle.prenex_form.specs.Prefix.{leading}
 use Rattle.prenex_form.proofs.Cut.{valueAt, blockHolds, matrixAt}
-use Rattle.prenex_form.proofs.Level.{Blocks, Member, Unbound, Untouched, Separate, Blind, settled, settled-mark, settled-other, level-truth}
+use Rattle.prenex_form.proofs.Level.{Blocks, Separate, Blind, settled, settled-mark, settled-other, level-truth}
 use Rattle.prenex_form.proofs.Paths.{blocksAt-lt, blocksAt-inner}
 use Rattle.prenex_form.proofs.NameLaws.{length-newNames, length-copies, copies-shift, newNames-le, copies-above, copies-le, definition-above, newNames-apart, definition-apart}
 use Rattle.prenex_form.proofs.Seen.{body-blind, matrix-blind}

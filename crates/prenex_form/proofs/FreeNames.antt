@@ -3,13 +3,13 @@
 use mathlib.Core.Path.{_≡_, refl, sym, _∙_, ap, subst}
 use mathlib.Core.Bool.{Bool, true, false, not, _&&_, _||_}
 use mathlib.Core.List.{List, [], _∷_, _++_, flatMap}
-use Prim.Native.Nat.{ℕ, zero, suc, _+_, _-_, _*_, _≤_, _<_}
+use Prim.Native.Nat.{ℕ, zero, suc, _+_, _-_, _≤_, _<_}
 use native.Mathlib.Omega.{arith}
 use native.Mathlib.Nat.{not-suc-le-zero}
 use lib.Dec.{eqb, ltb}
 use lib.ListN.{length, getD, length-append, List·getD-append}
 use borrow.Author.Tests.{eqb-true, eqb-false, eq-eqb, ne-eqb, ltb-true, ltb-false, not-true}
-use Rattle.lists.specs.Choice.{pick, pick-yes, pick-no, Is, is-true, is-false, look, clash, and-left, and-right, and-both, or-neither}
+use Rattle.lists.specs.Choice.{pick, pick-yes, pick-no, Is, is-true, is-false, look, clash, and-left, and-right, and-both}
 use Rattle.lists.specs.Members.{mem}
 use Rattle.lists.specs.Parts.{upTo}
 use Rattle.lists.proofs.Search.{lowest-le, lowest-none}
@@ -22,13 +22,14 @@ use Rattle.formula.specs.Form.{Block, binds, formFree}
 use Rattle.formula.proofs.Unfolding.{freeAt-node}
 use Rattle.prenex_form.specs.Scope.{binder, inner, level, above, parent}
 use Rattle.prenex_form.specs.Names.{highestNumber, newNames, newName, copies, definitionVariable}
-use Rattle.prenex_form.specs.Levels.{blocksAt, levels, quantifierAt, levelQuantifier}
-use Rattle.prenex_form.specs.Matrix.{and, kept, renamed, firstNodes, bodyOf, equation, guard, constraint, further, constraints, wrap, levelNodes, nodesTo, prenexNodes, writtenNodes}
+use Rattle.prenex_form.specs.Levels.{blocksAt, levels, levelQuantifier}
+use Rattle.prenex_form.specs.Matrix.{kept, renamed, firstNodes, equation, constraint, further, constraints, wrap, levelNodes, nodesTo, prenexNodes, writtenNodes}
 use Rattle.prenex_form.specs.Prefix.{blockCount, leading, prefixBlock, prefixBlocks, writtenPrefix, writtenVariables}
-use Rattle.prenex_form.proofs.Paths.{climb, parent-lt, parent-names, binder-root, binder-step, binder-block, inner-lt, inner-level, level-le-levels, mem-blocksAt, blocksAt-lt, blocksAt-inner}
+use Rattle.prenex_form.proofs.Paths.{or-right, or-cases, climb, parent-lt, parent-names, binder-root, binder-step, binder-block, inner-level, level-le-levels, mem-blocksAt, blocksAt-lt, blocksAt-inner}
 use Rattle.prenex_form.proofs.NameLaws.{variable-le, length-newNames, length-copies, newNames-above, copies-above, definition-above, newName-free, newName-bound}
+use Rattle.prenex_form.proofs.Seen.{inner-block}
 use Rattle.prenex_form.proofs.NodeLists.{listTable, Plain}
-use Rattle.prenex_form.proofs.Written.{length-firstNodes, getD-firstNodes, kept-le, kept-ge, kept-root, kept-inner, inner-block}
+use Rattle.prenex_form.proofs.Written.{length-firstNodes, getD-firstNodes, kept-le, kept-inner}
 use Rattle.prenex_form.proofs.WrittenOrder.{prenex-plain, written-table}
 use Rattle.prenex_form.proofs.WrittenTree.{prenex-tree}
 use Rattle.prenex_form.proofs.PrefixNames.{prefix-read}
@@ -40,14 +41,6 @@ absent false h = refl
 
 or-left : (a b : Bool) → a ≡ true → (a || b) ≡ true
 or-left a b h = rw h
-
-or-right : (a b : Bool) → b ≡ true → (a || b) ≡ true
-or-right true b h = refl
-or-right false b h = h
-
-or-cases : {P : Type 0} (a b : Bool) → (a || b) ≡ true → (a ≡ true → P) → (b ≡ true → P) → P
-or-cases true b h f g = f refl
-or-cases false b h f g = g h
 
 and-not : (a b : Bool) → (a && not b) ≡ true → b ≡ false
 and-not true true h = sym h
@@ -61,10 +54,10 @@ same-test false false f g = refl
 
 -- the free numbers of a tree
 
--- x is free in an operand of the node, and the node does not bind it
+-- Why x is free in a node: it stands there, or it is free in an operand and the node does not bind it.
 data Through (at : ℕ → Bool) (x : ℕ) (nd : Node) : Type 0 where
-  through : (a : ℕ) → mem a (operands nd) ≡ true → at a ≡ true → (isBlock nd && mem x (bound nd)) ≡ false → Through at x nd
   here : nd ≡ variable x → Through at x nd
+  through : (a : ℕ) → mem a (operands nd) ≡ true → at a ≡ true → (isBlock nd && mem x (bound nd)) ≡ false → Through at x nd
 
 free-through : (at : ℕ → Bool) (x : ℕ) (nd : Node) → nodeFree at x nd ≡ true → Through at x nd
 unfolding nodeFree operands isBlock bound
@@ -93,7 +86,7 @@ through-free at x (operator f a b) i m h n =
     (λ k. or-right (at a) (at b) (one-operand i b at k h))
 through-free at x (block q xs a) i m h n = and-both _ _ (ap not n) (one-operand i a at m h)
 
--- x stands at a variable node that no block above binds
+-- x stands at a variable node, and no block above the node binds it. In a tree this is what `free` says: free-stands, stands-free.
 pub record Stands (t : Table) (x : ℕ) : Type 0 where
   pub node : ℕ
   pub within : node < t .size
@@ -276,6 +269,7 @@ data Source (t : Table) (x : ℕ) : Type 0 where
   of-table : Stands t x → Source t x
   of-prefix : binds (prefixBlocks t) x ≡ true → Source t x
 
+-- the variable of a variable node has a source
 abbrev Sourced : Table → Node → Type 0
 Sourced t (constant b) = Unit {0}
 Sourced t (variable x) = Source t x
@@ -366,7 +360,7 @@ module _ (t : Table) where
           (upTo-sourced (equation t i (s + 2)) (count t i) (λ k l. equation-sourced (s + 2) k l))
           (of-variable mark-sourced (of-operator (of-operator none))))))
 
-    -- inner blocks
+    -- every number of the list is that of an inner block
     abbrev Inner : List ℕ → Type 0
     Inner is = (i : ℕ) → mem i is ≡ true → (i < t .size) × (inner t i ≡ true)
 

@@ -11,7 +11,7 @@ use lib.ListN.{length, getD, length-append, List·getD-append}
 use lib.Seq.{getD-append-add}
 use Rattle.lists.specs.Choice.{pick, clash}
 use Rattle.formula.specs.Node.{Node, constant, variable, negation, operator, block, Table, isBlock}
-use Rattle.formula.specs.Words.{width, nodeCount, field, nodeOf, nodeAt, tableOf}
+use Rattle.formula.specs.Words.{nodeCount, field, nodeOf, nodeAt, tableOf}
 use Rattle.formula.specs.Valuation.{Valuation}
 use Rattle.formula.specs.Truth.{digit, operatorValue, nodeValue, value, truth}
 use Rattle.prenex_form.specs.Matrix.{nodeWords}
@@ -25,7 +25,7 @@ abbrev pub Plain : List Node → Type 0
 Plain ns = (i : ℕ) → i < length ns → isBlock (getD ns i (constant false)) ≡ false
 
 -- the words of a list of nodes, read back
-length-words : (ns : List Node) → length (flatMap nodeWords ns) ≡ 4 * length ns
+pub length-words : (ns : List Node) → length (flatMap nodeWords ns) ≡ 4 * length ns
 unfolding flatMap nodeWords
 length-words [] = refl
 length-words (constant b ∷ ns) = omega (arith, length-words ns)
@@ -36,9 +36,6 @@ length-words (block q xs a ∷ ns) = omega (arith, length-words ns)
 
 pub words-count : (ns : List Node) → nodeCount (flatMap nodeWords ns) ≡ length ns
 words-count ns = omega (arith, length-words ns)
-
-pub words-whole : (ns : List Node) → length (flatMap nodeWords ns) ≡ width * nodeCount (flatMap nodeWords ns)
-words-whole ns = length-words ns ∙ ap (λ (n : ℕ). 4 * n) (sym (words-count ns))
 
 -- four words further on
 field-next : (a b c d : ℕ) (ws : List ℕ) (i f : ℕ) → field (a ∷ b ∷ c ∷ d ∷ ws) (suc i) f ≡ field ws i f
@@ -77,7 +74,7 @@ words-none : (i : ℕ) → nodeAt [] [] i ≡ constant false
 unfolding nodeAt field nodeOf pick
 words-none i = refl
 
--- kinds 1 to 4
+-- every node's kind is 1 to 4
 kind-first : (nd : Node) (ns : List Node) → isBlock nd ≡ false
     → (1 ≤ field (flatMap nodeWords (nd ∷ ns)) 0 0) × (field (flatMap nodeWords (nd ∷ ns)) 0 0 ≤ 4)
 unfolding flatMap nodeWords field isBlock
@@ -95,12 +92,12 @@ kind-next (negation a) ns i = field-next _ _ _ _ _ i 0
 kind-next (operator f a b) ns i = field-next _ _ _ _ _ i 0
 kind-next (block q xs a) ns i = field-next _ _ _ _ _ i 0
 
-pub words-kinds : (ns : List Node) → Plain ns → (i : ℕ) → i < length ns
+pub kinds-plain : (ns : List Node) → Plain ns → (i : ℕ) → i < length ns
     → (1 ≤ field (flatMap nodeWords ns) i 0) × (field (flatMap nodeWords ns) i 0 ≤ 4)
-words-kinds [] plain i h = absurd (not-suc-le-zero h)
-words-kinds (nd ∷ ns) plain zero h = kind-first nd ns (plain zero h)
-words-kinds (nd ∷ ns) plain (suc i) h =
-    rw (kind-next nd ns i) (words-kinds ns (λ j l. plain (suc j) (omega arith)) i (omega arith))
+kinds-plain [] plain i h = absurd (not-suc-le-zero h)
+kinds-plain (nd ∷ ns) plain zero h = kind-first nd ns (plain zero h)
+kinds-plain (nd ∷ ns) plain (suc i) h =
+    rw (kind-next nd ns i) (kinds-plain ns (λ j l. plain (suc j) (omega arith)) i (omega arith))
 
 -- beyond the end too, both read as constant 0
 pub words-read : (ns : List Node) → Plain ns → (i : ℕ) → nodeAt (flatMap nodeWords ns) [] i ≡ getD ns i (constant false)

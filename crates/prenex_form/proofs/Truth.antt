@@ -1,34 +1,33 @@
 -- The prenex form of a table has the table's truth value under every valuation (document 01, "Truth and size").
 -- Assumes nothing.
 use mathlib.Core.Path.{_≡_, refl, sym, _∙_, ap, fun-ext}
-use mathlib.Core.Bool.{Bool, true, false, _&&_}
+use mathlib.Core.Bool.{Bool, true, false}
 use mathlib.Core.List.{List, [], _∷_, _++_, flatMap}
 use Prim.Native.Nat.{ℕ, zero, suc, _-_, _<_}
 use native.Mathlib.Omega.{arith}
-use lib.Dec.{eqb, ltb, leb}
-use lib.ListN.{length}
+use lib.Dec.{eqb, ltb}
 use borrow.Author.Tests.{eqb-true, ltb-true, ltb-false}
 use Rattle.lists.specs.Choice.{pick, pick-yes, pick-no, Is, is-true, is-false, look, clash, and-left}
 use Rattle.lists.specs.Members.{mem}
 use Rattle.lists.specs.Parts.{upTo, numbers}
 use Rattle.lists.proofs.Members.{mem-head}
 use Rattle.lists.proofs.Parts.{term-le}
-use Rattle.formula.specs.Node.{Quantifier, Node, constant, variable, negation, operator, block, Table, operands, isBlock}
+use Rattle.formula.specs.Node.{Table, isBlock}
 use Rattle.formula.specs.Tree.{Tree, Proper, count}
 use Rattle.formula.specs.Valuation.{Valuation, quant}
 use Rattle.formula.specs.Truth.{truth}
 use Rattle.formula.specs.Form.{Block, quantify, formTruth}
 use Rattle.formula.proofs.Quantify.{quant-append, quant-cong}
-use Rattle.formula.proofs.Unfolding.{Lower, value-block}
-use Rattle.prenex_form.specs.Scope.{inner, level}
-use Rattle.prenex_form.specs.Names.{firstName, newNames, copies, definitionVariable}
+use Rattle.prenex_form.specs.Scope.{inner}
+use Rattle.prenex_form.specs.Names.{firstName, newNames, copies}
 use Rattle.prenex_form.specs.Levels.{blocksAt, levels, quantifierAt, levelQuantifier}
-use Rattle.prenex_form.specs.Matrix.{kept, bodyOf, writtenNodes}
+use Rattle.prenex_form.specs.Matrix.{kept, writtenNodes}
 use Rattle.prenex_form.specs.Prefix.{blockCount, leading, prefixBlock, prefixBlocks, writtenPrefix, writtenVariables}
-use Rattle.prenex_form.proofs.Cut.{cutNode, cut, valueAt, matrixAt}
+use Rattle.prenex_form.proofs.Cut.{valueAt, matrixAt}
 use Rattle.prenex_form.proofs.Paths.{inner-lt, level-le-levels, blocksAt-lt, blocksAt-inner, blocksAt-level, level-nonempty, root-body}
 use Rattle.prenex_form.proofs.NameLaws.{none-bound}
 use Rattle.prenex_form.proofs.Renaming.{renamed-truth}
+use Rattle.prenex_form.proofs.Seen.{value-real}
 use Rattle.prenex_form.proofs.Exchange.{exchange}
 use Rattle.prenex_form.proofs.PrefixNames.{prefix-read}
 use Rattle.prenex_form.proofs.WrittenOrder.{matrix-truth}
@@ -49,23 +48,6 @@ empty (x ∷ xs) h = absurd (h x (mem-head x xs))
 absent : (a : Bool) → (a ≡ true → ⊥) → a ≡ false
 absent true h = absurd (h refl)
 absent false h = refl
-
--- a cut table names no node that the table does not name
-cut-operands : (t : Table) (c i : ℕ) (nd : Node) (a : ℕ) → mem a (operands (cutNode t c i nd)) ≡ true → mem a (operands nd) ≡ true
-unfolding cutNode operands pick mem
-cut-operands t c i (constant b) a m = m
-cut-operands t c i (variable x) a m = m
-cut-operands t c i (negation b) a m = m
-cut-operands t c i (operator f b d) a m = m
-cut-operands t c i (block q xs b) a m = go (inner t i && leb (level t i) c) m
-  where
-    go : (k : Bool) → mem a (operands (pick k (variable (definitionVariable t i)) (block q (newNames t i) b))) ≡ true → mem a (b ∷ []) ≡ true
-    go true m = clash m refl
-    go false m = m
-
-cut-lower : (t : Table) → Tree t → (c : ℕ) → Lower (cut t c .node) (t .size)
-unfolding cut
-cut-lower t tree c i a h m = tree .lower i a h (cut-operands t c i (t .node i) a m)
 
 module _ (t : Table) (tree : Tree t) where
   -- the matrix after j levels, under what the form binds for the last of them
@@ -115,25 +97,13 @@ module _ (t : Table) (tree : Tree t) where
   unfolding newNames count numbers
   root-names b = ap (numbers (firstName t (t .size - 1))) (none-bound (t .node (t .size - 1)) b)
 
-  root-block : (nd : Node) → t .node (t .size - 1) ≡ nd → isBlock nd ≡ true → (v : Valuation)
-      → quant (quantifierAt nd) (newNames t (t .size - 1)) (valueAt t 0 (bodyOf nd)) v ≡ valueAt t 0 (t .size - 1) v
-  unfolding quantifierAt bodyOf isBlock valueAt cut cutNode
-  root-block (constant b) e h v = clash h refl
-  root-block (variable x) e h v = clash h refl
-  root-block (negation a) e h v = clash h refl
-  root-block (operator f a b) e h v = clash h refl
-  root-block (block q xs a) e h v =
-      let k = tree .nonempty in
-      sym (value-block (cut t 0) (cut-lower t tree 0) (t .size - 1) (omega arith) v q (newNames t (t .size - 1)) a
-      (ap (cutNode t 0 (t .size - 1)) e ∙ pick-no _ _ _ (rw root-outer refl)))
-
   root-value : (v : Valuation) → Is (isBlock (t .node (t .size - 1))) → bound-matrix 0 v ≡ valueAt t 0 (t .size - 1) v
   unfolding bound-matrix levelQuantifier leading matrixAt quant
   root-value v (is-true b) =
       let k = tree .nonempty in
       ap (λ a. quant (quantifierAt (t .node (t .size - 1))) (newNames t (t .size - 1)) (valueAt t 0 a) v)
       (sym (root-body t tree (t .size - 1) (omega arith) b))
-      ∙ root-block (t .node (t .size - 1)) refl b v
+      ∙ sym (value-real t tree 0 (t .size - 1) (omega arith) b (rw root-outer refl) v)
   root-value v (is-false b) =
       ap (λ xs. quant (quantifierAt (t .node (t .size - 1))) xs (valueAt t 0 (kept t - 1)) v) (root-names b)
       ∙ ap (λ n. valueAt t 0 (n - 1) v) (root-other b)

@@ -20,6 +20,7 @@ use Rattle.prenex_form.specs.Scope.{inner}
 use Rattle.prenex_form.specs.Levels.{blocksAt, levels, levelQuantifier}
 use Rattle.prenex_form.specs.Matrix.{and, kept, renamed, firstNodes, bodyOf, equation, constraint, further, constraints, wrap, levelNodes, nodesTo, prenexNodes}
 use Rattle.prenex_form.proofs.Paths.{root-body, kept-positive}
+use Rattle.prenex_form.proofs.PrefixNames.{sum-first}
 use Rattle.prenex_form.proofs.NodeLists.{listTable}
 use Rattle.prenex_form.proofs.Written.{equation-first, equation-next, closing, constraint-bare, constraint-full, length-constraint-bare, length-constraint-full, length-constraint-ge, length-constraints-ge, length-firstNodes, kept-root, kept-inner, level-some}
 use Rattle.prenex_form.proofs.WrittenOrder.{prenex-lower, prenex-nonempty}
@@ -317,16 +318,11 @@ module _ (i : ℕ) (t : Table) (tree : Tree t) where
       omega (arith, r .0, sum-blocks t tree (body i t), first-named)
 
 -- the same, counted in the table
-sum-front : (f : ℕ → ℕ) (n : ℕ) → sum f (suc n) ≡ f 0 + sum (λ j. f (suc j)) n
-unfolding sum
-sum-front f zero = omega arith
-sum-front f (suc n) = omega (arith, sum-front f n)
-
 table-named : (i : ℕ) (ns : List Node) → sum (λ j. times i (operands (getD ns j (constant false)))) (length ns) ≡ named i ns
 unfolding named
 table-named i [] = sum-none _ 0 (λ j h. absurd (not-suc-le-zero h))
 table-named i (nd ∷ ns) =
-    sum-front (λ j. times i (operands (getD (nd ∷ ns) j (constant false)))) (length ns)
+    sum-first (λ j. times i (operands (getD (nd ∷ ns) j (constant false)))) (length ns)
     ∙ ap (λ (n : ℕ). times i (operands nd) + n) (table-named i ns)
 
 module _ (t : Table) (tree : Tree t) where

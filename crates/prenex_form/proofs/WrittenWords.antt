@@ -12,7 +12,7 @@ use Rattle.prenex_form.specs.Names.{boundCount}
 use Rattle.prenex_form.specs.Matrix.{prenexNodes, writtenNodes}
 use Rattle.prenex_form.specs.Prefix.{blockCount}
 use Rattle.prenex_form.specs.Sizes.{sizes}
-use Rattle.prenex_form.proofs.NodeLists.{words-count, words-whole, words-kinds}
+use Rattle.prenex_form.proofs.NodeLists.{length-words, words-count, kinds-plain}
 use Rattle.prenex_form.proofs.WrittenOrder.{prenex-plain, written-table}
 use Rattle.prenex_form.proofs.WrittenSizes.{length-prenexNodes, nodes-le, nodes-few}
 use Rattle.prenex_form.proofs.WrittenTree.{prenex-tree}
@@ -20,7 +20,7 @@ use Rattle.prenex_form.proofs.WrittenTree.{prenex-tree}
 module _ (t : Table) (tree : Tree t) where
   pub written-whole : length (writtenNodes t) ≡ width * nodeCount (writtenNodes t)
   unfolding writtenNodes
-  written-whole = words-whole (prenexNodes t)
+  written-whole = omega (arith, length-words (prenexNodes t))
 
   written-length : nodeCount (writtenNodes t) ≡ length (prenexNodes t)
   unfolding writtenNodes
@@ -28,7 +28,7 @@ module _ (t : Table) (tree : Tree t) where
 
   pub written-kinds : (i : ℕ) → i < nodeCount (writtenNodes t) → (1 ≤ field (writtenNodes t) i 0) × (field (writtenNodes t) i 0 ≤ 4)
   unfolding writtenNodes
-  written-kinds i h = words-kinds (prenexNodes t) (prenex-plain t tree) i (rw words-count at h)
+  written-kinds i h = kinds-plain (prenexNodes t) (prenex-plain t tree) i (rw words-count at h)
 
   pub written-tree : Tree (tableOf (writtenNodes t) [])
   written-tree = subst Tree (sym (written-table t tree)) (prenex-tree t tree)
