@@ -1,7 +1,7 @@
 -- What measuring and lifting answer and leave in the lent buffers (document 01, "When the lifter says no").
 -- Assumes nothing.
 use mathlib.Core.Bool.{Bool, _||_}
-use mathlib.Core.List.{List}
+use mathlib.Core.List.{List, [], _∷_}
 use Prim.Native.Nat.{ℕ, _*_}
 use lib.Dec.{eqb, ltb}
 use lib.ListN.{length}
@@ -25,6 +25,11 @@ refusal number position = record { number = number; position = position; sizes =
 -- "the number (0 is done), the place (0 if done) and the sizes"
 unfoldable pub done : Sizes → Answer
 done s = record { number = 0; position = 0; sizes = s }
+
+-- An answer as words: number, position, and the sizes in document 01's order.
+unfoldable pub answerWords : Answer → List ℕ
+answerWords a =
+    a .number ∷ a .position ∷ a .sizes .n ∷ a .sizes .b ∷ a .sizes .q ∷ a .sizes .depth ∷ a .sizes .nodes ∷ a .sizes .blocks ∷ a .sizes .entries ∷ []
 
 -- "Measuring never gives 9."
 unfoldable pub measured : List ℕ → List ℕ → Answer
