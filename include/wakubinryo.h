@@ -1,0 +1,144 @@
+/*
+ * wakubinryo: quantified Boolean formulas to prenex form.
+ *
+ * FORMULA TABLES
+ *
+ * A formula table is a run of 32-bit words, four to a node, and a list of
+ * variable numbers. Nodes count from 0, the last node is the root, and fields
+ * not named here are 0.
+ *
+ *   kind  meaning        fields
+ *   1     constant       value 0 or 1
+ *   2     variable       its number, 1 to 65,535
+ *   3     not            operand
+ *   4     operator       truth table 0 to 15, left, right
+ *   5     exists block   first list entry, count, body
+ *   6     for-all block  first list entry, count, body
+ *
+ * An operator's value is bit (2 * left + right) of its truth table: and is 8,
+ * or 14, xor 6, biconditional 9, left implies right 11. A block binds the
+ * `count` entries of the list from `first` on, its range. A count may be 0 and
+ * ranges may overlap; entries in no range are never looked at. Operands and
+ * bodies have lower indices than the node that names them, and each node but
+ * the last is named exactly once.
+ *
+ * In what follows n is the number of nodes, b of blocks, q the sum of their
+ * counts and d the quantifier depth: the largest number of blocks on a path
+ * from the root.
+ *
+ * PRENEX FORMS
+ *
+ * A prenex form is a run of nodes of kinds 1 to 4, four words each, the last
+ * being its root; a prefix of blocks, three words each (kind 5 or 6, first,
+ * count); and a list of prefix variables, in which the blocks' ranges follow
+ * one another. Block 0 is the outermost. Names in a form may pass 65,535.
+ *
+ * ANSWERS AND REFUSALS
+ *
+ * answer[0] is the number: 0 if done, else the first of these that applies.
+ * answer[1] is the position: the node that the refusal speaks of, else 0.
+ * The other words are sizes, all 0 on refusal.
+ *
+ *   number  given when                                                position
+ *   1       there are no words, or not a multiple of four             0
+ *   2       over 4,096 nodes or list entries                          0
+ *   3       a kind not 1 to 6, or a constant, variable number, truth  node
+ *           table or unused field outside its range
+ *   4       an operand or body at or above its own node               node
+ *   5       first + count passes the end of the list                  node
+ *   6       this block's count brings the sum of counts over 4,096    node
+ *   7       an entry of the range is outside 1 to 65,535, or stands   node
+ *           in this range twice
+ *   8       the lowest node below the last that isn't named exactly   node
+ *           once
+ *   9       an output buffer is shorter than the size needed          0
+ *
+ * Order: 1, 2; then the nodes upward, each tested for 3 to 7 in this order;
+ * then 8; then 9. Nothing else is ever refused.
+ *
+ * MEMORY
+ *
+ * All lengths count 32-bit words. A call reads the words and the list lent to
+ * it, writes the answer and the buffers lent to it, and touches nothing else:
+ * it allocates nothing and keeps nothing. On refusal no buffer has changed,
+ * whatever the buffers held. If done, a buffer's words after the last one
+ * written keep their content. Pointers are aligned and not null, even where
+ * the length is 0, and what is written must not overlap anything else lent.
+ */
+#ifndef WAKUBINRYO_H
+#define WAKUBINRYO_H
+
+#include <stddef.h>
+#include <stdint.h>
+
+#ifdef __cplusplus
+extern "C" {
+#endif
+
+/*
+ * Measures a table.
+ *
+ * Numbers 0 to 8; measuring never gives 9. If done, the sizes are
+ *
+ *   answer[2]  n, nodes of the table
+ *   answer[3]  b, its blocks
+ *   answer[4]  q, the sum of their counts
+ *   answer[5]  d, the quantifier depth
+ *   answer[6]  nodes of the prenex form      (4 words each)
+ *   answer[7]  prefix blocks of the form     (3 words each)
+ *   answer[8]  prefix variables of the form  (1 word each)
+ *
+ * and the last three are exactly what wakubinryo_lift writes.
+ */
+void wakubinryo_measure(const uint32_t *words, size_t words_len,
+                        const uint32_t *list, size_t list_len,
+                        uint32_t answer[9]);
+
+/*
+ * Lifts a table: writes its prenex form.
+ *
+ * Numbers 0 to 9. If done, the sizes are those of wakubinryo_measure, and
+ *
+ *   nodes      holds the form's nodes,            4 * answer[6] words
+ *   prefix     holds the form's prefix blocks,    3 * answer[7] words
+ *   variables  holds the form's prefix variables, answer[8] words
+ *
+ * It gives 9 exactly if the table is accepted and one of the three buffers is
+ * shorter than that.
+ *
+ * The form has the table's truth value under every valuation, that is, for
+ * all values of the variables. Its prefix variables are distinct, and none of
+ * them stands at a variable node of the table or in a block's range. It has at
+ * most
+ *
+ *   n + 5 b + 4 q  nodes,
+ *   2 q + b        prefix variables,
+ *   d + 1          prefix blocks, and none if the table has no blocks.
+ *
+ * A table always gives the same form, whatever the buffers held.
+ */
+void wakubinryo_lift(const uint32_t *words, size_t words_len,
+                     const uint32_t *list, size_t list_len,
+                     uint32_t *nodes, size_t nodes_len,
+                     uint32_t *prefix, size_t prefix_len,
+                     uint32_t *variables, size_t variables_len,
+                     uint32_t answer[9]);
+
+/*
+ * Lists a table's free variables: the numbers that stand at a variable node
+ * and in no block's range.
+ *
+ * Numbers 0 to 9. If done, answer[2] is how many they are, and names holds
+ * them, ascending and once each. It gives 9 exactly if the table is accepted
+ * and names is shorter than that; 2,048 words are always enough.
+ */
+void wakubinryo_free_variables(const uint32_t *words, size_t words_len,
+                               const uint32_t *list, size_t list_len,
+                               uint32_t *names, size_t names_len,
+                               uint32_t answer[3]);
+
+#ifdef __cplusplus
+}
+#endif
+
+#endif

@@ -1,0 +1,28 @@
+//! Links libwakubinryo.a from ../target/staticlib, or from the folder named by
+//! the environment variable WAKUBINRYO_LIB_DIR.
+
+use std::env;
+use std::path::PathBuf;
+
+fn main() {
+    println!("cargo:rerun-if-env-changed=WAKUBINRYO_LIB_DIR");
+    let folder = match env::var_os("WAKUBINRYO_LIB_DIR") {
+        Some(folder) => PathBuf::from(folder),
+        None => {
+            let package = env::var_os("CARGO_MANIFEST_DIR").expect("set by cargo");
+            PathBuf::from(package).join("../target/staticlib")
+        }
+    };
+    let library = folder.join("libwakubinryo.a");
+    println!("cargo:rerun-if-changed={}", library.display());
+    if !library.is_file() {
+        panic!(
+            "{} is missing: run `rt staticlib wakubinryo` in the repository's root",
+            library.display()
+        );
+    }
+    println!("cargo:rustc-link-search=native={}", folder.display());
+    println!("cargo:rustc-link-lib=static=wakubinryo");
+    // For the test that links the C example.
+    println!("cargo:rustc-env=WAKUBINRYO_LIBRARY={}", library.display());
+}

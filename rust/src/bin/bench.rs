@@ -1,0 +1,135 @@
+//! Times measure and lift, the library beside the reference.
+//!
+//!     cargo run --release --bin bench          the four families
+//!     cargo run --release --bin bench -- all   and leaves bound far above them
+
+use std::hint::black_box;
+use std::time::{Duration, Instant};
+use wakubinryo::generate::{bound_climb, Family, Table, FAMILIES};
+use wakubinryo::{reference, PrenexForm, Refusal, Sizes};
+
+const NODES: [usize; 3] = [1024, 2048, 4096];
+const ROUNDS: usize = 20;
+const RUNS: usize = 50;
+const WARM_UP: usize = 10;
+
+type Measure = fn(&[u32], &[u32]) -> Result<Sizes, Refusal>;
+type Lift = fn(&[u32], &[u32], &mut [u32], &mut [u32], &mut [u32]) -> Result<Sizes, Refusal>;
+
+/// One measure and one lift into the buffers as they are.
+fn run(measure: Measure, lift: Lift, table: &Table, form: &mut PrenexForm) -> Duration {
+    let start = Instant::now();
+    let (words, list) = black_box((table.words.as_slice(), table.list.as_slice()));
+    let measured = black_box(measure(words, list));
+    let lifted = black_box(lift(
+        words,
+        list,
+        &mut form.nodes,
+        &mut form.prefix,
+        &mut form.variables,
+    ));
+    let time = start.elapsed();
+    assert!(measured.is_ok() && measured == lifted);
+    time
+}
+
+fn median(times: &mut [Duration]) -> f64 {
+    times.sort();
+    times[times.len() / 2].as_secs_f64() * 1e6
+}
+
+/// A table, and for library and reference a form to write and times.
+struct Bench {
+    table: Table,
+    sizes: Sizes,
+    forms: [PrenexForm; 2],
+    times: [Vec<Duration>; 2],
+}
+
+impl Bench {
+    fn new(table: Table) -> Bench {
+        let sizes = reference::measure(&table.words, &table.list).expect("accepted");
+        Bench {
+            table,
+            sizes,
+            forms: [(); 2].map(|()| PrenexForm::with_sizes(&sizes)),
+            times: [Vec::new(), Vec::new()],
+        }
+    }
+
+    /// Some runs, library and reference in turn.
+    fn round(&mut self) {
+        let sides: [(Measure, Lift); 2] = [
+            (wakubinryo::measure, wakubinryo::lift),
+            (reference::measure, reference::lift),
+        ];
+        for turn in 0..WARM_UP + RUNS {
+            for (side, (measure, lift)) in sides.into_iter().enumerate() {
+                let time = run(measure, lift, &self.table, &mut self.forms[side]);
+                if turn >= WARM_UP {
+                    self.times[side].push(time);
+                }
+            }
+        }
+        assert!(
+            self.forms[0] == self.forms[1],
+            "library and reference differ"
+        );
+    }
+
+    /// Median times in microseconds.
+    fn medians(&mut self) -> [f64; 2] {
+        [median(&mut self.times[0]), median(&mut self.times[1])]
+    }
+}
+
+fn main() {
+    let all = std::env::args().nth(1).is_some_and(|word| word == "all");
+    let mut families: Vec<(&str, Family)> = FAMILIES.to_vec();
+    if all {
+        families.push(("climb, leaves bound", bound_climb));
+    }
+    println!("One measure and one lift of a table: the library beside the reference, an");
+    println!("implementation in plain Rust. Same input, same process, run in turn; both built");
+    println!(
+        "for release; buffers not cleared in between. Times are medians of {} runs, in",
+        ROUNDS * RUNS
+    );
+    println!("{ROUNDS} rounds of {RUNS} after {WARM_UP} to warm up. Ratio is library over reference; growth is");
+    println!("the time over that at half the nodes.");
+    if cfg!(debug_assertions) {
+        println!("NOT BUILT FOR RELEASE: these figures mean nothing.");
+    }
+    println!();
+    println!(
+        "                            nodes   library  reference           growth of  growth of"
+    );
+    println!(
+        "family               nodes  written      us         us   ratio     library  reference"
+    );
+    for (name, family) in families {
+        let mut benches = NODES.map(|nodes| Bench::new(family(nodes)));
+        // Rounds go through the sizes in turn, so that a slow spell of the
+        // machine falls on all of them.
+        for _ in 0..ROUNDS {
+            benches.iter_mut().for_each(Bench::round);
+        }
+        let mut before: Option<[f64; 2]> = None;
+        for bench in &mut benches {
+            let [library, plain] = bench.medians();
+            let growth = match before {
+                Some([l, p]) => format!("{:>11.2} {:>10.2}", library / l, plain / p),
+                None => String::new(),
+            };
+            let Sizes {
+                nodes, form_nodes, ..
+            } = bench.sizes;
+            let line = format!(
+                "{name:<20} {nodes:>5} {form_nodes:>8} {library:>7.1} {plain:>10.1} {:>7.2} {growth}",
+                library / plain
+            );
+            println!("{}", line.trim_end());
+            before = Some([library, plain]);
+        }
+    }
+}

@@ -1,0 +1,789 @@
+//! Tables to try: random accepted ones, damaged ones, and the families of the
+//! benchmark. The same seed always gives the same tables.
+
+use crate::answer::{Reason, Refusal};
+use crate::reference::{HIGHEST, LIMIT};
+
+/// A small generator of pseudo-random numbers (splitmix64).
+pub struct Rng(u64);
+
+impl Rng {
+    pub fn new(seed: u64) -> Rng {
+        Rng(seed)
+    }
+
+    pub fn bits(&mut self) -> u64 {
+        self.0 = self.0.wrapping_add(0x9E37_79B9_7F4A_7C15);
+        let mut z = self.0;
+        z = (z ^ z >> 30).wrapping_mul(0xBF58_476D_1CE4_E5B9);
+        z = (z ^ z >> 27).wrapping_mul(0x94D0_49BB_1331_11EB);
+        z ^ z >> 31
+    }
+
+    /// A number below `n`, which is not 0.
+    pub fn below(&mut self, n: usize) -> usize {
+        (self.bits() % n as u64) as usize
+    }
+
+    /// A number from `low` to `high`, both included.
+    pub fn between(&mut self, low: usize, high: usize) -> usize {
+        low + self.below(high - low + 1)
+    }
+
+    pub fn one_in(&mut self, n: usize) -> bool {
+        self.below(n) == 0
+    }
+
+    pub fn pick<T: Copy>(&mut self, from: &[T]) -> T {
+        from[self.below(from.len())]
+    }
+}
+
+/// A formula table: four words a node, and a list of variable numbers.
+#[derive(Clone, Debug, Default, PartialEq, Eq)]
+pub struct Table {
+    pub words: Vec<u32>,
+    pub list: Vec<u32>,
+}
+
+impl Table {
+    pub fn new(nodes: &[[u32; 4]], list: &[u32]) -> Table {
+        Table {
+            words: nodes.concat(),
+            list: list.to_vec(),
+        }
+    }
+
+    pub fn len(&self) -> usize {
+        self.words.len() / 4
+    }
+
+    pub fn is_empty(&self) -> bool {
+        self.words.is_empty()
+    }
+
+    pub fn node(&self, i: usize) -> [u32; 4] {
+        self.words[4 * i..4 * i + 4].try_into().expect("four words")
+    }
+
+    pub fn node_mut(&mut self, i: usize) -> &mut [u32] {
+        &mut self.words[4 * i..4 * i + 4]
+    }
+
+    /// Adds a node and gives its index.
+    pub fn push(&mut self, node: [u32; 4]) -> u32 {
+        self.words.extend(node);
+        self.len() as u32 - 1
+    }
+
+    fn variable(&mut self, number: u32) -> u32 {
+        self.push([2, number, 0, 0])
+    }
+
+    fn not(&mut self, operand: u32) -> u32 {
+        self.push([3, operand, 0, 0])
+    }
+
+    fn operator(&mut self, truth_table: u32, left: u32, right: u32) -> u32 {
+        self.push([4, truth_table, left, right])
+    }
+
+    /// Adds a block whose range is new in the list.
+    fn block(&mut self, kind: u32, numbers: &[u32], body: u32) -> u32 {
+        let first = self.list.len() as u32;
+        self.list.extend(numbers);
+        self.push([kind, first, numbers.len() as u32, body])
+    }
+
+    fn blocks(&self) -> Vec<usize> {
+        self.where_kind(|kind| kind == 5 || kind == 6)
+    }
+
+    fn where_kind(&self, wanted: impl Fn(u32) -> bool) -> Vec<usize> {
+        (0..self.len())
+            .filter(|&i| wanted(self.node(i)[0]))
+            .collect()
+    }
+
+    fn range(&self, block: usize) -> std::ops::Range<usize> {
+        let [_, first, count, _] = self.node(block);
+        first as usize..(first + count) as usize
+    }
+}
+
+/// Which of the nodes that nothing names yet become operands.
+#[derive(Clone, Copy, Debug)]
+pub enum Order {
+    /// The newest: nodes come in post-order, and trees are deep.
+    Newest,
+    /// The oldest: nodes come by height, and trees are flat.
+    Oldest,
+    /// Any: nodes come in no particular order.
+    Any,
+    /// The newest or any.
+    Mixed,
+}
+
+/// What a random table is made of.
+#[derive(Clone, Debug)]
+pub struct Profile {
+    pub nodes: usize,
+    /// Numbers at variable nodes and in ranges, all different.
+    pub numbers: Vec<u32>,
+    pub order: Order,
+    /// How often leaves, nots, operators and blocks come.
+    pub weights: [usize; 4],
+    /// The largest count of a block.
+    pub most_count: usize,
+    /// The largest sum of counts.
+    pub most_bound: usize,
+}
+
+impl Profile {
+    /// Something of everything, over a table of this many nodes.
+    pub fn random(rng: &mut Rng, nodes: usize) -> Profile {
+        let many = match rng.below(4) {
+            0 => rng.between(1, 3),
+            1 => rng.between(4, 12),
+            _ => rng.between(1, 2 * nodes.min(1500) + 2),
+        };
+        let order = rng.pick(&[Order::Newest, Order::Oldest, Order::Any, Order::Mixed]);
+        let weights = rng.pick(&[
+            [4, 1, 3, 1],
+            [4, 1, 3, 3],
+            [2, 1, 1, 6],
+            [6, 0, 1, 3],
+            [5, 2, 4, 0],
+            [1, 1, 1, 20],
+            [1, 1, 1, 200],
+        ]);
+        let most_count = match rng.below(8) {
+            0 => 0,
+            1 => 1,
+            2 | 3 => 3,
+            4 | 5 => 10,
+            6 => 100,
+            _ => LIMIT,
+        };
+        Profile {
+            nodes,
+            numbers: numbers(rng, many),
+            order,
+            weights,
+            most_count,
+            most_bound: LIMIT,
+        }
+    }
+
+    /// A table small enough for brute force.
+    pub fn tiny(rng: &mut Rng) -> Profile {
+        let nodes = rng.between(1, 16);
+        let many = rng.between(1, 4);
+        Profile {
+            numbers: numbers(rng, many),
+            most_count: rng.between(1, 3),
+            most_bound: rng.between(0, 5),
+            weights: rng.pick(&[[4, 1, 3, 2], [3, 1, 2, 3], [4, 2, 2, 4], [5, 1, 4, 1]]),
+            ..Profile::random(rng, nodes)
+        }
+    }
+}
+
+/// Different variable numbers: the lowest, the highest, or spread out.
+fn numbers(rng: &mut Rng, many: usize) -> Vec<u32> {
+    let mut numbers: Vec<u32> = match rng.below(4) {
+        0 | 1 => (1..=many as u32).collect(),
+        2 => (0..many as u32).map(|k| HIGHEST - k).collect(),
+        _ => {
+            let step = HIGHEST / many as u32;
+            let offset = rng.between(1, step as usize) as u32;
+            (0..many as u32).map(|k| k * step + offset).collect()
+        }
+    };
+    shuffle(rng, &mut numbers);
+    numbers
+}
+
+fn shuffle<T>(rng: &mut Rng, items: &mut [T]) {
+    for i in (1..items.len()).rev() {
+        items.swap(i, rng.below(i + 1));
+    }
+}
+
+/// An entry for places of the list that no block covers, or a number in play.
+fn any_entry(rng: &mut Rng, numbers: &[u32]) -> u32 {
+    match rng.below(6) {
+        0 => 0,
+        1 => 65_536,
+        2 => u32::MAX,
+        3 => rng.bits() as u32,
+        _ => rng.pick(numbers),
+    }
+}
+
+fn is_variable(entry: u32) -> bool {
+    (1..=HIGHEST).contains(&entry)
+}
+
+/// Chooses a block's range, in the list as it is or in new entries of it.
+fn choose_range(
+    rng: &mut Rng,
+    profile: &Profile,
+    list: &mut Vec<u32>,
+    bound: usize,
+) -> (usize, usize) {
+    let most = profile.most_count.min(profile.most_bound - bound);
+    if most == 0 || rng.one_in(10) {
+        return (rng.below(list.len() + 1), 0);
+    }
+    let high = if rng.one_in(3) { most } else { most.min(3) };
+    let wanted = rng.between(1, high);
+    if !list.is_empty() && rng.one_in(2) {
+        // Overlap what is there, as far as it may stand in one range.
+        let first = rng.below(list.len());
+        let mut seen = std::collections::HashSet::new();
+        let count = list[first..]
+            .iter()
+            .take(wanted)
+            .take_while(|&&entry| is_variable(entry) && seen.insert(entry))
+            .count();
+        if count > 0 || rng.one_in(4) {
+            return (first, count);
+        }
+    }
+    while list.len() < LIMIT && rng.one_in(4) {
+        list.push(any_entry(rng, &profile.numbers));
+    }
+    let count = wanted.min(profile.numbers.len()).min(LIMIT - list.len());
+    let first = list.len();
+    let start = rng.below(profile.numbers.len());
+    let cycle = profile.numbers.iter().cycle();
+    list.extend(cycle.skip(start).take(count));
+    if rng.one_in(2) {
+        list[first..].reverse();
+    }
+    (first, count)
+}
+
+/// A random accepted table.
+pub fn accepted(rng: &mut Rng, profile: &Profile) -> Table {
+    let mut table = Table::default();
+    let mut bound = 0;
+    // Nodes that nothing names yet. In the end the root alone is left.
+    let mut unnamed: Vec<u32> = Vec::new();
+    for emitted in 0..profile.nodes {
+        let left = profile.nodes - emitted;
+        let take = |rng: &mut Rng, unnamed: &mut Vec<u32>| {
+            let newest = unnamed.len() - 1;
+            let at = match profile.order {
+                Order::Newest => newest,
+                Order::Oldest => 0,
+                Order::Any => rng.below(unnamed.len()),
+                Order::Mixed => {
+                    if rng.one_in(4) {
+                        rng.below(unnamed.len())
+                    } else {
+                        newest
+                    }
+                }
+            };
+            unnamed.remove(at)
+        };
+        // What may come so that the nodes left can still name all but the root.
+        let many = unnamed.len();
+        let allowed = [many < left, many > 0 && many <= left, many > 1];
+        let [leaf, not, operator, block] = profile.weights;
+        let leaf = if allowed[0] { leaf } else { 0 };
+        let (not, block) = if allowed[1] { (not, block) } else { (0, 0) };
+        let operator = if allowed[2] { operator } else { 0 };
+        let (leaf, not, operator) = match leaf + not + operator + block {
+            0 if many == 0 => (1, 0, 0),
+            0 if many == 1 => (0, 1, 0),
+            0 => (0, 0, 1),
+            _ => (leaf, not, operator),
+        };
+        let choice = rng.below(leaf + not + operator + block);
+        let node = if choice < leaf {
+            if rng.one_in(8) {
+                [1, rng.below(2) as u32, 0, 0]
+            } else {
+                [2, rng.pick(&profile.numbers), 0, 0]
+            }
+        } else if choice < leaf + not {
+            [3, take(rng, &mut unnamed), 0, 0]
+        } else if choice < leaf + not + operator {
+            let one = take(rng, &mut unnamed);
+            let other = take(rng, &mut unnamed);
+            let (left, right) = if rng.one_in(2) {
+                (one, other)
+            } else {
+                (other, one)
+            };
+            [4, rng.below(16) as u32, left, right]
+        } else {
+            let (first, count) = choose_range(rng, profile, &mut table.list, bound);
+            bound += count;
+            let body = take(rng, &mut unnamed);
+            [rng.pick(&[5, 6]), first as u32, count as u32, body]
+        };
+        let index = table.push(node);
+        unnamed.push(index);
+    }
+    assert_eq!(unnamed.len(), 1);
+    while table.list.len() < LIMIT && rng.one_in(3) {
+        table.list.push(any_entry(rng, &profile.numbers));
+    }
+    table
+}
+
+/// Values at the edges of the ranges that fields have.
+pub const EDGES: [u32; 18] = [
+    0,
+    1,
+    2,
+    3,
+    15,
+    16,
+    4095,
+    4096,
+    4097,
+    65_535,
+    65_536,
+    0x3FFF_FFFF,
+    0x4000_0000,
+    0x7FFF_FFFF,
+    0x8000_0000,
+    u32::MAX - 3,
+    u32::MAX - 1,
+    u32::MAX,
+];
+
+/// An accepted table with one to four words changed to anything.
+pub fn mutated(rng: &mut Rng, profile: &Profile) -> Table {
+    let mut table = accepted(rng, profile);
+    for _ in 0..rng.between(1, 4) {
+        let value = match rng.below(3) {
+            0 => rng.pick(&EDGES),
+            1 => rng.bits() as u32,
+            _ => rng.below(table.len() + 2) as u32,
+        };
+        if table.list.is_empty() || !rng.one_in(3) {
+            let at = rng.below(table.words.len());
+            table.words[at] = value;
+        } else {
+            let at = rng.below(table.list.len());
+            table.list[at] = value;
+        }
+    }
+    table
+}
+
+/// A table with the fault named, and the refusal it must get. None if the
+/// random table at hand had no place for that fault.
+pub fn damaged(rng: &mut Rng, profile: &Profile, reason: Reason) -> Option<(Table, Refusal)> {
+    let mut table = accepted(rng, profile);
+    let position = match reason {
+        Reason::PartialNode => {
+            let rest = rng.between(1, 3);
+            match rng.below(3) {
+                0 => table.words.clear(),
+                1 => table.words.extend(&[2, 1, 0][..rest]),
+                _ => table.words.truncate(table.words.len() - rest),
+            }
+            0
+        }
+        Reason::TooLarge => {
+            let over = LIMIT + rng.pick(&[1, 1, 2, 100]);
+            if rng.one_in(2) {
+                table.words.resize(4 * over, rng.pick(&EDGES));
+            } else {
+                table.list.resize(over, rng.pick(&EDGES));
+            }
+            0
+        }
+        Reason::MalformedNode => {
+            let i = rng.below(table.len());
+            let [kind, ..] = table.node(i);
+            let over = |rng: &mut Rng, edges: &[u32]| match rng.below(3) {
+                0 => edges[0],
+                _ => rng.pick(edges),
+            };
+            let wrong_kind = [
+                7,
+                0,
+                8,
+                4096,
+                u32::MAX,
+                kind + 8,
+                kind + 256,
+                kind | 1 << 31,
+            ];
+            let high = [1, 2, 65_536, 0x8000_0000, u32::MAX];
+            let (field, value) = match (kind, rng.below(4)) {
+                (_, 0) => (0, rng.pick(&wrong_kind)),
+                (1, 1) => (1, over(rng, &[2, 3, 0x8000_0000, u32::MAX])),
+                (2, 1) => (1, over(rng, &[65_536, 0, 65_537, 0x8000_0001, u32::MAX])),
+                (4, _) => (1, over(rng, &[16, 17, 255, 0x8000_0008, u32::MAX])),
+                (1..=3, choice) => (2 + choice % 2, over(rng, &high)),
+                _ => (0, rng.pick(&wrong_kind)),
+            };
+            table.node_mut(i)[field] = value;
+            i
+        }
+        Reason::ForwardReference => {
+            let users = table.where_kind(|kind| kind >= 3);
+            let i = *users.get(rng.below(users.len().max(1)))?;
+            let field = match table.node(i)[0] {
+                3 => 1,
+                4 => rng.pick(&[2, 3]),
+                _ => 3,
+            };
+            let (own, end) = (i as u32, table.len() as u32);
+            // 0x4000_0000 and its like are low again once multiplied by four.
+            let wrong = [
+                own,
+                own + 1,
+                end - 1,
+                end,
+                u32::MAX,
+                0x4000_0000,
+                0x8000_0000,
+            ];
+            table.node_mut(i)[field] = rng.pick(&wrong).max(own);
+            i
+        }
+        Reason::RangePastEnd => {
+            let blocks = table.blocks();
+            let i = *blocks.get(rng.below(blocks.len().max(1)))?;
+            let [_, first, count, _] = table.node(i);
+            let end = table.list.len() as u32;
+            let (first, count) = match rng.below(8) {
+                0 => (end - count + 1, count),
+                1 => (first, end - first + 1),
+                2 => (u32::MAX, count),
+                3 => (u32::MAX, u32::MAX),
+                4 => (1, u32::MAX),
+                5 => (end + 1, 0),
+                6 => (0x8000_0000, 0x8000_0000),
+                _ => (first.max(1), u32::MAX - first.max(1) + 1),
+            };
+            if first.checked_add(count).is_some_and(|sum| sum <= end) {
+                return None;
+            }
+            table.node_mut(i)[1..3].copy_from_slice(&[first, count]);
+            i
+        }
+        Reason::TooManyVariables => return Some(too_many(rng)),
+        Reason::BadVariable => {
+            let mut blocks = table.blocks();
+            blocks.retain(|&i| !table.range(i).is_empty());
+            let i = *blocks.get(rng.below(blocks.len().max(1)))?;
+            let range = table.range(i);
+            let at = rng.between(range.start, range.end - 1);
+            if range.len() > 1 && rng.one_in(2) {
+                let from = if at == range.start { at + 1 } else { at - 1 };
+                let from = if rng.one_in(2) {
+                    from
+                } else {
+                    rng.between(range.start, range.end - 1)
+                };
+                if from == at {
+                    return None;
+                }
+                table.list[at] = table.list[from];
+            } else {
+                table.list[at] = rng.pick(&[0, 65_536, 65_537, 0x8000_0001, u32::MAX]);
+            }
+            first_bad_range(&table)
+        }
+        Reason::NotATree => {
+            if table.len() < LIMIT && rng.one_in(4) {
+                // The root is left alone below a new root.
+                table.push([1, 1, 0, 0]);
+                table.len() - 2
+            } else {
+                let users = table.where_kind(|kind| kind >= 3);
+                let i = *users.get(rng.below(users.len().max(1)))?;
+                let field = match table.node(i)[0] {
+                    3 => 1,
+                    4 => rng.pick(&[2, 3]),
+                    _ => 3,
+                };
+                let before = table.node(i)[field] as usize;
+                let now = rng.below(i);
+                if now == before {
+                    return None;
+                }
+                table.node_mut(i)[field] = now as u32;
+                before.min(now)
+            }
+        }
+        Reason::BufferTooShort => return None,
+    };
+    Some((table, reason.at(position)))
+}
+
+/// The first block with a fault in its range.
+fn first_bad_range(table: &Table) -> usize {
+    let bad = |&i: &usize| {
+        let range = &table.list[table.range(i)];
+        let repeated = |k: usize| range[..k].contains(&range[k]);
+        (0..range.len()).any(|k| !is_variable(range[k]) || repeated(k))
+    };
+    table
+        .blocks()
+        .into_iter()
+        .find(bad)
+        .expect("one was damaged")
+}
+
+/// Blocks over overlapping ranges whose counts pass 4,096 together.
+fn too_many(rng: &mut Rng) -> (Table, Refusal) {
+    let mut table = Table {
+        words: Vec::new(),
+        list: (1..=LIMIT as u32).collect(),
+    };
+    let most = rng.pick(&[LIMIT, 2049, 600, 60]);
+    let mut last = table.variable(1);
+    let mut bound = 0;
+    let mut position = None;
+    for _ in 0..rng.between(2, 3) + 2 * LIMIT / most {
+        let count = match LIMIT - bound {
+            // Once at the limit itself, now and then, then past it by one.
+            left if left > 0 && left < most && rng.one_in(2) => left,
+            left if left < most && rng.one_in(2) => left + 1,
+            _ => rng.between(most / 2, most),
+        };
+        let first = rng.between(0, LIMIT - count.min(LIMIT));
+        let count = count.min(LIMIT);
+        last = table.push([rng.pick(&[5, 6]), first as u32, count as u32, last]);
+        if bound + count > LIMIT {
+            position.get_or_insert(last as usize);
+        } else if position.is_none() {
+            bound += count;
+        }
+        if rng.one_in(3) {
+            last = table.not(last);
+        }
+    }
+    match position {
+        Some(position) => (table, Reason::TooManyVariables.at(position)),
+        None => too_many(rng),
+    }
+}
+
+/// The table of one family of the benchmark, with this many nodes exactly.
+pub type Family = fn(usize) -> Table;
+
+/// The families of the benchmark.
+pub const FAMILIES: [(&str, Family); 4] = [
+    ("comparator chain", comparator_chain),
+    ("deep nest", deep_nest),
+    ("wide row of blocks", wide_row),
+    ("climb", climb),
+];
+
+/// Puts nots on the root until the table has `nodes` nodes.
+fn fill_up(mut table: Table, nodes: usize) -> Table {
+    assert!(table.len() <= nodes);
+    while table.len() < nodes {
+        let root = table.len() as u32 - 1;
+        table.not(root);
+    }
+    table
+}
+
+/// x < y bit by bit from the lowest: x free, y bound eight bits at a time,
+/// exists and for-all in turn.
+pub fn comparator_chain(nodes: usize) -> Table {
+    const STAGE: u32 = 8;
+    let mut table = Table::default();
+    let mut less = table.push([1, 0, 0, 0]);
+    let mut kind = 5;
+    for stage in 0.. {
+        if table.len() + 9 * STAGE as usize + 1 > nodes {
+            break;
+        }
+        let bits = stage * STAGE + 1..=(stage + 1) * STAGE;
+        for bit in bits.clone() {
+            let (x, y) = (2 * bit, 2 * bit + 1);
+            let left = table.variable(x);
+            let left = table.not(left);
+            let right = table.variable(y);
+            let here = table.operator(8, left, right);
+            let left = table.variable(x);
+            let right = table.variable(y);
+            let same = table.operator(9, left, right);
+            let before = table.operator(8, same, less);
+            less = table.operator(14, here, before);
+        }
+        let bound: Vec<u32> = bits.map(|bit| 2 * bit + 1).collect();
+        less = table.block(kind, &bound, less);
+        kind = 11 - kind;
+    }
+    fill_up(table, nodes)
+}
+
+/// One block in another, each with a variable of its own.
+pub fn deep_nest(nodes: usize) -> Table {
+    let mut table = Table::default();
+    let mut body = table.push([1, 1, 0, 0]);
+    for number in 1.. {
+        if table.len() + 3 > nodes {
+            break;
+        }
+        let variable = table.variable(number);
+        let joined = table.operator(if number % 2 == 0 { 9 } else { 6 }, variable, body);
+        body = table.block(5 + number % 2, &[number], joined);
+    }
+    fill_up(table, nodes)
+}
+
+/// Blocks side by side, two variables each.
+pub fn wide_row(nodes: usize) -> Table {
+    let mut table = Table::default();
+    let mut row = table.push([1, 1, 0, 0]);
+    for k in 1.. {
+        if table.len() + 5 > nodes {
+            break;
+        }
+        let left = table.variable(2 * k);
+        let right = table.variable(2 * k + 1);
+        let body = table.operator(9, left, right);
+        let block = table.block(5 + k % 2, &[2 * k, 2 * k + 1], body);
+        row = table.operator(8, row, block);
+    }
+    fill_up(table, nodes)
+}
+
+/// Many leaves under a nest of blocks: half of the nodes are blocks.
+fn leaves_under_nest(nodes: usize, leaf: impl Fn(u32) -> u32) -> Table {
+    let mut table = Table::default();
+    let mut body = table.variable(leaf(0));
+    for k in 1.. {
+        if table.len() + 2 > nodes / 2 {
+            break;
+        }
+        let variable = table.variable(leaf(k));
+        body = table.operator(6, body, variable);
+    }
+    for number in 1.. {
+        if table.len() == nodes {
+            break;
+        }
+        body = table.block(5 + number % 2, &[number], body);
+    }
+    table
+}
+
+/// Many free leaves under a deep nest; no block covers their numbers.
+pub fn climb(nodes: usize) -> Table {
+    leaves_under_nest(nodes, |k| nodes as u32 + k)
+}
+
+/// As `climb`, with every leaf bound by the outermost block.
+pub fn bound_climb(nodes: usize) -> Table {
+    let outermost = climb(nodes).blocks().len() as u32;
+    leaves_under_nest(nodes, |_| outermost)
+}
+
+#[cfg(test)]
+mod tests {
+    use super::*;
+    use crate::reference;
+
+    #[test]
+    fn random_tables_are_accepted() {
+        let mut rng = Rng::new(1);
+        for _ in 0..2000 {
+            let nodes = rng.between(1, 60);
+            let profile = Profile::random(&mut rng, nodes);
+            let table = accepted(&mut rng, &profile);
+            let sizes = reference::measure(&table.words, &table.list);
+            assert_eq!(sizes.map(|s| s.nodes as usize), Ok(nodes), "{table:?}");
+        }
+    }
+
+    /// Blocks above a node.
+    fn blocks_above(table: &Table, node: usize) -> Vec<usize> {
+        let mut above = Vec::new();
+        let mut below = node;
+        for i in node + 1..table.len() {
+            let operands = match table.node(i) {
+                [3, a, _, _] => [a, a],
+                [4, _, b, c] => [b, c],
+                [5 | 6, _, _, c] => [c, c],
+                _ => continue,
+            };
+            if operands.contains(&(below as u32)) {
+                below = i;
+                if table.node(i)[0] >= 5 {
+                    above.push(i);
+                }
+            }
+        }
+        above
+    }
+
+    #[test]
+    fn random_tables_have_every_feature() {
+        let mut counts = [0; 6];
+        let mut rng = Rng::new(2);
+        for _ in 0..1000 {
+            let nodes = rng.between(5, 60);
+            let profile = Profile::random(&mut rng, nodes);
+            let table = accepted(&mut rng, &profile);
+            let blocks = table.blocks();
+            let entries = |i: usize| &table.list[table.range(i)];
+            let covers = |i: &usize, number: &u32| entries(*i).contains(number);
+            let covered = |at: usize| blocks.iter().any(|&i| table.range(i).contains(&at));
+            let leaves = table.where_kind(|kind| kind == 2);
+            let features = [
+                // A variable below two blocks that bind its number.
+                leaves.iter().any(|&leaf| {
+                    let number = table.node(leaf)[1];
+                    let above = blocks_above(&table, leaf);
+                    above.iter().filter(|i| covers(i, &number)).count() > 1
+                }),
+                // Overlapping ranges.
+                blocks.iter().any(|&i| {
+                    let mut others = blocks.iter().filter(|&&j| j > i);
+                    others.any(|&j| table.range(i).any(|at| table.range(j).contains(&at)))
+                }),
+                // An empty block.
+                blocks.iter().any(|&i| table.range(i).is_empty()),
+                // One number at two places of the list, both covered.
+                (0..table.list.len()).any(|at| {
+                    let again = table.list[..at].iter().position(|e| *e == table.list[at]);
+                    covered(at) && again.is_some_and(covered)
+                }),
+                // An entry in no range that is no variable.
+                (0..table.list.len()).any(|at| !is_variable(table.list[at]) && !covered(at)),
+                // Not in post-order: an operand or body that isn't right below.
+                (1..table.len()).any(|i| match table.node(i) {
+                    [3, a, _, _] => a as usize != i - 1,
+                    [4, _, b, c] => b.max(c) as usize != i - 1,
+                    [5 | 6, _, _, c] => c as usize != i - 1,
+                    _ => false,
+                }),
+            ];
+            for (count, feature) in counts.iter_mut().zip(features) {
+                *count += u32::from(feature);
+            }
+        }
+        assert!(counts.iter().all(|&count| count > 100), "{counts:?}");
+    }
+
+    #[test]
+    fn families_have_the_nodes_asked_for() {
+        for nodes in [1024, 2048, 4096] {
+            for (name, family) in FAMILIES {
+                let table = family(nodes);
+                let sizes = reference::measure(&table.words, &table.list);
+                assert_eq!(sizes.map(|s| s.nodes as usize), Ok(nodes), "{name}");
+            }
+            let sizes = |table: Table| reference::measure(&table.words, &table.list).unwrap();
+            assert_eq!(sizes(bound_climb(nodes)), sizes(climb(nodes)));
+        }
+    }
+}

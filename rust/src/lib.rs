@@ -1,0 +1,193 @@
+//! A safe wrapper over the static library wakubinryo, and what its tests and
+//! its benchmark need: an implementation in plain Rust ([`reference`]), truth
+//! values by brute force ([`brute`]) and tables to try ([`generate`]).
+//!
+//! A formula table is a slice of words, four to a node, and a list of variable
+//! numbers. See `include/wakubinryo.h` for what each call promises.
+
+pub mod answer;
+pub mod brute;
+pub mod generate;
+pub mod reference;
+
+pub use answer::{Reason, Refusal, Sizes};
+
+mod ffi {
+    extern "C" {
+        pub fn wakubinryo_measure(
+            words: *const u32,
+            words_len: usize,
+            list: *const u32,
+            list_len: usize,
+            answer: *mut u32,
+        );
+        pub fn wakubinryo_lift(
+            words: *const u32,
+            words_len: usize,
+            list: *const u32,
+            list_len: usize,
+            nodes: *mut u32,
+            nodes_len: usize,
+            prefix: *mut u32,
+            prefix_len: usize,
+            variables: *mut u32,
+            variables_len: usize,
+            answer: *mut u32,
+        );
+        pub fn wakubinryo_free_variables(
+            words: *const u32,
+            words_len: usize,
+            list: *const u32,
+            list_len: usize,
+            names: *mut u32,
+            names_len: usize,
+            answer: *mut u32,
+        );
+    }
+}
+
+/// The calls as they are, with their answers as words.
+pub mod raw {
+    use super::ffi;
+
+    pub fn measure(words: &[u32], list: &[u32], answer: &mut [u32; 9]) {
+        // SAFETY: the call reads the two slices and writes the answer, no more.
+        unsafe {
+            ffi::wakubinryo_measure(
+                words.as_ptr(),
+                words.len(),
+                list.as_ptr(),
+                list.len(),
+                answer.as_mut_ptr(),
+            )
+        }
+    }
+
+    pub fn lift(
+        words: &[u32],
+        list: &[u32],
+        nodes: &mut [u32],
+        prefix: &mut [u32],
+        variables: &mut [u32],
+        answer: &mut [u32; 9],
+    ) {
+        // SAFETY: the call reads and writes the slices lent, no more, and
+        // exclusive borrows don't overlap.
+        unsafe {
+            ffi::wakubinryo_lift(
+                words.as_ptr(),
+                words.len(),
+                list.as_ptr(),
+                list.len(),
+                nodes.as_mut_ptr(),
+                nodes.len(),
+                prefix.as_mut_ptr(),
+                prefix.len(),
+                variables.as_mut_ptr(),
+                variables.len(),
+                answer.as_mut_ptr(),
+            )
+        }
+    }
+
+    pub fn free_variables(words: &[u32], list: &[u32], names: &mut [u32], answer: &mut [u32; 3]) {
+        // SAFETY: as above.
+        unsafe {
+            ffi::wakubinryo_free_variables(
+                words.as_ptr(),
+                words.len(),
+                list.as_ptr(),
+                list.len(),
+                names.as_mut_ptr(),
+                names.len(),
+                answer.as_mut_ptr(),
+            )
+        }
+    }
+}
+
+fn refusal(number: u32, position: u32) -> Refusal {
+    let reason = Reason::from_number(number).expect("the library answers 0 to 9");
+    Refusal { reason, position }
+}
+
+fn sizes(answer: [u32; 9]) -> Result<Sizes, Refusal> {
+    let [number, position, nodes, blocks, bound, depth, form_nodes, form_blocks, form_variables] =
+        answer;
+    if number != 0 {
+        return Err(refusal(number, position));
+    }
+    Ok(Sizes {
+        nodes,
+        blocks,
+        bound,
+        depth,
+        form_nodes,
+        form_blocks,
+        form_variables,
+    })
+}
+
+/// The sizes of a table and of its prenex form.
+pub fn measure(words: &[u32], list: &[u32]) -> Result<Sizes, Refusal> {
+    let mut answer = [0; 9];
+    raw::measure(words, list, &mut answer);
+    sizes(answer)
+}
+
+/// Writes a table's prenex form into three buffers: nodes of four words,
+/// prefix blocks of three, prefix variables.
+pub fn lift(
+    words: &[u32],
+    list: &[u32],
+    nodes: &mut [u32],
+    prefix: &mut [u32],
+    variables: &mut [u32],
+) -> Result<Sizes, Refusal> {
+    let mut answer = [0; 9];
+    raw::lift(words, list, nodes, prefix, variables, &mut answer);
+    sizes(answer)
+}
+
+/// Writes the numbers that stand at a variable node and in no block's range,
+/// ascending, and says how many they are.
+pub fn free_variables(words: &[u32], list: &[u32], names: &mut [u32]) -> Result<u32, Refusal> {
+    let mut answer = [0; 3];
+    raw::free_variables(words, list, names, &mut answer);
+    match answer {
+        [0, _, written] => Ok(written),
+        [number, position, _] => Err(refusal(number, position)),
+    }
+}
+
+/// A prenex form: nodes of four words, prefix blocks of three, variables.
+#[derive(Clone, Debug, Default, PartialEq, Eq)]
+pub struct PrenexForm {
+    pub nodes: Vec<u32>,
+    pub prefix: Vec<u32>,
+    pub variables: Vec<u32>,
+}
+
+impl PrenexForm {
+    /// Zeroed buffers of exactly the sizes that a table's form needs.
+    pub fn with_sizes(sizes: &Sizes) -> PrenexForm {
+        PrenexForm {
+            nodes: vec![0; 4 * sizes.form_nodes as usize],
+            prefix: vec![0; 3 * sizes.form_blocks as usize],
+            variables: vec![0; sizes.form_variables as usize],
+        }
+    }
+}
+
+/// Measures, allocates and lifts.
+pub fn prenex_form(words: &[u32], list: &[u32]) -> Result<PrenexForm, Refusal> {
+    let mut form = PrenexForm::with_sizes(&measure(words, list)?);
+    lift(
+        words,
+        list,
+        &mut form.nodes,
+        &mut form.prefix,
+        &mut form.variables,
+    )?;
+    Ok(form)
+}

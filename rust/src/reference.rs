@@ -1,0 +1,539 @@
+//! The three operations in plain Rust, independent of the static library: the
+//! other side of the comparison tests and of the benchmark.
+//!
+//! All passes are linear in nodes, list entries covered and words written.
+
+use crate::answer::{Reason, Refusal, Sizes};
+
+/// Most nodes, list entries and bound variables of a table.
+pub const LIMIT: usize = 4096;
+/// The highest variable number of a table.
+pub const HIGHEST: u32 = 65_535;
+
+const CONSTANT: u32 = 1;
+const VARIABLE: u32 = 2;
+const NOT: u32 = 3;
+const OPERATOR: u32 = 4;
+const EXISTS: u32 = 5;
+const FOR_ALL: u32 = 6;
+
+const AND: u32 = 8;
+const IFF: u32 = 9;
+const IMPLIES: u32 = 11;
+const OR: u32 = 14;
+
+type Node = [u32; 4];
+
+/// A set of variable numbers.
+struct NumberSet([u64; 1024]);
+
+impl NumberSet {
+    fn new() -> NumberSet {
+        NumberSet([0; 1024])
+    }
+
+    /// Adds a number up to 65,535 and says whether it was new.
+    fn insert(&mut self, number: u32) -> bool {
+        let word = &mut self.0[number as usize / 64];
+        let bit = 1 << (number % 64);
+        let new = *word & bit == 0;
+        *word |= bit;
+        new
+    }
+}
+
+/// What checking a table finds out on its way.
+struct Summary<'a> {
+    table: &'a [Node],
+    sizes: Sizes,
+    /// The highest number at a variable node or in a range, 0 if none.
+    highest: u32,
+    /// Count of the root if it is a block.
+    root_count: Option<u32>,
+}
+
+/// Tests a table for refusals 1 to 8.
+fn check<'a>(words: &'a [u32], list: &[u32]) -> Result<Summary<'a>, Refusal> {
+    let (table, rest) = words.as_chunks::<4>();
+    if table.is_empty() || !rest.is_empty() {
+        return Err(Reason::PartialNode.at(0));
+    }
+    if table.len() > LIMIT || list.len() > LIMIT {
+        return Err(Reason::TooLarge.at(0));
+    }
+    let mut uses = vec![0u16; table.len()];
+    // Quantifier depth of the subformula at each node.
+    let mut depth = vec![0u16; table.len()];
+    let mut seen = NumberSet::new();
+    let mut highest = 0;
+    let mut blocks = 0;
+    let mut bound = 0;
+    // Nodes that the blocks' definitions add to the form.
+    let mut added = 0;
+    for (i, &[kind, a, b, c]) in table.iter().enumerate() {
+        match kind {
+            CONSTANT => {
+                if a > 1 || b != 0 || c != 0 {
+                    return Err(Reason::MalformedNode.at(i));
+                }
+            }
+            VARIABLE => {
+                if a == 0 || a > HIGHEST || b != 0 || c != 0 {
+                    return Err(Reason::MalformedNode.at(i));
+                }
+                highest = highest.max(a);
+            }
+            NOT => {
+                if b != 0 || c != 0 {
+                    return Err(Reason::MalformedNode.at(i));
+                }
+                let operand = a as usize;
+                if operand >= i {
+                    return Err(Reason::ForwardReference.at(i));
+                }
+                uses[operand] += 1;
+                depth[i] = depth[operand];
+            }
+            OPERATOR => {
+                if a > 15 {
+                    return Err(Reason::MalformedNode.at(i));
+                }
+                let (left, right) = (b as usize, c as usize);
+                if left >= i || right >= i {
+                    return Err(Reason::ForwardReference.at(i));
+                }
+                uses[left] += 1;
+                uses[right] += 1;
+                depth[i] = depth[left].max(depth[right]);
+            }
+            EXISTS | FOR_ALL => {
+                let body = c as usize;
+                if body >= i {
+                    return Err(Reason::ForwardReference.at(i));
+                }
+                let (first, count) = (a as usize, b as usize);
+                if count > list.len() || first > list.len() - count {
+                    return Err(Reason::RangePastEnd.at(i));
+                }
+                if bound + count > LIMIT {
+                    return Err(Reason::TooManyVariables.at(i));
+                }
+                let range = &list[first..first + count];
+                for &number in range {
+                    if number == 0 || number > HIGHEST || !seen.insert(number) {
+                        return Err(Reason::BadVariable.at(i));
+                    }
+                    highest = highest.max(number);
+                }
+                for &number in range {
+                    seen.0[number as usize / 64] = 0;
+                }
+                uses[body] += 1;
+                depth[i] = depth[body] + 1;
+                blocks += 1;
+                bound += count;
+                added += definition_size(b);
+            }
+            _ => return Err(Reason::MalformedNode.at(i)),
+        }
+    }
+    let last = table.len() - 1;
+    if let Some(i) = uses[..last].iter().position(|&u| u != 1) {
+        return Err(Reason::NotATree.at(i));
+    }
+
+    let [kind, _, count, _] = table[last];
+    let root_count = matches!(kind, EXISTS | FOR_ALL).then_some(count);
+    let mut sizes = Sizes {
+        nodes: table.len() as u32,
+        blocks,
+        bound: bound as u32,
+        depth: depth[last].into(),
+        form_nodes: table.len() as u32 + added,
+        form_blocks: if blocks == 0 {
+            0
+        } else {
+            u32::from(depth[last]) + 1
+        },
+        form_variables: 2 * bound as u32 + blocks,
+    };
+    if let Some(count) = root_count {
+        // A root block goes, needs no definition and opens the prefix.
+        sizes.form_nodes -= 1 + definition_size(count);
+        sizes.form_blocks -= 1;
+        sizes.form_variables -= count + 1;
+    }
+    Ok(Summary {
+        table,
+        sizes,
+        highest,
+        root_count,
+    })
+}
+
+/// The number of nodes that define an inner block and join it to the matrix
+/// or to the definitions before it.
+fn definition_size(count: u32) -> u32 {
+    if count == 0 {
+        3
+    } else {
+        4 * count + 5
+    }
+}
+
+/// The sizes of a table and of its prenex form.
+pub fn measure(words: &[u32], list: &[u32]) -> Result<Sizes, Refusal> {
+    Ok(check(words, list)?.sizes)
+}
+
+/// A block and the names it is given. A root block has level 0 and neither
+/// copies nor a definition variable.
+struct Block {
+    kind: u32,
+    count: u32,
+    body: u32,
+    level: u32,
+    names: u32,
+    copies: u32,
+    definition: u32,
+}
+
+/// The nodes of a form, written one after the other.
+struct Nodes<'a> {
+    out: &'a mut [Node],
+    len: usize,
+}
+
+impl Nodes<'_> {
+    fn push(&mut self, node: Node) -> u32 {
+        let at = self.len;
+        self.out[at] = node;
+        self.len += 1;
+        at as u32
+    }
+
+    fn variable(&mut self, name: u32) -> u32 {
+        self.push([VARIABLE, name, 0, 0])
+    }
+
+    fn operator(&mut self, truth_table: u32, left: u32, right: u32) -> u32 {
+        self.push([OPERATOR, truth_table, left, right])
+    }
+}
+
+/// Prefix variables, written one after the other.
+struct Variables<'a> {
+    out: &'a mut [u32],
+    len: usize,
+}
+
+impl Variables<'_> {
+    /// Writes `count` names from `first` up.
+    fn push(&mut self, first: u32, count: u32) {
+        let end = self.len + count as usize;
+        for (out, name) in self.out[self.len..end].iter_mut().zip(first..) {
+            *out = name;
+        }
+        self.len = end;
+    }
+}
+
+/// Writes a table's prenex form into three buffers.
+pub fn lift(
+    words: &[u32],
+    list: &[u32],
+    nodes: &mut [u32],
+    prefix: &mut [u32],
+    variables: &mut [u32],
+) -> Result<Sizes, Refusal> {
+    let summary = check(words, list)?;
+    let sizes = summary.sizes;
+    let nodes_len = 4 * sizes.form_nodes as usize;
+    let prefix_len = 3 * sizes.form_blocks as usize;
+    let variables_len = sizes.form_variables as usize;
+    if nodes.len() < nodes_len || prefix.len() < prefix_len || variables.len() < variables_len {
+        return Err(Reason::BufferTooShort.at(0));
+    }
+    if sizes.blocks == 0 {
+        nodes[..words.len()].copy_from_slice(words);
+        return Ok(sizes);
+    }
+    let nodes = nodes[..nodes_len].as_chunks_mut::<4>().0;
+    let prefix = prefix[..prefix_len].as_chunks_mut::<3>().0;
+    let variables = &mut variables[..variables_len];
+
+    let kept = summary.table.len() - usize::from(summary.root_count.is_some());
+    let mut blocks = write_matrix(&summary, list, &mut nodes[..kept]);
+    // The root has the highest index, so a root block is the last.
+    let root = summary.root_count.and_then(|_| blocks.pop());
+    let levels = by_level(&blocks, sizes.form_blocks as usize - 1);
+    let outermost = root.as_ref().map_or(FOR_ALL, |root| root.kind);
+
+    write_definitions(
+        &levels,
+        outermost,
+        Nodes {
+            out: nodes,
+            len: kept,
+        },
+    );
+    write_prefix(&levels, outermost, root.as_ref(), prefix, variables);
+    Ok(sizes)
+}
+
+/// Writes the table's nodes but for a root block, with bound variables renamed
+/// and inner blocks replaced by their definition variables. Returns the blocks
+/// in node order.
+fn write_matrix(summary: &Summary, list: &[u32], out: &mut [Node]) -> Vec<Block> {
+    let table = summary.table;
+    let sizes = summary.sizes;
+    let inner_bound = sizes.bound - summary.root_count.unwrap_or(0);
+    let mut names = summary.highest + 1;
+    let mut copies = names + sizes.bound;
+    let mut definition = copies + inner_bound;
+    let mut blocks = Vec::with_capacity(sizes.blocks as usize);
+    let mut block_at = vec![0u16; table.len()];
+    for (i, &[kind, _, count, body]) in table.iter().enumerate() {
+        if kind == EXISTS || kind == FOR_ALL {
+            block_at[i] = blocks.len() as u16;
+            blocks.push(Block {
+                kind,
+                count,
+                body,
+                level: 0,
+                names,
+                copies,
+                definition,
+            });
+            names += count;
+            copies += count;
+            definition += 1;
+        }
+    }
+
+    out.copy_from_slice(&table[..out.len()]);
+
+    // From the root down, with the present name of every number at hand.
+    enum Step {
+        Enter(u32),
+        Leave(u32),
+    }
+    let mut name_of: Vec<u32> = (0..=summary.highest).collect();
+    let mut hidden = Vec::with_capacity(sizes.bound as usize);
+    let mut level = 0;
+    let mut steps = Vec::with_capacity(table.len());
+    let mut i = table.len() - 1;
+    loop {
+        let [kind, a, b, c] = table[i];
+        match kind {
+            VARIABLE => out[i][1] = name_of[a as usize],
+            NOT => {
+                i = a as usize;
+                continue;
+            }
+            OPERATOR => {
+                steps.push(Step::Enter(b));
+                i = c as usize;
+                continue;
+            }
+            EXISTS | FOR_ALL => {
+                let block = &mut blocks[block_at[i] as usize];
+                for (&number, name) in list[a as usize..][..b as usize].iter().zip(block.names..) {
+                    hidden.push(std::mem::replace(&mut name_of[number as usize], name));
+                }
+                if i < out.len() {
+                    level += 1;
+                    block.level = level;
+                    out[i] = [VARIABLE, block.definition, 0, 0];
+                    steps.push(Step::Leave(i as u32));
+                }
+                i = c as usize;
+                continue;
+            }
+            _ => {}
+        }
+        i = loop {
+            match steps.pop() {
+                Some(Step::Enter(next)) => break next as usize,
+                Some(Step::Leave(block)) => {
+                    let [_, first, count, _] = table[block as usize];
+                    let range = &list[first as usize..][..count as usize];
+                    let since = hidden.len() - range.len();
+                    for (&number, &name) in range.iter().zip(&hidden[since..]) {
+                        name_of[number as usize] = name;
+                    }
+                    hidden.truncate(since);
+                    level -= 1;
+                }
+                None => return blocks,
+            }
+        };
+    }
+}
+
+/// Inner blocks by level, in node order within a level.
+struct Levels<'a> {
+    blocks: Vec<&'a Block>,
+    /// Where each level ends in `blocks`; `ends[0]` is 0.
+    ends: Vec<usize>,
+}
+
+impl Levels<'_> {
+    fn count(&self) -> usize {
+        self.ends.len() - 1
+    }
+
+    /// The blocks of a level from 1 up; none past the last.
+    fn level(&self, level: usize) -> &[&Block] {
+        match self.ends.get(level) {
+            Some(&end) => &self.blocks[self.ends[level - 1]..end],
+            None => &[],
+        }
+    }
+}
+
+fn by_level(blocks: &[Block], levels: usize) -> Levels<'_> {
+    let mut ends = vec![0; levels + 1];
+    for block in blocks {
+        ends[block.level as usize] += 1;
+    }
+    // Now starts of the levels; each moves to its level's end below.
+    let mut start = 0;
+    for end in &mut ends[1..] {
+        start += std::mem::replace(end, start);
+    }
+    let Some(any) = blocks.first() else {
+        return Levels {
+            blocks: Vec::new(),
+            ends,
+        };
+    };
+    let mut sorted = vec![any; blocks.len()];
+    for block in blocks {
+        let place = &mut ends[block.level as usize];
+        sorted[*place] = block;
+        *place += 1;
+    }
+    Levels {
+        blocks: sorted,
+        ends,
+    }
+}
+
+fn dual(kind: u32) -> u32 {
+    EXISTS + FOR_ALL - kind
+}
+
+/// Writes the definitions of all levels, joining each level's to the matrix.
+fn write_definitions(levels: &Levels, outermost: u32, mut nodes: Nodes) {
+    let mut kind = outermost;
+    let mut matrix = nodes.len as u32 - 1;
+    for level in 1..=levels.count() {
+        let mut all = None;
+        for block in levels.level(level) {
+            let one = write_definition(block, &mut nodes);
+            all = Some(match all {
+                None => one,
+                Some(before) => nodes.operator(AND, before, one),
+            });
+        }
+        if let Some(all) = all {
+            matrix = if kind == FOR_ALL {
+                nodes.operator(AND, matrix, all)
+            } else {
+                nodes.operator(IMPLIES, all, matrix)
+            };
+        }
+        kind = dual(kind);
+    }
+}
+
+/// Writes the definition of one inner block: its definition variable has the
+/// body's value, and unless that value decides the block, the bound variables
+/// have the values of their copies.
+fn write_definition(block: &Block, nodes: &mut Nodes) -> u32 {
+    let defined = nodes.variable(block.definition);
+    let definition = nodes.operator(IFF, defined, block.body);
+    let mut all = None;
+    for k in 0..block.count {
+        let name = nodes.variable(block.names + k);
+        let copy = nodes.variable(block.copies + k);
+        let equal = nodes.operator(IFF, name, copy);
+        all = Some(match all {
+            None => equal,
+            Some(before) => nodes.operator(AND, before, equal),
+        });
+    }
+    let Some(all) = all else {
+        return definition;
+    };
+    let defined = nodes.variable(block.definition);
+    let guard = if block.kind == EXISTS { OR } else { IMPLIES };
+    let guarded = nodes.operator(guard, defined, all);
+    nodes.operator(AND, definition, guarded)
+}
+
+/// Writes the prefix blocks and their variables.
+fn write_prefix(
+    levels: &Levels,
+    outermost: u32,
+    root: Option<&Block>,
+    prefix: &mut [[u32; 3]],
+    variables: &mut [u32],
+) {
+    let mut variables = Variables {
+        out: variables,
+        len: 0,
+    };
+    let mut kind = outermost;
+    for (j, out) in prefix.iter_mut().enumerate() {
+        let first = variables.len;
+        if j == 0 {
+            if let Some(root) = root {
+                variables.push(root.names, root.count);
+            }
+        } else {
+            for block in levels.level(j) {
+                variables.push(block.names, block.count);
+                variables.push(block.definition, 1);
+            }
+        }
+        for block in levels.level(j + 1) {
+            variables.push(block.copies, block.count);
+        }
+        *out = [kind, first as u32, (variables.len - first) as u32];
+        kind = dual(kind);
+    }
+}
+
+/// Writes the numbers that stand at a variable node and in no block's range,
+/// ascending, and says how many they are.
+pub fn free_variables(words: &[u32], list: &[u32], names: &mut [u32]) -> Result<u32, Refusal> {
+    let table = check(words, list)?.table;
+    let mut free = NumberSet::new();
+    for &[kind, number, _, _] in table {
+        if kind == VARIABLE {
+            free.insert(number);
+        }
+    }
+    for &[kind, first, count, _] in table {
+        if kind == EXISTS || kind == FOR_ALL {
+            for &number in &list[first as usize..][..count as usize] {
+                free.0[number as usize / 64] &= !(1 << (number % 64));
+            }
+        }
+    }
+    let written: u32 = free.0.iter().map(|word| word.count_ones()).sum();
+    if names.len() < written as usize {
+        return Err(Reason::BufferTooShort.at(0));
+    }
+    let mut out = names.iter_mut();
+    for (i, &word) in free.0.iter().enumerate() {
+        let mut left = word;
+        while left != 0 {
+            *out.next().expect("counted above") = 64 * i as u32 + left.trailing_zeros();
+            left &= left - 1;
+        }
+    }
+    Ok(written)
+}

@@ -1,0 +1,176 @@
+//! The library against the reference on many tables.
+
+mod common;
+
+use common::{assert_same, Case, Prefill};
+use std::collections::HashMap;
+use wakubinryo::generate::{accepted, bound_climb, damaged, mutated};
+use wakubinryo::generate::{Profile, Rng, Table, FAMILIES};
+use wakubinryo::Reason;
+
+/// Runs `one` for tables 0 to `tables`, each with a generator of its own.
+fn each(name: &str, tables: u64, mut one: impl FnMut(&mut Rng, u64)) {
+    for number in 0..tables {
+        let _case = Case(name, number);
+        let mut rng = Rng::new(number.wrapping_mul(0x1234_5678_9ABC_DEF1) ^ name.len() as u64);
+        one(&mut rng, number);
+    }
+}
+
+fn prefill(number: u64) -> [Prefill; 1] {
+    [Prefill::ALL[number as usize % 4]]
+}
+
+#[test]
+fn small_tables() {
+    each("small tables", 50_000, |rng, number| {
+        let nodes = rng.between(1, 40);
+        let profile = Profile::random(rng, nodes);
+        let table = accepted(rng, &profile);
+        let spare = rng.between(1, 60);
+        let sizes = assert_same(&table, &prefill(number), spare);
+        assert!(sizes.is_ok());
+    });
+}
+
+#[test]
+fn medium_tables() {
+    each("medium tables", 4_000, |rng, number| {
+        let nodes = rng.between(40, 700);
+        let profile = Profile::random(rng, nodes);
+        let table = accepted(rng, &profile);
+        let spare = rng.between(1, 900);
+        let sizes = assert_same(&table, &prefill(number), spare);
+        assert!(sizes.is_ok());
+    });
+}
+
+#[test]
+fn large_tables() {
+    let mut deepest = 0;
+    let mut most_bound = 0;
+    each("large tables", 600, |rng, number| {
+        let nodes = match number % 4 {
+            0 => 4096,
+            1 => rng.between(4000, 4096),
+            _ => rng.between(700, 4096),
+        };
+        let profile = Profile::random(rng, nodes);
+        let table = accepted(rng, &profile);
+        let spare = rng.between(1, 5000);
+        let sizes = assert_same(&table, &prefill(number), spare).expect("accepted");
+        deepest = deepest.max(sizes.depth);
+        most_bound = most_bound.max(sizes.bound);
+    });
+    assert!(deepest > 2000, "depth {deepest} at most");
+    assert!(most_bound == 4096, "{most_bound} bound variables at most");
+}
+
+#[test]
+fn families() {
+    let climb = ("bound climb", bound_climb as fn(usize) -> Table);
+    for (name, family) in FAMILIES.into_iter().chain([climb]) {
+        for nodes in [128, 1000, 1024, 2048, 4095, 4096] {
+            let _case = Case(name, nodes as u64);
+            let sizes = assert_same(&family(nodes), &Prefill::ALL, 11);
+            assert_eq!(sizes.map(|s| s.nodes as usize), Ok(nodes));
+        }
+    }
+}
+
+#[test]
+fn every_refusal_where_it_is_expected() {
+    let mut counts: HashMap<Reason, u32> = HashMap::new();
+    each("damaged tables", 40_000, |rng, number| {
+        let reason = Reason::ALL[number as usize % 8];
+        let nodes = match number / 8 % 100 {
+            0 => rng.between(1000, 4096),
+            1..=9 => rng.between(40, 300),
+            _ => rng.between(1, 40),
+        };
+        let profile = Profile::random(rng, nodes);
+        if let Some((table, refusal)) = damaged(rng, &profile, reason) {
+            let spare = rng.between(1, 60);
+            let given = assert_same(&table, &prefill(number / 8), spare);
+            assert_eq!(given, Err(refusal));
+            *counts.entry(reason).or_default() += 1;
+        }
+    });
+    for reason in Reason::ALL {
+        if reason != Reason::BufferTooShort {
+            let count = counts.get(&reason).copied().unwrap_or(0);
+            assert!(count >= 1500, "{reason:?} only {count} times");
+        }
+    }
+}
+
+#[test]
+fn tables_changed_anywhere() {
+    let mut refused = 0;
+    let mut counts = [0; 9];
+    each("changed tables", 60_000, |rng, number| {
+        let nodes = match number % 200 {
+            0 => rng.between(300, 4096),
+            1..=19 => rng.between(40, 300),
+            _ => rng.between(1, 30),
+        };
+        let profile = Profile::random(rng, nodes);
+        let table = mutated(rng, &profile);
+        let spare = rng.between(1, 60);
+        if let Err(refusal) = assert_same(&table, &prefill(number), spare) {
+            refused += 1;
+            counts[refusal.reason.number() as usize] += 1;
+        }
+    });
+    assert!(refused > 20_000, "only {refused} refused");
+    for number in [3, 4, 5, 7, 8] {
+        assert!(counts[number] > 100, "refusals by number: {counts:?}");
+    }
+}
+
+/// All tables of up to three nodes over a few words, and some lists.
+#[test]
+fn all_tiny_tables() {
+    let lists: [&[u32]; 5] = [&[], &[1], &[1, 2], &[1, 1], &[0, 2]];
+    let one: Vec<[u32; 4]> = all_nodes(&[0, 1, 2, 3, 4, 5, 6, 7], &[0, 1, 2]);
+    let mut accepted = 0u32;
+    let mut check = |nodes: &[[u32; 4]], list: &[u32]| {
+        let table = Table::new(nodes, list);
+        let given = assert_same(&table, &[Prefill::Counting], 2);
+        accepted += u32::from(given.is_ok());
+    };
+    for list in lists {
+        for &a in &one {
+            check(&[a], list);
+            for &b in &one {
+                check(&[a, b], list);
+            }
+        }
+    }
+    let leaves = [[1, 1, 0, 0], [2, 1, 0, 0], [2, 2, 0, 0]];
+    let upper = all_nodes(&[2, 3, 4, 5, 6], &[0, 1, 2, 3]);
+    for list in lists {
+        for a in leaves {
+            for &b in &upper {
+                for &c in &upper {
+                    check(&[a, b, c], list);
+                }
+            }
+        }
+    }
+    assert!(accepted > 1000, "only {accepted} accepted");
+}
+
+fn all_nodes(kinds: &[u32], fields: &[u32]) -> Vec<[u32; 4]> {
+    let mut nodes = Vec::new();
+    for &kind in kinds {
+        for &a in fields {
+            for &b in fields {
+                for &c in fields {
+                    nodes.push([kind, a, b, c]);
+                }
+            }
+        }
+    }
+    nodes
+}

@@ -1,0 +1,294 @@
+//! Document 01's "Formulas to try", with the results that it gives.
+
+mod common;
+
+use common::{assert_lift, assert_operations, library_measure, reference_form};
+use common::{reference_free_variables, Prefill};
+use wakubinryo::brute::{self, Valuation};
+use wakubinryo::generate::Table;
+use wakubinryo::{PrenexForm, Reason, Refusal, Sizes};
+
+fn refused(reason: Reason, position: u32) -> Result<Sizes, Refusal> {
+    Err(Refusal { reason, position })
+}
+
+/// Holds library and reference to a refusal.
+fn assert_refused(table: &Table, reason: Reason, position: u32) {
+    let answer = refused(reason, position);
+    assert_eq!(reference_form(table), (answer, PrenexForm::default()));
+    assert_operations(table, answer, &PrenexForm::default(), &[], &Prefill::ALL, 7);
+}
+
+/// Holds library and reference to a form.
+fn assert_form(table: &Table, sizes: [u32; 7], form: &PrenexForm, names: &[u32]) {
+    let [nodes, blocks, bound, depth, form_nodes, form_blocks, form_variables] = sizes;
+    let sizes = Ok(Sizes {
+        nodes,
+        blocks,
+        bound,
+        depth,
+        form_nodes,
+        form_blocks,
+        form_variables,
+    });
+    assert_eq!(reference_form(table), (sizes, form.clone()));
+    assert_eq!(reference_free_variables(table).1, names);
+    assert_operations(table, sizes, form, names, &Prefill::ALL, 7);
+}
+
+fn form(nodes: &[[u32; 4]], prefix: &[[u32; 3]], variables: &[u32]) -> PrenexForm {
+    PrenexForm {
+        nodes: nodes.concat(),
+        prefix: prefix.concat(),
+        variables: variables.to_vec(),
+    }
+}
+
+/// Truth values of table and form, which must agree.
+fn truth(table: &Table, form: &PrenexForm, valuation: &[u32]) -> bool {
+    let mut valuation: Valuation = valuation.iter().copied().collect();
+    let value = brute::table_value(&table.words, &table.list, &mut valuation);
+    let of_form = brute::form_value(&form.nodes, &form.prefix, &form.variables, &mut valuation);
+    assert_eq!(value, of_form);
+    value
+}
+
+fn words(words: &[u32]) -> Table {
+    Table {
+        words: words.to_vec(),
+        list: Vec::new(),
+    }
+}
+
+/// n nodes: a variable and nots.
+fn nots(nodes: u32) -> Table {
+    let mut table = Table::new(&[[2, 1, 0, 0]], &[]);
+    for i in 1..nodes {
+        table.push([3, i - 1, 0, 0]);
+    }
+    table
+}
+
+#[test]
+fn no_words_or_five() {
+    assert_refused(&words(&[]), Reason::PartialNode, 0);
+    assert_refused(&words(&[1, 1, 0, 0, 0]), Reason::PartialNode, 0);
+}
+
+#[test]
+fn nodes_at_the_limit() {
+    assert_refused(&nots(4097), Reason::TooLarge, 0);
+    let table = nots(4096);
+    let same = PrenexForm {
+        nodes: table.words.clone(),
+        ..PrenexForm::default()
+    };
+    assert_form(&table, [4096, 0, 0, 0, 4096, 0, 0], &same, &[1]);
+}
+
+#[test]
+fn list_at_the_limit() {
+    let mut table = words(&[1, 1, 0, 0]);
+    table.list = vec![0; 4097];
+    assert_refused(&table, Reason::TooLarge, 0);
+    table.list.pop();
+    assert_form(
+        &table,
+        [1, 0, 0, 0, 1, 0, 0],
+        &form(&[[1, 1, 0, 0]], &[], &[]),
+        &[],
+    );
+}
+
+#[test]
+fn a_constant() {
+    let table = words(&[1, 1, 0, 0]);
+    let expected = form(&[[1, 1, 0, 0]], &[], &[]);
+    assert_form(&table, [1, 0, 0, 0, 1, 0, 0], &expected, &[]);
+    assert!(truth(&table, &expected, &[]));
+}
+
+#[test]
+fn an_empty_block_at_the_root() {
+    let table = Table::new(&[[1, 0, 0, 0], [5, 0, 0, 0]], &[]);
+    let expected = form(&[[1, 0, 0, 0]], &[[5, 0, 0]], &[]);
+    assert_form(&table, [2, 1, 0, 1, 1, 1, 0], &expected, &[]);
+    assert!(!truth(&table, &expected, &[]));
+}
+
+#[test]
+fn an_empty_block_below_a_not() {
+    let table = Table::new(&[[1, 1, 0, 0], [5, 0, 0, 0], [3, 1, 0, 0]], &[]);
+    let nodes = [
+        [1, 1, 0, 0],
+        [2, 1, 0, 0],
+        [3, 1, 0, 0],
+        [2, 1, 0, 0],
+        [4, 9, 3, 0],
+        [4, 8, 2, 4],
+    ];
+    let expected = form(&nodes, &[[6, 0, 0], [5, 0, 1]], &[1]);
+    assert_form(&table, [3, 1, 0, 1, 6, 2, 1], &expected, &[]);
+    assert!(!truth(&table, &expected, &[]));
+}
+
+/// Variable 1 xor (exists 2: 2 and 1), and its form.
+fn exists_below_xor() -> (Table, PrenexForm) {
+    let nodes = [
+        [2, 1, 0, 0],
+        [2, 2, 0, 0],
+        [2, 1, 0, 0],
+        [4, 8, 1, 2],
+        [5, 0, 1, 3],
+        [4, 6, 0, 4],
+    ];
+    let written = [
+        [2, 1, 0, 0],
+        [2, 3, 0, 0],
+        [2, 1, 0, 0],
+        [4, 8, 1, 2],
+        [2, 5, 0, 0],
+        [4, 6, 0, 4],
+        [2, 5, 0, 0],
+        [4, 9, 6, 3],
+        [2, 3, 0, 0],
+        [2, 4, 0, 0],
+        [4, 9, 8, 9],
+        [2, 5, 0, 0],
+        [4, 14, 11, 10],
+        [4, 8, 7, 12],
+        [4, 8, 5, 13],
+    ];
+    let expected = form(&written, &[[6, 0, 1], [5, 1, 2]], &[4, 3, 5]);
+    (Table::new(&nodes, &[2]), expected)
+}
+
+#[test]
+fn exists_below_an_operator() {
+    let (table, expected) = exists_below_xor();
+    assert_form(&table, [6, 1, 1, 1, 15, 2, 3], &expected, &[1]);
+    assert!(!truth(&table, &expected, &[]));
+    assert!(!truth(&table, &expected, &[1]));
+}
+
+#[test]
+fn room_of_59_words_and_of_60() {
+    let (table, expected) = exists_below_xor();
+    let too_short = [9, 0, 0, 0, 0, 0, 0, 0, 0];
+    let done = [0, 0, 6, 1, 1, 1, 15, 2, 3];
+    for prefill in Prefill::ALL {
+        assert_lift(
+            &table,
+            [59, 100, 100],
+            prefill,
+            too_short,
+            &PrenexForm::default(),
+        );
+        assert_lift(&table, [60, 100, 100], prefill, done, &expected);
+    }
+    assert_eq!(library_measure(&table), done);
+}
+
+#[test]
+fn one_number_bound_twice() {
+    let nodes = [
+        [2, 1, 0, 0],
+        [2, 1, 0, 0],
+        [6, 0, 1, 1],
+        [4, 8, 0, 2],
+        [5, 0, 1, 3],
+    ];
+    let table = Table::new(&nodes, &[1]);
+    let written = [
+        [2, 3, 0, 0],
+        [2, 2, 0, 0],
+        [2, 5, 0, 0],
+        [4, 8, 0, 2],
+        [2, 5, 0, 0],
+        [4, 9, 4, 1],
+        [2, 2, 0, 0],
+        [2, 4, 0, 0],
+        [4, 9, 6, 7],
+        [2, 5, 0, 0],
+        [4, 11, 9, 8],
+        [4, 8, 5, 10],
+        [4, 11, 11, 3],
+    ];
+    let expected = form(&written, &[[5, 0, 2], [6, 2, 2]], &[3, 4, 2, 5]);
+    assert_form(&table, [5, 2, 2, 2, 13, 2, 4], &expected, &[]);
+    assert!(!truth(&table, &expected, &[]));
+}
+
+#[test]
+fn a_node_named_twice() {
+    let table = Table::new(&[[2, 1, 0, 0], [4, 9, 0, 0]], &[]);
+    assert_refused(&table, Reason::NotATree, 0);
+}
+
+#[test]
+fn the_lower_node_is_refused_first() {
+    let table = Table::new(&[[2, 0, 0, 0], [3, 1, 0, 0]], &[]);
+    assert_refused(&table, Reason::MalformedNode, 0);
+}
+
+#[test]
+fn a_range_at_the_end_of_the_list() {
+    let table = Table::new(&[[2, 1, 0, 0], [5, 1, 1, 0]], &[1]);
+    assert_refused(&table, Reason::RangePastEnd, 1);
+    let table = Table::new(&[[2, 1, 0, 0], [5, 1, 0, 0]], &[1]);
+    let expected = form(&[[2, 1, 0, 0]], &[[5, 0, 0]], &[]);
+    assert_form(&table, [2, 1, 0, 1, 1, 1, 0], &expected, &[1]);
+}
+
+#[test]
+fn a_number_twice_in_a_range() {
+    let table = Table::new(&[[2, 1, 0, 0], [5, 0, 2, 0]], &[2, 2]);
+    assert_refused(&table, Reason::BadVariable, 1);
+}
+
+#[test]
+fn two_blocks_of_2049_over_one_range() {
+    let list: Vec<u32> = (1..=2049).collect();
+    let table = Table::new(&[[2, 1, 0, 0], [5, 0, 2049, 0], [6, 0, 2049, 1]], &list);
+    assert_refused(&table, Reason::TooManyVariables, 2);
+}
+
+#[test]
+fn the_highest_variable() {
+    let table = words(&[2, 65_535, 0, 0]);
+    let expected = form(&[[2, 65_535, 0, 0]], &[], &[]);
+    assert_form(&table, [1, 0, 0, 0, 1, 0, 0], &expected, &[65_535]);
+    assert_refused(&words(&[2, 65_536, 0, 0]), Reason::MalformedNode, 0);
+}
+
+/// Sums of 32-bit fields are exact: nothing wraps.
+#[test]
+fn ranges_at_the_edges_of_32_bits() {
+    for (first, count) in [
+        (u32::MAX, 0),
+        (u32::MAX, 1),
+        (u32::MAX, 2),
+        (u32::MAX, u32::MAX),
+        (1, u32::MAX),
+        (0x8000_0000, 0x8000_0000),
+        (2, u32::MAX - 1),
+    ] {
+        let table = Table::new(&[[2, 1, 0, 0], [5, first, count, 0]], &[1, 2]);
+        assert_refused(&table, Reason::RangePastEnd, 1);
+    }
+}
+
+/// The largest prefix, and names as high as they get.
+#[test]
+fn names_at_the_limit() {
+    let list: Vec<u32> = (61_440..=65_535).collect();
+    let nodes = [[2, 65_535, 0, 0], [6, 0, 4096, 0], [3, 1, 0, 0]];
+    let table = Table::new(&nodes, &list);
+    let (sizes, _) = reference_form(&table);
+    let sizes = sizes.expect("accepted");
+    assert_eq!(sizes.form_nodes, 3 + 4 * 4096 + 5);
+    assert_eq!(sizes.form_variables, 2 * 4096 + 1);
+    let (_, expected) = reference_form(&table);
+    assert_eq!(expected.variables.iter().max(), Some(&(65_535 + 8192 + 1)));
+    assert_operations(&table, Ok(sizes), &expected, &[], &Prefill::ALL, 3);
+}

@@ -1,0 +1,242 @@
+//! Truth, size and shape of the library's prenex forms.
+
+mod common;
+
+use common::Case;
+use std::collections::HashSet;
+use wakubinryo::brute;
+use wakubinryo::generate::{accepted, Order, Profile, Rng, Table, FAMILIES};
+use wakubinryo::{free_variables, measure, prenex_form, PrenexForm, Sizes};
+
+/// The number of variables that brute force is asked to go through.
+const MOST: usize = 16;
+
+/// Compares the values of table and form under all valuations of the numbers
+/// with a free occurrence. False if there were too many variables.
+fn assert_same_truth(table: &Table) -> bool {
+    let form = prenex_form(&table.words, &table.list).expect("accepted");
+    let free: Vec<u32> = brute::free_occurrences(&table.words, &table.list)
+        .into_iter()
+        .collect();
+    let at_nodes = brute::variables_at_nodes(&table.words);
+    let of_table: Vec<u32> = at_nodes.iter().copied().collect();
+    let of_form: Vec<u32> = brute::variables_at_nodes(&form.nodes).into_iter().collect();
+    if of_table.len() > MOST || of_form.len() > MOST {
+        return false;
+    }
+    let table_truth = brute::table_function(&table.words, &table.list, &of_table);
+    let form_truth = brute::form_function(&form.nodes, &form.prefix, &form.variables, &of_form);
+    for valuation in brute::valuations(&free) {
+        assert_eq!(
+            table_truth.value(&valuation),
+            form_truth.value(&valuation),
+            "under {valuation:?}: {table:?}"
+        );
+    }
+    // What is given to any other number changes neither.
+    for &variable in of_table.iter().chain(&of_form) {
+        if !free.contains(&variable) {
+            assert!(!table_truth.depends_on(variable));
+            assert!(!form_truth.depends_on(variable));
+        }
+    }
+    true
+}
+
+/// Size bounds and shape of the form that the library writes.
+fn assert_well_formed(table: &Table) {
+    let sizes = measure(&table.words, &table.list).expect("accepted");
+    let Sizes {
+        nodes,
+        blocks,
+        bound,
+        depth,
+        form_nodes,
+        form_blocks,
+        form_variables,
+    } = sizes;
+    assert!(form_nodes <= nodes + 5 * blocks + 4 * bound);
+    assert!(form_variables <= 2 * bound + blocks);
+    assert!(form_blocks <= depth + 1);
+    assert_eq!(form_blocks == 0, blocks == 0);
+
+    let PrenexForm {
+        nodes,
+        prefix,
+        variables,
+    } = prenex_form(&table.words, &table.list).expect("accepted");
+    assert_eq!(nodes.len(), 4 * form_nodes as usize);
+    assert_eq!(prefix.len(), 3 * form_blocks as usize);
+    assert_eq!(variables.len(), form_variables as usize);
+
+    // No quantifiers in the matrix, and it is a tree.
+    let mut uses = vec![0; form_nodes as usize];
+    for (i, node) in nodes.chunks_exact(4).enumerate() {
+        let operands = match node[0] {
+            1 | 2 => &[],
+            3 => &node[1..2],
+            4 => &node[2..4],
+            kind => panic!("kind {kind} in a matrix"),
+        };
+        for &operand in operands {
+            assert!((operand as usize) < i);
+            uses[operand as usize] += 1;
+        }
+    }
+    let root = uses.pop();
+    assert_eq!(root, Some(0));
+    assert!(uses.iter().all(|&u| u == 1));
+
+    // Kinds alternate and ranges follow one another.
+    let mut end = 0;
+    for (j, block) in prefix.chunks_exact(3).enumerate() {
+        assert!(block[0] == 5 || block[0] == 6);
+        assert!(j == 0 || block[0] != prefix[3 * j - 3]);
+        assert_eq!(block[1], end);
+        end += block[2];
+    }
+    assert_eq!(end, form_variables);
+
+    // Prefix variables are distinct and new in the table.
+    let distinct: HashSet<u32> = variables.iter().copied().collect();
+    assert_eq!(distinct.len(), variables.len());
+    assert!(brute::variables_at_nodes(&table.words).is_disjoint(&distinct.into_iter().collect()));
+}
+
+/// The free variables as the definition says.
+fn assert_free_variables(table: &Table) {
+    let mut expected = brute::variables_at_nodes(&table.words);
+    for node in table.words.chunks_exact(4).filter(|node| node[0] >= 5) {
+        for entry in &table.list[node[1] as usize..(node[1] + node[2]) as usize] {
+            expected.remove(entry);
+        }
+    }
+    let mut names = vec![0; 4096];
+    let written = free_variables(&table.words, &table.list, &mut names).expect("accepted");
+    assert!(names[..written as usize].iter().eq(&expected));
+}
+
+#[test]
+fn truth_is_kept() {
+    let mut compared = 0;
+    let mut with_blocks = 0;
+    for number in 0..60_000 {
+        let _case = Case("tiny tables", number);
+        let mut rng = Rng::new(number);
+        let profile = Profile::tiny(&mut rng);
+        let table = accepted(&mut rng, &profile);
+        assert_well_formed(&table);
+        assert_free_variables(&table);
+        if assert_same_truth(&table) {
+            compared += 1;
+            let sizes = measure(&table.words, &table.list).expect("accepted");
+            with_blocks += u32::from(sizes.blocks > 1);
+        }
+    }
+    assert!(compared > 45_000, "only {compared} compared");
+    assert!(
+        with_blocks > 15_000,
+        "only {with_blocks} with several blocks"
+    );
+}
+
+/// Blocks of both kinds below each operator, on either side and on both.
+#[test]
+fn truth_is_kept_below_every_operator() {
+    for truth_table in 0..16 {
+        for kinds in [[5, 5], [5, 6], [6, 5], [6, 6]] {
+            for [left, right] in [[true, true], [true, false], [false, true]] {
+                for inner in 0..16 {
+                    let mut table = Table::new(&[], &[2, 3]);
+                    let mut side = |block: bool, kind: u32, first: u32| {
+                        let x = table.push([2, 1, 0, 0]);
+                        let y = table.push([2, 2 + first, 0, 0]);
+                        let body = table.push([4, inner, x, y]);
+                        if block {
+                            table.push([kind, first, 1, body])
+                        } else {
+                            body
+                        }
+                    };
+                    let l = side(left, kinds[0], 0);
+                    let r = side(right, kinds[1], 1);
+                    let body = table.push([4, truth_table, l, r]);
+                    assert!(assert_same_truth(&table));
+                    // The same below a quantifier over what was free.
+                    table.list.push(1);
+                    table.push([kinds[1], 2, 1, body]);
+                    assert!(assert_same_truth(&table));
+                }
+            }
+        }
+    }
+}
+
+/// The direct evaluators agree with the functions used above.
+#[test]
+fn both_evaluators_agree() {
+    for number in 0..3_000 {
+        let _case = Case("tables for both evaluators", number);
+        let mut rng = Rng::new(!number);
+        let profile = Profile {
+            nodes: rng.between(1, 9),
+            ..Profile::tiny(&mut rng)
+        };
+        let table = accepted(&mut rng, &profile);
+        let form = prenex_form(&table.words, &table.list).expect("accepted");
+        let variables: Vec<u32> = brute::variables_at_nodes(&table.words)
+            .into_iter()
+            .collect();
+        let of_form: Vec<u32> = brute::variables_at_nodes(&form.nodes).into_iter().collect();
+        if form.variables.len() > 8 {
+            continue;
+        }
+        let table_truth = brute::table_function(&table.words, &table.list, &variables);
+        let form_truth = brute::form_function(&form.nodes, &form.prefix, &form.variables, &of_form);
+        for mut valuation in brute::valuations(&variables) {
+            let of_table = brute::table_value(&table.words, &table.list, &mut valuation);
+            assert_eq!(of_table, table_truth.value(&valuation));
+            let of_form =
+                brute::form_value(&form.nodes, &form.prefix, &form.variables, &mut valuation);
+            assert_eq!(of_form, form_truth.value(&valuation));
+            assert_eq!(of_table, of_form);
+        }
+    }
+}
+
+#[test]
+fn large_forms_are_well_formed() {
+    for number in 0..400 {
+        let _case = Case("large forms", number);
+        let mut rng = Rng::new(number ^ 0xABCD);
+        let nodes = rng.between(100, 4096);
+        let profile = Profile::random(&mut rng, nodes);
+        let table = accepted(&mut rng, &profile);
+        assert_well_formed(&table);
+        assert_free_variables(&table);
+    }
+    for (name, family) in FAMILIES {
+        let _case = Case(name, 4096);
+        assert_well_formed(&family(4096));
+        assert_free_variables(&family(4096));
+    }
+}
+
+/// A table of the largest form: every node but the leaf an inner block or the
+/// root, all variables bound.
+#[test]
+fn the_largest_form_is_well_formed() {
+    let mut rng = Rng::new(5);
+    let profile = Profile {
+        nodes: 4096,
+        numbers: (1..=4096).collect(),
+        order: Order::Newest,
+        weights: [0, 0, 0, 1],
+        most_count: 2,
+        most_bound: 4096,
+    };
+    let table = accepted(&mut rng, &profile);
+    let sizes = measure(&table.words, &table.list).expect("accepted");
+    assert!(sizes.form_nodes > 30_000, "{sizes:?}");
+    assert_well_formed(&table);
+}

@@ -1,0 +1,147 @@
+//! The cases of vectors/base.txt, for the reference and for the library.
+
+mod common;
+
+use common::{assert_operations, reference_form, reference_free_variables, Case, Prefill};
+use wakubinryo::answer::size_words;
+use wakubinryo::brute;
+use wakubinryo::generate::Table;
+use wakubinryo::PrenexForm;
+
+/// A line's numbers, by its first word.
+struct Vector {
+    case: u64,
+    lines: Vec<(String, Vec<u32>)>,
+}
+
+impl Vector {
+    fn find(&self, key: &str) -> Option<&[u32]> {
+        let line = self.lines.iter().find(|(k, _)| k == key);
+        line.map(|(_, numbers)| numbers.as_slice())
+    }
+
+    fn get(&self, key: &str) -> &[u32] {
+        self.find(key)
+            .unwrap_or_else(|| panic!("case {}: no {key}", self.case))
+    }
+
+    fn table(&self) -> Table {
+        Table {
+            words: self.get("words").to_vec(),
+            list: self.get("list").to_vec(),
+        }
+    }
+
+    fn accepted(&self) -> bool {
+        self.get("measure")[0] == 0
+    }
+
+    fn form(&self) -> PrenexForm {
+        if !self.accepted() {
+            return PrenexForm::default();
+        }
+        PrenexForm {
+            nodes: self.get("nodes").to_vec(),
+            prefix: self.get("prefix").to_vec(),
+            variables: self.get("variables").to_vec(),
+        }
+    }
+
+    fn free(&self) -> &[u32] {
+        if self.accepted() {
+            self.get("free")
+        } else {
+            &[]
+        }
+    }
+}
+
+fn vectors() -> Vec<Vector> {
+    let text = include_str!("../vectors/base.txt");
+    let mut vectors: Vec<Vector> = Vec::new();
+    for line in text.lines() {
+        if line.is_empty() || line.starts_with('#') {
+            continue;
+        }
+        let mut words = line.split_ascii_whitespace();
+        let key = words.next().expect("a word").to_string();
+        let numbers: Vec<u32> = words.map(|w| w.parse().expect("a number")).collect();
+        if key == "case" {
+            vectors.push(Vector {
+                case: numbers[0].into(),
+                lines: Vec::new(),
+            });
+        } else {
+            vectors
+                .last_mut()
+                .expect("a case")
+                .lines
+                .push((key, numbers));
+        }
+    }
+    assert_eq!(vectors.len(), 260);
+    vectors
+}
+
+#[test]
+fn reference_gives_every_vector() {
+    for vector in vectors() {
+        let _case = Case("vectors", vector.case);
+        let table = vector.table();
+        let (sizes, form) = reference_form(&table);
+        assert_eq!(size_words(sizes), vector.get("measure"));
+        assert_eq!(form, vector.form());
+        let (written, names) = reference_free_variables(&table);
+        assert_eq!(written.is_ok(), vector.accepted());
+        assert_eq!(names, vector.free());
+    }
+}
+
+#[test]
+fn library_gives_every_vector() {
+    for vector in vectors() {
+        let _case = Case("vectors", vector.case);
+        let table = vector.table();
+        let (sizes, _) = reference_form(&table);
+        assert_eq!(size_words(sizes), vector.get("measure"));
+        assert_operations(
+            &table,
+            sizes,
+            &vector.form(),
+            vector.free(),
+            &Prefill::ALL,
+            5,
+        );
+    }
+}
+
+#[test]
+fn tables_and_forms_have_the_truth_given() {
+    let mut checked = 0;
+    for vector in vectors() {
+        let Some(over) = vector.find("over") else {
+            continue;
+        };
+        let _case = Case("vectors", vector.case);
+        let truth = vector.get("truth");
+        let table = vector.table();
+        let form = vector.form();
+        assert_eq!(truth.len(), 1 << over.len());
+        let mut at_nodes = brute::variables_at_nodes(&form.nodes);
+        at_nodes.extend(over);
+        let variables: Vec<u32> = at_nodes.into_iter().collect();
+        let function = (variables.len() <= 20)
+            .then(|| brute::form_function(&form.nodes, &form.prefix, &form.variables, &variables));
+        for (valuation, &value) in brute::valuations(over).zip(truth) {
+            let mut valuation = valuation;
+            let of_table = brute::table_value(&table.words, &table.list, &mut valuation);
+            assert_eq!(u32::from(of_table), value, "table under {valuation:?}");
+            if let Some(function) = &function {
+                let of_form = function.value(&valuation);
+                assert_eq!(u32::from(of_form), value, "form under {valuation:?}");
+                checked += 1;
+            }
+        }
+    }
+    assert!(checked > 300, "only {checked} values of forms compared");
+}
