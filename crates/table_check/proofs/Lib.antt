@@ -1,1 +1,5 @@
 pub mod Accepted
+pub mod Arrays
+pub mod Faults
+pub mod Named
+pub mod Stamps

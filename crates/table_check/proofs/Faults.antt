@@ -1,0 +1,220 @@
+-- Laws of the verdict's steps: a node's fault by the tests of the code, and the verdict by its two passes.
+-- Assumes nothing.
+use mathlib.Core.Path.{_≡_, refl, sym, _∙_, ap}
+use mathlib.Core.Bool.{Bool, true, false, not}
+use mathlib.Core.List.{List}
+use Prim.Native.Nat.{ℕ, _+_, _-_, _%_, _≤_, _<_}
+use native.Mathlib.Numerals.{add-one}
+use native.Mathlib.Omega.{arith}
+use lib.Dec.{eqb, ltb}
+use lib.ListN.{length}
+use borrow.Author.Count.{below-none, below-more}
+use borrow.Author.Tests.{eqb-true, eqb-false, eq-eqb, ne-eqb, ltb-true, ltb-false, lt-ltb, le-ltb, not-true, not-false}
+use Rattle.lists.specs.Choice.{pick, pick-yes, pick-no, Is, is-true, is-false, look, or-neither-left, or-neither-right}
+use Rattle.lists.specs.Search.{lowest}
+use Rattle.lists.specs.Parts.{sum}
+use Rattle.lists.proofs.Search.{lowest-holds, lowest-before, lowest-is, lowest-none}
+use Rattle.formula.specs.Words.{width, nodeCount, field}
+use Rattle.table_check.specs.Verdict.{limit, isBlockKind, partialNode, tooLarge, wellFormed, forwardReference, rangePastEnd, countAt, tooManyVariables, badVariable, nodeFault, refusal, accepted, verdict}
+use Rattle.table_check.specs.Steps.{goodRange, blockFault, Stamps, nodesVerdict, treeVerdict}
+use Rattle.table_check.specs.declared.Verdict.{Verdict}
+use Rattle.table_check.proofs.Named.{and-off, not-once-is}
+
+-- a choice between a refusal's number and what comes after, where neither applies
+clear : (t : Bool) (n rest : ℕ) → 0 < n → pick t n rest ≡ 0 → (t ≡ false) × (rest ≡ 0)
+unfolding pick
+clear true n rest l e = absurd (omega arith)
+clear false n rest l e = (refl, e)
+
+pub count-block : (ws : List ℕ) (i : ℕ) → isBlockKind (field ws i 0) ≡ true → countAt ws i ≡ field ws i 2
+unfolding countAt
+count-block ws i k = pick-yes _ _ _ k
+
+pub count-none : (ws : List ℕ) (i : ℕ) → isBlockKind (field ws i 0) ≡ false → countAt ws i ≡ 0
+unfolding countAt
+count-none ws i k = pick-no _ _ _ k
+
+-- A block above blocks that bind `before` variables.
+module _ (ls : List ℕ) (before first count : ℕ) where
+  pub block-past-end : length ls < first + count → blockFault ls before first count ≡ 5
+  unfolding blockFault
+  block-past-end h = pick-yes _ _ _ (lt-ltb _ _ h)
+
+  pub block-too-many : first + count ≤ length ls → limit < before + count → blockFault ls before first count ≡ 6
+  unfolding blockFault
+  block-too-many f h = pick-no _ _ _ (le-ltb _ _ f) ∙ pick-yes _ _ _ (lt-ltb _ _ h)
+
+  pub block-bad : first + count ≤ length ls → before + count ≤ limit → goodRange ls first count ≡ false → blockFault ls before first count ≡ 7
+  unfolding blockFault
+  block-bad f m g = pick-no _ _ _ (le-ltb _ _ f) ∙ pick-no _ _ _ (le-ltb _ _ m) ∙ pick-yes _ _ _ (ap not g)
+
+  pub block-none : first + count ≤ length ls → before + count ≤ limit → goodRange ls first count ≡ true → blockFault ls before first count ≡ 0
+  unfolding blockFault
+  block-none f m g = pick-no _ _ _ (le-ltb _ _ f) ∙ pick-no _ _ _ (le-ltb _ _ m) ∙ pick-no _ _ _ (ap not g)
+
+-- the first two tests of node i
+abbrev pub formed : List ℕ → ℕ → Bool
+formed ws i = wellFormed (field ws i 0) (field ws i 1) (field ws i 2) (field ws i 3)
+
+abbrev pub forward : List ℕ → ℕ → Bool
+forward ws i = forwardReference i (field ws i 0) (field ws i 1) (field ws i 2) (field ws i 3)
+
+-- Node i of a table.
+module _ (ws ls : List ℕ) (i : ℕ) where
+  pub fault-malformed : formed ws i ≡ false → nodeFault ws ls i ≡ 3
+  unfolding nodeFault
+  fault-malformed w = pick-yes _ _ _ (ap not w)
+
+  pub fault-forward : formed ws i ≡ true → forward ws i ≡ true → nodeFault ws ls i ≡ 4
+  unfolding nodeFault
+  fault-forward w f = pick-no _ _ _ (ap not w) ∙ pick-yes _ _ _ f
+
+  pub fault-none : formed ws i ≡ true → forward ws i ≡ false → isBlockKind (field ws i 0) ≡ false → nodeFault ws ls i ≡ 0
+  unfolding nodeFault rangePastEnd tooManyVariables badVariable pick
+  fault-none w f k = pick-no _ _ _ (ap not w) ∙ pick-no _ _ _ f ∙ rw k
+
+  pub fault-block : formed ws i ≡ true → forward ws i ≡ false → isBlockKind (field ws i 0) ≡ true → nodeFault ws ls i ≡ blockFault ls (sum (countAt ws) i) (field ws i 1) (field ws i 2)
+  unfolding nodeFault rangePastEnd tooManyVariables badVariable blockFault goodRange
+  fault-block w f k = pick-no _ _ _ (ap not w) ∙ pick-no _ _ _ f ∙ rw k
+
+  module _ (none : nodeFault ws ls i ≡ 0) where
+    -- the tests after those two
+    afterForward : ℕ
+    afterForward =
+        pick (rangePastEnd ls (field ws i 0) (field ws i 1) (field ws i 2)) 5
+        (pick (tooManyVariables ws i) 6
+        (pick (badVariable ls (field ws i 0) (field ws i 1) (field ws i 2)) 7
+        0))
+
+    passed-forward : (forward ws i ≡ false) × (afterForward ≡ 0)
+    unfolding nodeFault afterForward
+    passed-forward = clear _ 4 _ (omega arith) (clear _ 3 _ (omega arith) none .1)
+
+    -- operands are lower
+    pub backward : forward ws i ≡ false
+    backward = passed-forward .0
+
+    few : isBlockKind (field ws i 0) ≡ true → sum (countAt ws) i + field ws i 2 ≤ limit
+    unfolding afterForward tooManyVariables
+    few k = ltb-false _ _ (and-off _ _ k (clear _ 6 _ (omega arith) (clear _ 5 _ (omega arith) (passed-forward .1) .1) .0))
+
+    counted : Is (isBlockKind (field ws i 0)) → sum (countAt ws) i ≤ limit → sum (countAt ws) i + countAt ws i ≤ limit
+    counted (is-true k) h = rw (count-block ws i k) (few k)
+    counted (is-false k) h = rw (count-none ws i k) (omega arith)
+
+    -- the counts stay within the limit
+    pub counts-fit : sum (countAt ws) i ≤ limit → sum (countAt ws) i + countAt ws i ≤ limit
+    counts-fit = counted (look (isBlockKind (field ws i 0)))
+
+counts-more : (ws : List ℕ) (i : ℕ) → sum (countAt ws) (i + 1) ≡ sum (countAt ws) i + countAt ws i
+unfolding sum
+counts-more ws i = rw add-one
+
+-- What holds of the nodes below i once they are passed, with the stamps and the count as they are then.
+pub record Checked (ws ls stamps : List ℕ) (before i : ℕ) : Type 0 where
+  pub counted : before ≡ sum (countAt ws) i
+  pub few : before ≤ limit
+  pub faultless : (j : ℕ) → j < i → nodeFault ws ls j ≡ 0
+  pub kept : Stamps stamps i
+
+pub checked-none : (ws ls stamps : List ℕ) → Stamps stamps 0 → Checked ws ls stamps 0 0
+unfolding sum
+checked-none ws ls stamps s = record { counted = refl; few = omega arith; faultless = below-none (λ j. nodeFault ws ls j ≡ 0); kept = s }
+
+-- the count and what node i adds to it
+pub checked-few : (ws ls stamps : List ℕ) (before i count : ℕ) → Checked ws ls stamps before i → nodeFault ws ls i ≡ 0 → count ≡ countAt ws i → before + count ≤ limit
+checked-few ws ls stamps before i count p f e = rw (p .counted, e) (counts-fit ws ls i f (rw (p .counted) at (p .few)))
+
+pub checked-more : (ws ls stamps next : List ℕ) (before i count : ℕ) → Checked ws ls stamps before i → nodeFault ws ls i ≡ 0 → count ≡ countAt ws i → Stamps next (i + 1) → Checked ws ls next (before + count) (i + 1)
+checked-more ws ls stamps next before i count p f e s =
+    record {
+      counted = rw (p .counted, e) (sym (counts-more ws i));
+      few = checked-few ws ls stamps before i count p f e;
+      faultless = below-more (λ j. nodeFault ws ls j ≡ 0) i (p .faultless) f;
+      kept = s;
+    }
+
+-- whole nodes, and one at least
+pub some-node : (ws : List ℕ) → partialNode ws ≡ false → 0 < nodeCount ws
+unfolding partialNode
+some-node ws p =
+    let l : length ws ≡ 0 → ⊥ = eqb-false (length ws) 0 (or-neither-left _ _ p) in
+    let m : length ws % width ≡ 0 = eqb-true _ _ (not-false _ (or-neither-right (eqb (length ws) 0) _ p)) in omega arith
+
+-- The two passes of a table.
+module _ (ws ls : List ℕ) where
+  abbrev faulty : ℕ → Bool
+  faulty i = not (eqb (nodeFault ws ls i) 0)
+
+  abbrev at : ℕ
+  at = lowest faulty (nodeCount ws)
+
+  not-faulty : (i : ℕ) → nodeFault ws ls i ≡ 0 → faulty i ≡ false
+  not-faulty i e = ap not (eq-eqb (nodeFault ws ls i) 0 e)
+
+  pub nodes-refused : (i : ℕ) → i < nodeCount ws → ((j : ℕ) → j < i → nodeFault ws ls j ≡ 0) → (nodeFault ws ls i ≡ 0 → ⊥) → nodesVerdict ws ls ≡ refusal (nodeFault ws ls i) i
+  unfolding nodesVerdict
+  nodes-refused i h below f =
+      let e : at ≡ i = lowest-is faulty (nodeCount ws) i h (ap not (ne-eqb (nodeFault ws ls i) 0 f)) (λ j l. not-faulty j (below j l)) in
+      rw e (pick-yes _ _ _ (lt-ltb i (nodeCount ws) h))
+
+  pub nodes-passed : ((j : ℕ) → j < nodeCount ws → nodeFault ws ls j ≡ 0) → nodesVerdict ws ls ≡ refusal 0 0
+  unfolding nodesVerdict accepted refusal
+  nodes-passed below =
+      let e : at ≡ nodeCount ws = lowest-none faulty (nodeCount ws) (λ j l. not-faulty j (below j l)) in
+      pick-no _ _ _ (le-ltb at (nodeCount ws) (omega arith))
+
+  -- what the first pass says of the table
+  data Pass : Type 0 where
+    refused : at < nodeCount ws → nodesVerdict ws ls ≡ refusal (nodeFault ws ls at) at → Pass
+    passed : nodeCount ws ≤ at → nodesVerdict ws ls ≡ accepted → Pass
+
+  pass : Is (ltb at (nodeCount ws)) → Pass
+  unfolding nodesVerdict
+  pass (is-true t) = refused (ltb-true _ _ t) (pick-yes _ _ _ t)
+  pass (is-false t) = passed (ltb-false _ _ t) (pick-no _ _ _ t)
+
+  first-pass : Pass
+  first-pass = pass (look (ltb at (nodeCount ws)))
+
+  none-from : Pass → nodesVerdict ws ls .number ≡ 0 → (i : ℕ) → i < nodeCount ws → nodeFault ws ls i ≡ 0
+  unfolding refusal
+  none-from (refused h e) z i l =
+      let f : not (eqb (nodeFault ws ls at) 0) ≡ true = lowest-holds faulty (nodeCount ws) h in
+      let g : nodeFault ws ls at ≡ 0 = ap (λ (v : Verdict). v .number) (sym e) ∙ z in
+      absurd (eqb-false (nodeFault ws ls at) 0 (not-true _ f) g)
+  none-from (passed h e) z i l = eqb-true (nodeFault ws ls i) 0 (not-false _ (lowest-before faulty (nodeCount ws) i (omega arith)))
+
+  -- no node has a fault where the first pass accepts
+  pub none-faulty : nodesVerdict ws ls .number ≡ 0 → (i : ℕ) → i < nodeCount ws → nodeFault ws ls i ≡ 0
+  none-faulty = none-from first-pass
+
+  pub verdict-partial : partialNode ws ≡ true → verdict ws ls ≡ refusal 1 0
+  unfolding verdict
+  verdict-partial p = pick-yes _ _ _ p
+
+  pub verdict-large : partialNode ws ≡ false → tooLarge ws ls ≡ true → verdict ws ls ≡ refusal 2 0
+  unfolding verdict
+  verdict-large p l = pick-no _ _ _ p ∙ pick-yes _ _ _ l
+
+  by-nodes : partialNode ws ≡ false → tooLarge ws ls ≡ false → (nodesVerdict ws ls .number ≡ 0 → ⊥) → Pass → verdict ws ls ≡ nodesVerdict ws ls
+  unfolding verdict accepted
+  by-nodes p l f (refused h e) = pick-no _ _ _ p ∙ pick-no _ _ _ l ∙ pick-yes _ _ _ (lt-ltb _ _ h) ∙ sym e
+  by-nodes p l f (passed h e) = absurd (f (ap (λ (v : Verdict). v .number) e))
+
+  pub verdict-nodes : partialNode ws ≡ false → tooLarge ws ls ≡ false → (nodesVerdict ws ls .number ≡ 0 → ⊥) → verdict ws ls ≡ nodesVerdict ws ls
+  verdict-nodes p l f = by-nodes p l f first-pass
+
+  pub verdict-tree : partialNode ws ≡ false → tooLarge ws ls ≡ false → nodesVerdict ws ls .number ≡ 0 → verdict ws ls ≡ treeVerdict ws
+  unfolding verdict treeVerdict
+  verdict-tree p l z =
+      let last : ℕ = nodeCount ws - 1 in
+      let e : at ≡ nodeCount ws = lowest-none faulty (nodeCount ws) (λ j h. not-faulty j (none-faulty z j h)) in
+      pick-no _ _ _ p
+      ∙ pick-no _ _ _ l
+      ∙ pick-no _ _ _ (le-ltb at (nodeCount ws) (omega arith))
+      ∙ ap (λ (j : ℕ). pick (ltb j last) (refusal 8 j) accepted) (not-once-is ws ls last)
+
+  pub few-nodes : tooLarge ws ls ≡ false → nodeCount ws ≤ limit
+  unfolding tooLarge
+  few-nodes l = ltb-false limit (nodeCount ws) (or-neither-left _ _ l)

@@ -1,0 +1,73 @@
+-- `table_check::check` meets its contract: each return is one of the answers of `verdict`, and what the second pass requires follows from the first.
+-- Assumes nothing.
+use mathlib.Core.Bool.{false}
+use mathlib.Core.Path.{_≡_, sym, _∙_}
+use borrow.Author.Needs.{needs}
+use Rattle.table_check.specs.Steps.{nodesVerdict}
+use Rattle.table_check.specs.Verdict.{partialNode, tooLarge}
+use Rattle.table_check.proofs.Faults.{backward, none-faulty, some-node, few-nodes, verdict-partial, verdict-large, verdict-nodes, verdict-tree}
+use Rattle.table_check.proofs.check.Statement.{statement}
+use Rattle.table_check.proofs.check.Tie as tie
+
+partial-node-requires : tie.Need-partial-node-requires
+partial-node-requires c κs = search needs
+
+answer-requires : tie.Need-answer-requires
+answer-requires c κs = search needs
+
+returns : tie.Need-returns
+returns c =
+    c .answer .ensures ∙ sym (verdict-partial _ _ (sym (c .before .before .partial-node .ensures) ∙ c .before .if1 .taken))
+
+-- Refusal 1 does not apply, ..
+whole : (c : tie.Else1) → partialNode (c .before .before .before .before .args .words .now) ≡ false
+whole c = sym (c .before .partial-node .ensures) ∙ c .if1 .left
+
+too-large-requires : tie.Need-too-large-requires
+too-large-requires c κs = search needs
+
+answer-requires-2 : tie.Need-answer-requires-2
+answer-requires-2 c κs = search needs
+
+returns-2 : tie.Need-returns-2
+returns-2 c =
+    c .answer2 .ensures ∙ sym (verdict-large _ _ (whole (c .before .before .before)) (sym (c .before .before .too-large .ensures) ∙ c .before .if2 .taken))
+
+-- .. nor does refusal 2, ..
+within : (c : tie.Else2) → tooLarge (c .before .before .before .before .before .before .args .words .now) (c .before .before .before .before .before .before .args .list .now) ≡ false
+within c = sym (c .before .too-large .ensures) ∙ c .if2 .left
+
+check-nodes-requires : tie.Need-check-nodes-requires
+check-nodes-requires c κs = few-nodes _ _ (within c)
+
+returns-3 : tie.Need-returns-3
+returns-3 c =
+    let n = c .before .before .check-nodes .ensures in
+    n ∙ sym (verdict-nodes _ _ (whole (c .before .before .before .before .before)) (within (c .before .before .before)) (rw n at (c .if3 .taken)))
+
+-- .. nor any of refusals 3 to 7.
+sound : (c : tie.Else3) → nodesVerdict (c .before .before .before .before .before .before .before .before .before .args .words .now) (c .before .before .before .before .before .before .before .before .before .args .list .now) .number ≡ 0
+sound c = rw (c .before .before .check-nodes .ensures) at (c .if3 .left)
+
+check-tree-requires : tie.Need-check-tree-requires
+check-tree-requires c κs =
+    ((some-node _ (whole (c .before .before .before .before .before)), few-nodes _ _ (within (c .before .before .before))), λ i h. backward _ _ i (none-faulty _ _ (sound c) i h))
+
+returns-4 : tie.Need-returns-4
+returns-4 c =
+    c .check-tree .ensures ∙ sym (verdict-tree _ _ (whole (c .before .before .before .before .before .before)) (within (c .before .before .before .before)) (sound (c .before)))
+
+pub check-spec : {M : Type 1} → statement M
+check-spec =
+    tie.close
+    (tie.spec
+    partial-node-requires
+    answer-requires
+    returns
+    too-large-requires
+    answer-requires-2
+    returns-2
+    check-nodes-requires
+    returns-3
+    check-tree-requires
+    returns-4)

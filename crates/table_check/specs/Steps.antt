@@ -1,0 +1,66 @@
+-- The verdict in steps: what the functions of the checker decide, one definition each. The public contract cites none of them.
+-- Assumes nothing.
+use mathlib.Core.Bool.{Bool, false, not, _&&_}
+use mathlib.Core.List.{List, [], _∷_}
+use mathlib.Core.Path.{_≡_}
+use Prim.Native.Nat.{ℕ, _+_, _-_, _≤_, _<_}
+use lib.Dec.{eqb, ltb}
+use lib.ListN.{length, getD}
+use Rattle.lists.specs.Choice.{pick}
+use Rattle.lists.specs.Search.{lowest}
+use Rattle.lists.specs.Members.{all, distinct, times}
+use Rattle.lists.specs.Parts.{sum}
+use Rattle.formula.specs.Words.{nodeCount, field, range}
+use Rattle.table_check.specs.Verdict.{limit, isNumber, isBlockKind, forwardReference, nodeFault, refusal, accepted}
+use Rattle.table_check.specs.declared.Verdict.{Verdict}
+
+-- The entries of a range are variable numbers, none of them twice: refusal 7 does not apply.
+unfoldable pub goodRange : List ℕ → ℕ → ℕ → Bool
+goodRange ls first count = all isNumber (range ls first count) && distinct (range ls first count)
+
+-- The first of refusals 5 to 7 that applies to a block, 0 if none does. The blocks below it bind `before` variables.
+unfoldable pub blockFault : List ℕ → ℕ → ℕ → ℕ → ℕ
+blockFault ls before first count =
+    pick (ltb (length ls) (first + count)) 5
+    (pick (ltb limit (before + count)) 6
+    (pick (not (goodRange ls first count)) 7
+    0))
+
+-- Each variable number has a stamp, and none is above `top`.
+pub record Stamps (stamps : List ℕ) (top : ℕ) : Type 0 where
+  pub wide : length stamps ≡ 65536
+  pub low : (x : ℕ) → getD stamps x 0 ≤ top
+
+-- x is a variable number that does not bear the stamp.
+abbrev pub isNew : List ℕ → ℕ → ℕ → Bool
+isNew stamps stamp x = isNumber x && not (eqb (getD stamps x 0) stamp)
+
+-- Refusals 3 to 7: of the lowest node that one applies to.
+unfoldable pub nodesVerdict : List ℕ → List ℕ → Verdict
+nodesVerdict ws ls =
+    let n = nodeCount ws in
+    let i = lowest (λ i. not (eqb (nodeFault ws ls i) 0)) n in
+    pick (ltb i n) (refusal (nodeFault ws ls i) i) accepted
+
+-- The nodes that a node with these words names.
+unfoldable pub namedBy : ℕ → ℕ → ℕ → ℕ → List ℕ
+namedBy kind a b c =
+    pick (eqb kind 3) (a ∷ [])
+    (pick (eqb kind 4) (b ∷ c ∷ [])
+    (pick (isBlockKind kind) (c ∷ [])
+    []))
+
+-- How often the nodes below node i name x.
+unfoldable pub namedBelow : List ℕ → ℕ → ℕ → ℕ
+namedBelow ws x i = sum (λ j. times x (namedBy (field ws j 0) (field ws j 1) (field ws j 2) (field ws j 3))) i
+
+-- Refusal 4 applies to no node.
+abbrev pub NoForward : List ℕ → Type 0
+NoForward ws = (i : ℕ) → i < nodeCount ws → forwardReference i (field ws i 0) (field ws i 1) (field ws i 2) (field ws i 3) ≡ false
+
+-- Refusal 8: of the lowest node below the last that is not named exactly once.
+unfoldable pub treeVerdict : List ℕ → Verdict
+treeVerdict ws =
+    let n = nodeCount ws in
+    let j = lowest (λ j. not (eqb (namedBelow ws j n) 1)) (n - 1) in
+    pick (ltb j (n - 1)) (refusal 8 j) accepted
