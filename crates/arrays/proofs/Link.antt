@@ -2,13 +2,13 @@
 -- Assumes nothing.
 use mathlib.Core.Path.{_≡_, refl, sym, _∙_}
 use mathlib.Core.Bool.{Bool, true, false, _&&_}
-use Prim.Native.Nat.{ℕ, zero, suc, _≤_, _<_}
+use Prim.Native.Nat.{ℕ, suc, _≤_, _<_}
 use native.Mathlib.Omega.{arith}
 use lib.Dec.{leb, ltb}
 use borrow.Author.Tests.{ltb-true, ltb-false, lt-ltb, le-ltb, leb-true, leb-false, le-leb, lt-leb}
-use Rattle.lists.specs.Choice.{pick, pick-yes, pick-no, Is, is-true, is-false, look, clash, and-left, and-right, and-both}
+use Rattle.lists.specs.Choice.{pick-yes, pick-no, Is, is-true, is-false, look, clash, and-left, and-right, and-both}
 use Rattle.lists.specs.Search.{lowest}
-use Rattle.lists.proofs.Search.{lowest-le, lowest-holds, lowest-before, lowest-is, lowest-none, lowest-cong}
+use Rattle.lists.proofs.Search.{lowest-holds, lowest-before, lowest-is, lowest-none, lowest-cong}
 use Rattle.arrays.specs.Link.{link}
 
 -- the test from i up

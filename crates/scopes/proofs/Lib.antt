@@ -1,0 +1,5 @@
+pub mod Nodes
+pub mod Stores
+pub mod Scopes
+pub mod Chains
+pub mod Counting

@@ -1,0 +1,91 @@
+-- Blocks and operands of a table, from the words of its nodes.
+-- Assumes nothing.
+use mathlib.Core.Path.{_≡_, sym, _∙_}
+use mathlib.Core.Bool.{true, false, _||_}
+use mathlib.Core.List.{List, [], _∷_}
+use Prim.Native.Nat.{ℕ, _<_, _≤_}
+use native.Mathlib.Omega.{arith}
+use lib.Dec.{eqb}
+use Rattle.lists.specs.Choice.{pick, clash}
+use Rattle.lists.specs.Members.{mem}
+use Rattle.formula.specs.Node.{operands, isBlock}
+use Rattle.formula.specs.declared.NodeWords.{NodeWords}
+use Rattle.formula.specs.Words.{nodeCount, field, nodeOf, nodeAt, tableOf}
+use Rattle.formula.specs.Tree.{Tree}
+use Rattle.formula.proofs.Nodes.{Kind, kind-of, kind-constant, kind-variable, kind-negation, kind-operator, kind-exists, kind-for-all, kind-none}
+use Rattle.table_check.specs.Verdict.{limit, verdict, accepted}
+use Rattle.table_check.proofs.Accepted.{accepted-holds}
+
+block-by : (ls : List ℕ) (kind a b c : ℕ) → Kind kind → isBlock (nodeOf ls kind a b c) ≡ (eqb kind 5 || eqb kind 6)
+unfolding nodeOf pick isBlock
+block-by ls kind a b c (kind-constant e) = rw e
+block-by ls kind a b c (kind-variable e) = rw e
+block-by ls kind a b c (kind-negation e) = rw e
+block-by ls kind a b c (kind-operator e) = rw e
+block-by ls kind a b c (kind-exists e) = rw e
+block-by ls kind a b c (kind-for-all e) = rw e
+block-by ls kind a b c (kind-none e1 e2 e3 e4 e5 e6) = rw (e1, e2, e3, e4, e5, e6)
+
+body-by : (ls : List ℕ) (kind a b c : ℕ) → Kind kind → isBlock (nodeOf ls kind a b c) ≡ true → operands (nodeOf ls kind a b c) ≡ c ∷ []
+unfolding nodeOf pick isBlock operands
+body-by ls kind a b c (kind-constant e) h = clash h (rw e)
+body-by ls kind a b c (kind-variable e) h = clash h (rw e)
+body-by ls kind a b c (kind-negation e) h = clash h (rw e)
+body-by ls kind a b c (kind-operator e) h = clash h (rw e)
+body-by ls kind a b c (kind-exists e) h = rw e
+body-by ls kind a b c (kind-for-all e) h = rw e
+body-by ls kind a b c (kind-none e1 e2 e3 e4 e5 e6) h = clash h (rw (e1, e2, e3, e4, e5, e6))
+
+none-by : (ls : List ℕ) (kind a b c : ℕ) → Kind kind → (kind ≡ 3 → ⊥) → (kind ≡ 4 → ⊥) → isBlock (nodeOf ls kind a b c) ≡ false
+    → operands (nodeOf ls kind a b c) ≡ []
+unfolding nodeOf pick isBlock operands
+none-by ls kind a b c (kind-constant e) n m h = rw e
+none-by ls kind a b c (kind-variable e) n m h = rw e
+none-by ls kind a b c (kind-negation e) n m h = absurd (n e)
+none-by ls kind a b c (kind-operator e) n m h = absurd (m e)
+none-by ls kind a b c (kind-exists e) n m h = clash (rw e) h
+none-by ls kind a b c (kind-for-all e) n m h = clash (rw e) h
+none-by ls kind a b c (kind-none e1 e2 e3 e4 e5 e6) n m h = rw (e1, e2, e3, e4, e5, e6)
+
+-- the words that reading node i gives
+abbrev pub ReadAt : List ℕ → ℕ → NodeWords → Type 0
+ReadAt ws i n = (n .kind ≡ field ws i 0) × (n .a ≡ field ws i 1) × (n .b ≡ field ws i 2) × (n .c ≡ field ws i 3)
+
+module _ (ws ls : List ℕ) (i : ℕ) (n : NodeWords) (r : ReadAt ws i n) where
+  pub block-read : (eqb (n .kind) 5 || eqb (n .kind) 6) ≡ isBlock (nodeAt ws ls i)
+  unfolding nodeAt
+  block-read = rw (r .0) (sym (block-by ls (field ws i 0) (field ws i 1) (field ws i 2) (field ws i 3) (kind-of (field ws i 0))))
+
+  pub negation-read : n .kind ≡ 3 → operands (nodeAt ws ls i) ≡ n .a ∷ []
+  unfolding nodeAt nodeOf pick operands
+  negation-read e = let k : field ws i 0 ≡ 3 = sym (r .0) ∙ e in rw (k, r .1)
+
+  pub operator-read : n .kind ≡ 4 → operands (nodeAt ws ls i) ≡ n .b ∷ n .c ∷ []
+  unfolding nodeAt nodeOf pick operands
+  operator-read e = let k : field ws i 0 ≡ 4 = sym (r .0) ∙ e in rw (k, r .2, r .3)
+
+  pub body-read : isBlock (nodeAt ws ls i) ≡ true → operands (nodeAt ws ls i) ≡ n .c ∷ []
+  unfolding nodeAt
+  body-read h = rw (r .3) (body-by ls (field ws i 0) (field ws i 1) (field ws i 2) (field ws i 3) (kind-of (field ws i 0)) h)
+
+  pub none-read : (n .kind ≡ 3 → ⊥) → (n .kind ≡ 4 → ⊥) → isBlock (nodeAt ws ls i) ≡ false → operands (nodeAt ws ls i) ≡ []
+  unfolding nodeAt
+  none-read p q h =
+      none-by ls (field ws i 0) (field ws i 1) (field ws i 2) (field ws i 3) (kind-of (field ws i 0)) (λ e. p (r .0 ∙ e)) (λ e. q (r .0 ∙ e)) h
+
+module _ (ws ls : List ℕ) (ok : verdict ws ls ≡ accepted) where
+  pub accepted-tree : Tree (tableOf ws ls)
+  accepted-tree = accepted-holds ws ls ok .proper .tree
+
+  pub nodes-few : nodeCount ws ≤ limit
+  nodes-few = accepted-holds ws ls ok .nodes-limit
+
+  pub nodes-some : 0 < nodeCount ws
+  unfolding tableOf
+  nodes-some = accepted-tree .nonempty
+
+  -- operands index the arrays
+  pub operand-lt : (i a : ℕ) (xs : List ℕ) → i < nodeCount ws → operands (nodeAt ws ls i) ≡ xs → mem a xs ≡ true → a < limit
+  unfolding tableOf
+  operand-lt i a xs h e m =
+      let l : a < i = accepted-tree .lower i a h (rw e m) in omega (arith, nodes-few)

@@ -1,0 +1,189 @@
+-- The pass that fills parent blocks and levels, step by step.
+-- Assumes nothing.
+use mathlib.Core.Path.{_≡_, refl, sym, _∙_, ap, subst}
+use mathlib.Core.Bool.{Bool, true, false}
+use mathlib.Core.List.{List}
+use Prim.Native.Nat.{ℕ, suc, _+_, _-_, _<_, _≤_, max}
+use native.Mathlib.Omega.{arith}
+use lib.Dec.{eqb}
+use lib.ListN.{length, getD, set}
+use lib.Seq.{getD-set-same, getD-set-other}
+use borrow.Author.Tests.{eqb-true, eqb-false}
+use Rattle.lists.specs.Choice.{pick, pick-yes, pick-no, Is, is-true, is-false, look}
+use Rattle.lists.specs.Members.{mem}
+use Rattle.lists.specs.Parts.{highest}
+use Rattle.lists.proofs.Search.{lowest-holds}
+use Rattle.lists.proofs.Parts.{highest-le}
+use Rattle.formula.specs.Node.{Table, operands, isBlock}
+use Rattle.formula.specs.Words.{nodeCount, nodeAt, tableOf}
+use Rattle.formula.specs.Tree.{Tree}
+use Rattle.table_check.specs.Verdict.{limit, verdict, accepted}
+use Rattle.prenex_form.specs.Scope.{parent, inner, level}
+use Rattle.prenex_form.specs.Levels.{levels}
+use Rattle.prenex_form.proofs.Paths.{parent-is, parent-lt, parent-higher, root-parent, climb, level-root, level-step, inner-lt}
+use Rattle.arrays.specs.Held.{enclosing, Parents, NodeLevels}
+use Rattle.arrays.proofs.Enclosing.{enclosing-root, enclosing-step}
+use Rattle.scopes.specs.Passes.{Stored, ScopesFrom}
+use Rattle.scopes.proofs.Nodes.{accepted-tree, nodes-few, nodes-some}
+use Rattle.scopes.proofs.Stores.{getD-set}
+
+one-at-most : (b : Bool) → pick b 1 0 ≤ 1
+unfolding pick
+one-at-most true = omega arith
+one-at-most false = omega arith
+
+absent : (b : Bool) → (b ≡ true → ⊥) → b ≡ false
+absent true h = absurd (h refl)
+absent false h = refl
+
+module _ (t : Table) (tree : Tree t) where
+  -- a node is below its parent, and the root below the table's size
+  parent-above : (i : ℕ) → i < t .size → i < parent t i
+  parent-above i h = go (look (eqb (suc i) (t .size)))
+    where
+      go : Is (eqb (suc i) (t .size)) → i < parent t i
+      go (is-true e) = omega (arith, root-parent t tree i (eqb-true _ _ e))
+      go (is-false e) =
+          let n = eqb-false (suc i) (t .size) e in parent-higher t tree i (omega arith)
+
+  only-root : (i : ℕ) → i < t .size → t .size ≤ parent t i → suc i ≡ t .size
+  only-root i h k = go (look (eqb (suc i) (t .size)))
+    where
+      go : Is (eqb (suc i) (t .size)) → suc i ≡ t .size
+      go (is-true e) = eqb-true _ _ e
+      go (is-false e) =
+          let n = eqb-false (suc i) (t .size) e in
+          let l : suc i < t .size = omega arith in
+          absurd (omega (arith, parent-lt t tree i l))
+
+  -- the operands of a node are those whose parent it is
+  names : (i x : ℕ) → i < t .size → parent t x ≡ i → mem x (operands (t .node i)) ≡ true
+  unfolding parent
+  names i x h e = subst (λ j. mem x (operands (t .node j)) ≡ true) e (lowest-holds (λ j. mem x (operands (t .node j))) (t .size) (omega arith))
+
+  names-not : (i x : ℕ) → i < t .size → (parent t x ≡ i → ⊥) → mem x (operands (t .node i)) ≡ false
+  names-not i x h n = absent _ (λ m. n (parent-is t tree i x h m))
+
+  -- each block above a node is at a higher index
+  pub level-bound : (i : ℕ) → i < t .size → level t i + i < t .size
+  level-bound =
+      climb t tree (λ i. level t i + i < t .size)
+      (λ i h. omega (arith, level-root t tree i h))
+      (λ i h r. omega (arith, level-step t tree i h, parent-higher t tree i h, one-at-most (inner t i)))
+
+  root-outer : (i : ℕ) → suc i ≡ t .size → inner t i ≡ false
+  root-outer i h =
+      absent _ (λ e. let l = inner-lt t tree i (omega arith) e in omega arith)
+
+  pub scopes-start : (r : ℕ) (ps ls : List ℕ) → suc r ≡ t .size → getD ps r 0 ≡ t .size → getD ls r 0 ≡ 0 → ScopesFrom t (t .size) ps ls
+  scopes-start r ps ls h p l =
+      record {
+        parent-is = λ x k m.
+            let e : r ≡ x = omega (arith, only-root x k m) in
+            subst (λ y. getD ps y 0 ≡ enclosing t y) e (p ∙ sym (enclosing-root t tree r h));
+        level-is = λ x k m. absurd (omega arith);
+        inherited-is = λ x q k m.
+            let e : r ≡ x = omega (arith, only-root x k m) in
+            subst (λ y. pick (inner t y) 1 0 + getD ls y 0 ≡ level t y) e (omega (arith, level-root t tree r h, pick-no {A = ℕ} (inner t r) 1 0 (root-outer r h)));
+      }
+
+  -- node i's level, given that its parent's is known
+  pub own-level-is : (i : ℕ) (ps ls : List ℕ) → i < t .size → ScopesFrom t (i + 1) ps ls → pick (inner t i) 1 0 + getD ls i 0 ≡ level t i
+  own-level-is i ps ls h s = s .inherited-is i (omega arith) h (omega (arith, parent-above i h))
+
+  -- node i hands its block and its level down to its operands
+  pub scopes-step : (i b : ℕ) (ps ls ps' ls' : List ℕ) → i < t .size → i < length ls → ScopesFrom t (i + 1) ps ls
+      → b ≡ pick (isBlock (t .node i)) i (getD ps i 0)
+      → Stored (operands (t .node i)) b ps ps' → Stored (operands (t .node i)) (level t i) (set ls i (level t i)) ls'
+      → ScopesFrom t i ps' ls'
+  scopes-step i b ps ls ps' ls' h w s eb sp sl =
+      record {
+        parent-is = λ x k m. parent-at x k m (look (eqb (parent t x) i));
+        level-is = λ x k l. level-at x k l (look (eqb x i));
+        inherited-is = λ x q k m. inherited-at x q k m (look (eqb (parent t x) i));
+      }
+    where
+      parent-at : (x : ℕ) → x < t .size → i ≤ parent t x → Is (eqb (parent t x) i) → getD ps' x 0 ≡ enclosing t x
+      parent-at x k m (is-true e) =
+          let n = names i x h (eqb-true _ _ e) in
+          let q : b ≡ pick (isBlock (t .node i)) i (enclosing t i) = eb ∙ ap (pick (isBlock (t .node i)) i) (s .parent-is i h (omega (arith, parent-above i h))) in
+          sp .element-is x ∙ pick-yes _ _ _ n ∙ q ∙ sym (enclosing-step t tree i x h n)
+      parent-at x k m (is-false e) =
+          let d = eqb-false (parent t x) i e in
+          sp .element-is x ∙ pick-no _ _ _ (names-not i x h d) ∙ s .parent-is x k (omega arith)
+
+      level-at : (x : ℕ) → i ≤ x → x < t .size → Is (eqb x i) → getD ls' x 0 ≡ level t x
+      level-at x k l e =
+          let n = names-not i x h (λ q. omega (arith, parent-above x l)) in
+          sl .element-is x ∙ pick-no _ _ _ n ∙ getD-set ls i (level t i) x w ∙ go e
+        where
+          go : Is (eqb x i) → pick (eqb x i) (level t i) (getD ls x 0) ≡ level t x
+          go (is-true e) = pick-yes _ _ _ e ∙ ap (level t) (sym (eqb-true x i e))
+          go (is-false e) =
+              let d = eqb-false x i e in pick-no _ _ _ e ∙ s .level-is x (omega arith) l
+
+      inherited-at : (x : ℕ) → x < i → x < t .size → i ≤ parent t x → Is (eqb (parent t x) i) → pick (inner t x) 1 0 + getD ls' x 0 ≡ level t x
+      inherited-at x q k m (is-true e) =
+          let p = eqb-true (parent t x) i e in
+          let g = sl .element-is x ∙ pick-yes _ _ _ (names i x h p) in
+          omega (arith, g, level-step t tree x (omega arith), ap (level t) p)
+      inherited-at x q k m (is-false e) =
+          let d = eqb-false (parent t x) i e in
+          let g = sl .element-is x ∙ pick-no _ _ _ (names-not i x h d) ∙ getD-set-other ls i x (level t i) 0 (λ z. omega arith) in
+          omega (arith, g, s .inherited-is x (omega arith) k (omega arith))
+
+  pub scopes-end : (i : ℕ) (ps ls : List ℕ) → i ≡ 0 → ScopesFrom t i ps ls → Parents t ps × NodeLevels t ls
+  scopes-end i ps ls e s = (
+    record { parent-is = λ x h. s .parent-is x h (omega arith) },
+    record { level-is = λ x h. s .level-is x (omega arith) h },
+  )
+
+-- the highest so far and of what is left is the highest of all
+highest-last : (f : ℕ → ℕ) (k : ℕ) → highest f (suc k) ≡ max (highest f k) (f k)
+unfolding highest
+highest-last f k = refl
+
+pub deepest-step : (f : ℕ → ℕ) (i d v w : ℕ) → 0 < i → w ≡ f (i - 1) → v ≡ max d w → max v (highest f (i - 1)) ≡ max d (highest f i)
+deepest-step f i d v w h p q =
+    let e : suc (i - 1) ≡ i = omega arith in
+    omega (arith, highest-last f (i - 1), ap (highest f) e)
+
+pub deepest-end : (f : ℕ → ℕ) (i d n : ℕ) → i ≡ 0 → max d (highest f i) ≡ n → d ≡ n
+unfolding highest
+deepest-end f i d n e h = omega (arith, ap (highest f) e)
+
+-- The same of an accepted table.
+module _ (ws ls : List ℕ) (ok : verdict ws ls ≡ accepted) (i : ℕ) (h : i < nodeCount ws) where
+  pub level-small : level (tableOf ws ls) i < limit
+  unfolding tableOf
+  level-small = omega (arith, level-bound (tableOf ws ls) (accepted-tree ws ls ok) i h, nodes-few ws ls ok)
+
+  pub inherited-small : (ps vs : List ℕ) → ScopesFrom (tableOf ws ls) (i + 1) ps vs → getD vs i 0 < limit
+  unfolding tableOf
+  inherited-small ps vs s = omega (arith, own-level-is (tableOf ws ls) (accepted-tree ws ls ok) i ps vs h s, level-small)
+
+  pub node-filled : (b v : ℕ) (ps vs ps' vs' : List ℕ) → length vs ≡ limit → ScopesFrom (tableOf ws ls) (i + 1) ps vs
+      → b ≡ pick (isBlock (nodeAt ws ls i)) i (getD ps i 0) → v ≡ pick (inner (tableOf ws ls) i) 1 0 + getD vs i 0
+      → Stored (operands (nodeAt ws ls i)) b ps ps' → Stored (operands (nodeAt ws ls i)) v (set vs i v) vs'
+      → (v ≡ level (tableOf ws ls) i) × ScopesFrom (tableOf ws ls) i ps' vs'
+  unfolding tableOf
+  node-filled b v ps vs ps' vs' w s eb ev sp sv =
+      let tree = accepted-tree ws ls ok in
+      let e : v ≡ level (tableOf ws ls) i = ev ∙ own-level-is (tableOf ws ls) tree i ps vs h s in
+      (e, scopes-step (tableOf ws ls) tree i b ps vs ps' vs' h (omega (arith, nodes-few ws ls ok)) s eb sp (rw e at sv))
+
+module _ (ws ls : List ℕ) (ok : verdict ws ls ≡ accepted) where
+  pub levels-small : levels (tableOf ws ls) ≤ limit
+  unfolding levels tableOf
+  levels-small = highest-le (level (tableOf ws ls)) (nodeCount ws) limit (λ i h. omega (arith, level-small ws ls ok i h))
+
+  -- the root has no parent block and is at level 0
+  pub root-filled : (ps vs : List ℕ) → length ps ≡ limit → length vs ≡ limit
+      → ScopesFrom (tableOf ws ls) (nodeCount ws) (set ps (nodeCount ws - 1) (nodeCount ws)) (set vs (nodeCount ws - 1) 0)
+  unfolding tableOf
+  root-filled ps vs p v =
+      let n = nodes-few ws ls ok in
+      let m = nodes-some ws ls ok in
+      scopes-start (tableOf ws ls) (accepted-tree ws ls ok) (nodeCount ws - 1) _ _ (omega arith)
+      (getD-set-same ps (nodeCount ws - 1) (nodeCount ws) 0 (omega arith))
+      (getD-set-same vs (nodeCount ws - 1) 0 0 (omega arith))
