@@ -1,1 +1,3 @@
+pub mod Answers
 pub mod Examples
+pub mod Measured

@@ -1,0 +1,92 @@
+-- The sizes of an accepted table from its parts, and their limits.
+-- Assumes nothing.
+use mathlib.Core.Path.{_≡_, refl, sym, _∙_, ap}
+use mathlib.Core.Bool.{Bool, true, false}
+use mathlib.Core.List.{List}
+use Prim.Native.Nat.{ℕ, zero, suc, _+_, _-_, _*_, _≤_, _<_}
+use native.Mathlib.Omega.{arith}
+use lib.Dec.{eqb}
+use Rattle.lists.specs.Choice.{pick}
+use Rattle.lists.specs.Parts.{sum}
+use Rattle.formula.specs.Node.{Node, Table, isBlock}
+use Rattle.formula.specs.Words.{nodeCount, nodeAt, tableOf}
+use Rattle.formula.specs.Tree.{Tree}
+use Rattle.table_check.specs.Verdict.{verdict, accepted}
+use Rattle.table_check.proofs.Accepted.{accepted-holds}
+use Rattle.prenex_form.specs.declared.Sizes.{Sizes}
+use Rattle.prenex_form.specs.Scope.{depth}
+use Rattle.prenex_form.specs.Names.{boundCount, innerBoundBelow, innerBelow}
+use Rattle.prenex_form.specs.Levels.{levels}
+use Rattle.prenex_form.specs.Matrix.{kept}
+use Rattle.prenex_form.specs.Prefix.{blockCount}
+use Rattle.prenex_form.specs.Sizes.{addedBy, prefixCount, sizes}
+use Rattle.prenex_form.proofs.Paths.{depth-levels}
+use Rattle.prenex_form.proofs.PrefixNames.{innerBelow-le, blockCount-le}
+use Rattle.prenex_form.proofs.NameLaws.{innerBound-le, pick-le}
+use Rattle.prenex_form.proofs.Limits.{bound-limit, size-limit}
+use Rattle.prenex_form.proofs.WrittenSizes.{nodes-few}
+use Rattle.scopes.proofs.Scopes.{levels-small}
+
+-- 1 if the root is a block
+abbrev pub rootBlocks : Table → ℕ
+rootBlocks t = pick (isBlock (t .node (t .size - 1))) 1 0
+
+pub root-le : (t : Table) → rootBlocks t ≤ 1
+root-le t = pick-le (isBlock (t .node (t .size - 1))) 1
+
+-- both ways to count a prefix's blocks are one more than the levels
+count-is : (r z : Bool) (d l : ℕ) → d ≡ l + pick r 1 0 → pick z 0 (pick r d (d + 1)) ≡ pick z 0 (l + 1)
+unfolding pick
+count-is r true d l e = refl
+count-is true false d l e = omega arith
+count-is false false d l e = omega arith
+
+pub prefixCount-is : (t : Table) → Tree t → prefixCount t ≡ pick (eqb (blockCount t) 0) 0 (levels t + 1)
+unfolding prefixCount
+prefixCount-is t tree = count-is (isBlock (t .node (t .size - 1))) (eqb (blockCount t) 0) (depth t) (levels t) (depth-levels t tree)
+
+module _ (ws ls : List ℕ) (ok : verdict ws ls ≡ accepted) where
+  tree : Tree (tableOf ws ls)
+  tree = accepted-holds ws ls ok .proper .tree
+
+  -- the sizes, each given by its part
+  pub sizes-are : (n b q d nodes blocks entries : ℕ)
+      → n ≡ nodeCount ws
+      → b ≡ blockCount (tableOf ws ls)
+      → q ≡ boundCount (tableOf ws ls)
+      → d ≡ levels (tableOf ws ls) + rootBlocks (tableOf ws ls)
+      → nodes ≡ nodeCount ws - rootBlocks (tableOf ws ls) + sum (addedBy (tableOf ws ls)) (nodeCount ws)
+      → blocks ≡ pick (eqb (blockCount (tableOf ws ls)) 0) 0 (levels (tableOf ws ls) + 1)
+      → entries ≡ boundCount (tableOf ws ls) + innerBoundBelow (tableOf ws ls) (nodeCount ws) + innerBelow (tableOf ws ls) (nodeCount ws)
+      → _≡_ {A = Sizes} (record { n = n; b = b; q = q; depth = d; nodes = nodes; blocks = blocks; entries = entries }) (sizes (tableOf ws ls))
+  unfolding sizes kept tableOf tree
+  sizes-are n b q d nodes blocks entries e1 e2 e3 e4 e5 e6 e7 =
+      let f4 = e4 ∙ sym (depth-levels (tableOf ws ls) tree) in
+      let f6 = e6 ∙ sym (prefixCount-is (tableOf ws ls) tree) in
+      λ i. record { n = e1 i; b = e2 i; q = e3 i; depth = f4 i; nodes = e5 i; blocks = f6 i; entries = e7 i }
+
+  -- their limits
+  pub levels-limit : levels (tableOf ws ls) ≤ 4096
+  levels-limit = levels-small ws ls ok
+
+  pub count-limit : nodeCount ws ≤ 4096
+  count-limit = accepted-holds ws ls ok .nodes-limit
+
+  pub count-some : 0 < nodeCount ws
+  unfolding tableOf tree
+  count-some = tree .nonempty
+
+  pub added-limit : nodeCount ws - rootBlocks (tableOf ws ls) + sum (addedBy (tableOf ws ls)) (nodeCount ws) ≤ 40960
+  unfolding sizes kept tableOf
+  added-limit = nodes-few (tableOf ws ls) (size-limit ws ls (accepted-holds ws ls ok)) (bound-limit ws ls (accepted-holds ws ls ok))
+
+  pub bound-few : boundCount (tableOf ws ls) ≤ 4096
+  bound-few = bound-limit ws ls (accepted-holds ws ls ok)
+
+  pub inner-bound-few : innerBoundBelow (tableOf ws ls) (nodeCount ws) ≤ 4096
+  unfolding boundCount tableOf
+  inner-bound-few = omega (arith, innerBound-le (tableOf ws ls) (nodeCount ws), bound-few)
+
+  pub inner-few : innerBelow (tableOf ws ls) (nodeCount ws) ≤ 4096
+  unfolding tableOf
+  inner-few = omega (arith, innerBelow-le (tableOf ws ls), blockCount-le (tableOf ws ls), count-limit)
