@@ -1,0 +1,15 @@
+-- `wakubinryo::put_answer` meets its contract.
+-- Assumes nothing.
+use mathlib.Core.Path.{refl}
+use Rattle.prenex.specs.Outcome.{answerWords}
+use borrow.Author.Needs.{needs}
+use native.Mathlib.Omega.{arith}
+use Rattle.wakubinryo.proofs.put_answer.Statement.{statement}
+use Rattle.wakubinryo.proofs.put_answer.Tie as tie
+
+returns : tie.Need-returns
+unfolding answerWords
+returns c = refl
+
+pub put-answer-spec : {M : Type 1} → statement M
+put-answer-spec = tie.close (tie.spec returns)

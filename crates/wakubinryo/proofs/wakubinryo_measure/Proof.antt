@@ -1,0 +1,20 @@
+-- `wakubinryo::wakubinryo_measure` meets its contract.
+-- Assumes nothing.
+use mathlib.Core.Path.{_∙_, ap}
+use Rattle.prenex.specs.Outcome.{answerWords}
+use native.Mathlib.Omega.{arith}
+use borrow.Author.Needs.{needs}
+use Rattle.wakubinryo.proofs.wakubinryo_measure.Statement.{statement}
+use Rattle.wakubinryo.proofs.wakubinryo_measure.Tie as tie
+
+measure-requires : tie.Need-measure-requires
+measure-requires c κs = search needs
+
+put-answer-requires : tie.Need-put-answer-requires
+put-answer-requires c κs = search needs
+
+returns : tie.Need-returns
+returns c = c .put-answer .ensures ∙ ap answerWords (c .before .measure .ensures)
+
+pub wakubinryo-measure-spec : {M : Type 1} → statement M
+wakubinryo-measure-spec = tie.close (tie.spec measure-requires put-answer-requires returns)
