@@ -1,2 +1,3 @@
 pub mod Link
 pub mod Enclosing
+pub mod Entries

@@ -1,12 +1,27 @@
 // What formula tables and prenex forms mean: nodes, ranges, valuations, truth. Definitions stand
-// in specs/, their laws in proofs/. The code here reads one node's words.
+// in specs/, their laws in proofs/. The code here reads and writes one node's words.
+ghost use mathlib.Core.List.{[], _∷_};
 ghost use mathlib.Core.Path.{_≡_};
 ghost use Prim.Native.Nat.{_+_, _*_, _≤_};
 ghost use lib.ListN.{length};
+ghost use Rattle.lists.specs.Parts.{overwrite};
 ghost use Rattle.formula.specs.Words.{width, field};
 
 // The words of a node: a kind and three fields. Nothing else says how many there are.
 pub const WIDTH: usize = 4;
+
+// The kinds of nodes.
+pub const CONSTANT: u32 = 1;
+
+pub const VARIABLE: u32 = 2;
+
+pub const NEGATION: u32 = 3;
+
+pub const OPERATOR: u32 = 4;
+
+pub const EXISTS_BLOCK: u32 = 5;
+
+pub const FOR_ALL_BLOCK: u32 = 6;
 
 // A node's words: its kind and what stands in its fields.
 pub struct NodeWords {
@@ -28,4 +43,16 @@ pub fn node_at(words: &[u32], i: usize) -> NodeWords
         b: words[at + 2],
         c: words[at + 3],
     }
+}
+
+// Writes a node's words over node `at`.
+pub fn put_node(nodes: &mut [u32], at: usize, kind: u32, a: u32, b: u32, c: u32)
+    requires { ⌜ width * at + width ≤ length (now nodes) ⌝ }
+    ensures { λ _. ⌜ now (nodes .exit) ≡ overwrite (now (nodes .entry)) (width * at) (kind ∷ a ∷ b ∷ c ∷ []) ⌝ }
+{
+    let first = WIDTH * at;
+    nodes[first] = kind;
+    nodes[first + 1] = a;
+    nodes[first + 2] = b;
+    nodes[first + 3] = c;
 }

@@ -2,7 +2,6 @@
 // words.
 ghost use mathlib.Core.Path.{_≡_};
 ghost use Rattle.prenex.specs.Outcome.{answerWords, measured};
-
 use prenex::Answer;
 
 // Measures a table: number, position and sizes, as words.

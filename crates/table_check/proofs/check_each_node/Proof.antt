@@ -6,7 +6,7 @@ use Prim.Native.Nat.{_≤_, _-_}
 use native.Mathlib.Omega.{arith}
 use borrow.Author.Needs.{needs}
 use Rattle.formula.specs.Words.{nodeCount}
-use Rattle.table_check.specs.Verdict.{refusal}
+use Rattle.table_check.specs.Verdict.{nodeFault, refusal}
 use Rattle.table_check.proofs.Faults.{Checked, checked-none, checked-few, checked-more, nodes-refused, nodes-passed}
 use Rattle.table_check.proofs.check_each_node.Statement.{statement}
 use Rattle.table_check.proofs.check_each_node.Tie as tie
@@ -44,11 +44,13 @@ returns c =
 count-at-requires : tie.Need-count-at-requires Inv-loop μ-loop
 count-at-requires c κs = search needs
 
+-- Past the test, the node has no fault.
+faultless : (c : tie.Else1 Inv-loop μ-loop) → nodeFault (c .before .before .before .before .before .before .before .before .before .before .args .words .now) (c .before .before .before .before .before .before .before .before .before .before .args .list .now) (c .before .before .before .before .before .before .loop .i) ≡ 0
+faultless c = sym (c .before .before .before .node-fault .ensures .0) ∙ c .if1 .left
+
 add-before : tie.Need-add-before Inv-loop μ-loop
 add-before c =
-    let p = c .before .before .before .before .before .before .before .loop .inv .1 in
-    let f = sym (c .before .before .before .before .node-fault .ensures .0) ∙ c .before .if1 .left in
-    let l = checked-few _ _ _ _ _ _ p f (c .count-at .ensures) in omega arith
+    let l = checked-few _ _ _ _ _ _ (c .before .before .before .before .before .before .before .loop .inv .1) (faultless (c .before)) (c .count-at .ensures) in omega arith
 
 add-i : tie.Need-add-i Inv-loop μ-loop
 add-i c = search needs
@@ -58,9 +60,7 @@ loop-less c = search needs
 
 loop-again : tie.Need-loop-again Inv-loop μ-loop
 loop-again c =
-    let p = c .before .before .before .before .before .before .before .loop .inv .1 in
-    let r = c .before .before .before .before .node-fault .ensures in
-    (omega arith, checked-more _ _ _ _ _ _ _ p (sym (r .0) ∙ c .before .if1 .left) (c .count-at .ensures) (r .1))
+    (omega arith, checked-more _ _ _ _ _ _ _ (c .before .before .before .before .before .before .before .loop .inv .1) (faultless (c .before)) (c .count-at .ensures) (c .before .before .before .before .node-fault .ensures .1))
 
 answer-requires-2 : tie.Need-answer-requires-2 Inv-loop μ-loop
 answer-requires-2 c κs = search needs

@@ -13,7 +13,8 @@ is-block-kind-requires c κs = search needs
 
 returns : tie.Need-returns
 unfolding wellFormed
-returns c = cc
+returns c =
+    rw (← (c .before .before .before .before .before .before .before .before .is-number .ensures), ← (c .is-block-kind .ensures))
 
 pub well-formed-spec : {M : Type 1} → statement M
 well-formed-spec = tie.close (tie.spec is-number-requires is-block-kind-requires returns)

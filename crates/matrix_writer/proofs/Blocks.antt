@@ -1,0 +1,146 @@
+-- The blocks of an accepted table: their words, and what the working arrays hold of them.
+-- Assumes nothing.
+use mathlib.Core.Path.{_≡_, refl, _∙_, ap}
+use mathlib.Core.Bool.{true, false}
+use mathlib.Core.List.{List}
+use Prim.Native.Nat.{ℕ, zero, suc, _+_, _-_, _*_, _≤_, _<_}
+use native.Mathlib.Omega.{arith}
+use lib.Dec.{eqb}
+use lib.ListN.{length, getD}
+use borrow.Author.Tests.{ne-eqb}
+use Rattle.lists.specs.Choice.{pick, pick-yes, clash, and-left}
+use Rattle.lists.specs.Parts.{sum, upTo, numbers}
+use Rattle.lists.proofs.Parts.{getD-numbers, sum-grows, upTo-cong}
+use Rattle.formula.specs.Node.{block, Table, isBlock}
+use Rattle.formula.specs.Words.{width, nodeCount, field, range, nodeOf, nodeAt, tableOf}
+use Rattle.formula.specs.Form.{quantifierOf}
+use Rattle.formula.specs.Tree.{count, boundBelow}
+use Rattle.formula.proofs.Nodes.{Kind, kind-of, kind-constant, kind-variable, kind-negation, kind-operator, kind-exists, kind-for-all, kind-none}
+use Rattle.table_check.specs.Verdict.{limit, isBlockKind, countAt, verdict, accepted}
+use Rattle.table_check.specs.Accepted.{Accepted}
+use Rattle.table_check.proofs.Accepted.{count-at, accepted-holds}
+use Rattle.prenex_form.specs.Scope.{inner}
+use Rattle.prenex_form.specs.Names.{highestNumber, firstName, newNames, innerBoundBelow, boundCount, copies}
+use Rattle.prenex_form.specs.Levels.{quantifierAt}
+use Rattle.prenex_form.specs.Matrix.{kept, bodyOf, equation}
+use Rattle.prenex_form.proofs.Paths.{kept-positive}
+use Rattle.prenex_form.proofs.NameLaws.{innerBound-is}
+use Rattle.arrays.specs.Held.{Starts, Names}
+use Rattle.matrix_writer.specs.Entries.{entryNodes, entriesNodes}
+use Rattle.matrix_writer.specs.Chain.{InnerBlock}
+
+block-of : (ls : List ℕ) (kind a b d : ℕ) → Kind kind → isBlock (nodeOf ls kind a b d) ≡ true
+    → nodeOf ls kind a b d ≡ block (quantifierOf kind) (range ls a b) d
+unfolding nodeOf pick isBlock quantifierOf
+block-of ls kind a b d (kind-constant e) h = clash (rw e at h) refl
+block-of ls kind a b d (kind-variable e) h = clash (rw e at h) refl
+block-of ls kind a b d (kind-negation e) h = clash (rw e at h) refl
+block-of ls kind a b d (kind-operator e) h = clash (rw e at h) refl
+block-of ls kind a b d (kind-exists e) h = rw e
+block-of ls kind a b d (kind-for-all e) h = rw e
+block-of ls kind a b d (kind-none e1 e2 e3 e4 e5 e6) h = clash (rw (e1, e2, e3, e4, e5, e6) at h) refl
+
+block-kind : (ls : List ℕ) (kind a b d : ℕ) → Kind kind → isBlock (nodeOf ls kind a b d) ≡ true → isBlockKind kind ≡ true
+unfolding nodeOf pick isBlock isBlockKind
+block-kind ls kind a b d (kind-constant e) h = clash (rw e at h) refl
+block-kind ls kind a b d (kind-variable e) h = clash (rw e at h) refl
+block-kind ls kind a b d (kind-negation e) h = clash (rw e at h) refl
+block-kind ls kind a b d (kind-operator e) h = clash (rw e at h) refl
+block-kind ls kind a b d (kind-exists e) h = rw e
+block-kind ls kind a b d (kind-for-all e) h = rw e
+block-kind ls kind a b d (kind-none e1 e2 e3 e4 e5 e6) h = clash (rw (e1, e2, e3, e4, e5, e6) at h) refl
+
+quantifier-of : (ls : List ℕ) (kind a b d : ℕ) → Kind kind → quantifierAt (nodeOf ls kind a b d) ≡ quantifierOf kind
+unfolding nodeOf pick quantifierAt quantifierOf
+quantifier-of ls kind a b d (kind-constant e) = rw e
+quantifier-of ls kind a b d (kind-variable e) = rw e
+quantifier-of ls kind a b d (kind-negation e) = rw e
+quantifier-of ls kind a b d (kind-operator e) = rw e
+quantifier-of ls kind a b d (kind-exists e) = rw e
+quantifier-of ls kind a b d (kind-for-all e) = rw e
+quantifier-of ls kind a b d (kind-none e1 e2 e3 e4 e5 e6) = rw (e1, e2, e3, e4, e5, e6)
+
+-- the quantifier of a node is that of its kind
+pub quantifier-is : (ws ls : List ℕ) (i : ℕ) → quantifierAt (tableOf ws ls .node i) ≡ quantifierOf (field ws i 0)
+unfolding tableOf nodeAt
+quantifier-is ws ls i = quantifier-of ls (field ws i 0) (field ws i 1) (field ws i 2) (field ws i 3) (kind-of (field ws i 0))
+
+pub size-is : (ws ls : List ℕ) → tableOf ws ls .size ≡ nodeCount ws
+unfolding tableOf
+size-is ws ls = refl
+
+-- an accepted table has nodes, all of them whole, and not too many
+pub table-few : (ws ls : List ℕ) → verdict ws ls ≡ accepted → tableOf ws ls .size ≤ limit
+unfolding tableOf
+table-few ws ls h = accepted-holds ws ls h .nodes-limit
+
+pub table-whole : (ws ls : List ℕ) → verdict ws ls ≡ accepted → (0 < nodeCount ws) × (length ws ≡ width * nodeCount ws)
+unfolding tableOf
+table-whole ws ls h = let ok = accepted-holds ws ls h in (ok .proper .tree .nonempty, ok .whole)
+
+pub kept-positive-of : (ws ls : List ℕ) → verdict ws ls ≡ accepted → 0 < kept (tableOf ws ls)
+kept-positive-of ws ls h = kept-positive (tableOf ws ls) (accepted-holds ws ls h .proper .tree)
+
+-- one entry's nodes, at their place
+entry-is : (t : Table) (i s k : ℕ) → entryNodes (getD (newNames t i) k 0) (getD (copies t i) k 0) (s + (4 * k - 1)) k ≡ equation t i s k
+unfolding entryNodes equation pick
+entry-is t i s zero = let e : s + (4 * 0 - 1) ≡ s = omega arith in rw e
+entry-is t i s (suc k) =
+    let n : eqb (suc k) 0 ≡ false = ne-eqb (suc k) 0 (λ e. omega arith) in
+    let a : s + (4 * suc k - 1) ≡ s + 4 * suc k - 1 = omega arith in
+    let b : s + 4 * suc k - 1 + 1 ≡ s + 4 * suc k = omega arith in
+    let d : s + 4 * suc k - 1 - 1 ≡ s + 4 * suc k - 2 = omega arith in
+    let e : s + 4 * suc k - 1 + 2 ≡ s + 4 * suc k + 1 = omega arith in
+    rw (n, a, b, d, e)
+
+module _ (ws ls : List ℕ) (ok : Accepted ws ls) (i : ℕ) (b : InnerBlock (tableOf ws ls) i) where
+  is-block : isBlock (tableOf ws ls .node i) ≡ true
+  unfolding inner
+  is-block = and-left _ _ (b .is-inner)
+
+  pub body-is : bodyOf (tableOf ws ls .node i) ≡ field ws i 3
+  unfolding tableOf nodeAt bodyOf
+  body-is = ap bodyOf (block-of ls (field ws i 0) (field ws i 1) (field ws i 2) (field ws i 3) (kind-of (field ws i 0)) is-block)
+
+  pub count-is : count (tableOf ws ls) i ≡ field ws i 2
+  unfolding tableOf nodeAt countAt
+  count-is =
+      count-at ws ls i (ok .fits i (b .below))
+      ∙ pick-yes _ _ _ (block-kind ls (field ws i 0) (field ws i 1) (field ws i 2) (field ws i 3) (kind-of (field ws i 0)) is-block)
+
+  -- the block's entries are among all
+  pub entries-within : boundBelow (tableOf ws ls) i + count (tableOf ws ls) i ≤ boundCount (tableOf ws ls)
+  unfolding boundCount boundBelow sum
+  entries-within = sum-grows (count (tableOf ws ls)) (suc i) (tableOf ws ls .size) (b .below)
+
+  pub entries-few : boundBelow (tableOf ws ls) i + count (tableOf ws ls) i ≤ limit
+  unfolding boundCount tableOf
+  entries-few = omega (arith, entries-within, ok .counts-limit)
+
+  copies-within : boundBelow (tableOf ws ls) i + count (tableOf ws ls) i ≤ innerBoundBelow (tableOf ws ls) (tableOf ws ls .size)
+  unfolding innerBoundBelow sum
+  copies-within =
+      let t = tableOf ws ls in
+      let e : pick (inner t i) (count t i) 0 ≡ count t i = pick-yes _ _ _ (b .is-inner) in
+      omega (arith, innerBound-is t i (b .below), sum-grows (λ j. pick (inner t j) (count t j) 0) (suc i) (t .size) (b .below))
+
+  module _ (starts names doubles marks : List ℕ) (start : Starts (tableOf ws ls) starts) (named : Names (tableOf ws ls) names doubles marks) where
+    name-at : (k : ℕ) → k < count (tableOf ws ls) i → getD names (getD starts i 0 + k) 0 ≡ getD (newNames (tableOf ws ls) i) k 0
+    unfolding newNames firstName
+    name-at k h =
+        let e : getD starts i 0 ≡ boundBelow (tableOf ws ls) i = start .start-is i (b .below) in
+        let g : getD (numbers (firstName (tableOf ws ls) i) (count (tableOf ws ls) i)) k 0 ≡ firstName (tableOf ws ls) i + k = getD-numbers _ _ k 0 h in
+        omega (arith, entries-within, named .name-is (getD starts i 0 + k) (omega (arith, entries-within)))
+
+    copy-at : (k : ℕ) → k < count (tableOf ws ls) i → getD doubles (getD starts i 0 + k) 0 ≡ getD (copies (tableOf ws ls) i) k 0
+    unfolding copies
+    copy-at k h =
+        let t = tableOf ws ls in
+        let e : getD starts i 0 ≡ boundBelow t i = start .start-is i (b .below) in
+        let l : getD starts i 0 + k < innerBoundBelow t (t .size) = omega (arith, copies-within) in
+        omega (arith, innerBound-is t i (b .below), named .copy-is (getD starts i 0 + k) l, getD-numbers (highestNumber t + boundCount t + 1 + innerBoundBelow t i) (count t i) k 0 h)
+
+    -- the equations written are those of the form
+    pub entries-are : (s : ℕ) → entriesNodes names doubles (getD starts i 0) s (count (tableOf ws ls) i) ≡ upTo (equation (tableOf ws ls) i s) (count (tableOf ws ls) i)
+    unfolding entriesNodes
+    entries-are s = upTo-cong _ _ _ (λ k h. rw (name-at k h, copy-at k h) (entry-is (tableOf ws ls) i s k))

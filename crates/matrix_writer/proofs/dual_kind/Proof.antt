@@ -1,0 +1,14 @@
+-- `matrix_writer::dual_kind` meets its contract. The kind says which quantifier it is.
+-- Assumes nothing.
+use Rattle.matrix_writer.proofs.Levels.{dual-exists, dual-for-all}
+use Rattle.matrix_writer.proofs.dual_kind.Statement.{statement}
+use Rattle.matrix_writer.proofs.dual_kind.Tie as tie
+
+returns : tie.Need-returns
+returns c = dual-exists _ (c .if1 .taken)
+
+returns-2 : tie.Need-returns-2
+returns-2 c = dual-for-all _ (c .if1 .left)
+
+pub dual-kind-spec : {M : Type 1} → statement M
+dual-kind-spec = tie.close (tie.spec returns returns-2)

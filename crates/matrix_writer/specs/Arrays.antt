@@ -1,0 +1,32 @@
+-- What the working arrays hold when the nodes are written.
+-- Assumes nothing.
+use mathlib.Core.List.{List}
+use mathlib.Core.Path.{_≡_}
+use Prim.Native.Nat.{ℕ, suc, _≤_}
+use lib.ListN.{length, getD}
+use Rattle.formula.specs.Words.{tableOf}
+use Rattle.table_check.specs.Verdict.{limit, verdict, accepted}
+use Rattle.prenex_form.specs.Scope.{level}
+use Rattle.arrays.specs.Link.{link}
+use Rattle.arrays.specs.Held.{atLevel, LevelChains, Starts, Names}
+use Rattle.matrix_writer.specs.Chain.{InnerBlock}
+
+-- An accepted table, and the names of its blocks.
+pub record BlockArrays (ws ls starts names copies marks : List ℕ) : Type 0 where
+  pub is-accepted : verdict ws ls ≡ accepted
+  pub starts-hold : Starts (tableOf ws ls) starts
+  pub names-hold : Names (tableOf ws ls) names copies marks
+  pub starts-long : limit ≤ length starts
+  pub names-long : limit ≤ length names
+  pub copies-long : limit ≤ length copies
+  pub marks-long : limit ≤ length marks
+
+-- After each of its blocks the next one of the level.
+pub record NextBlocks (ws ls nexts : List ℕ) : Type 0 where
+  pub next-is : (i : ℕ) → InnerBlock (tableOf ws ls) i → getD nexts i 0 ≡ link (atLevel (tableOf ws ls) (level (tableOf ws ls) i)) (suc i) (tableOf ws ls .size)
+  pub long : limit ≤ length nexts
+
+-- The chains of its levels.
+pub record ChainArrays (ws ls firsts nexts : List ℕ) : Type 0 where
+  pub chains-hold : LevelChains (tableOf ws ls) firsts nexts
+  pub nexts-long : limit ≤ length nexts

@@ -1,0 +1,5 @@
+pub mod Added
+pub mod Buffer
+pub mod Entries
+pub mod Chain
+pub mod Arrays

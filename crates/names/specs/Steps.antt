@@ -1,0 +1,37 @@
+-- What the functions of this crate have done part of the way. The public contracts cite none of it.
+-- Assumes nothing.
+use mathlib.Core.Bool.{true}
+use mathlib.Core.List.{List}
+use mathlib.Core.Path.{_≡_}
+use Prim.Native.Nat.{ℕ, suc, _+_, _<_, _≤_}
+use lib.Dec.{eqb}
+use lib.ListN.{length, getD}
+use Rattle.formula.specs.Node.{Table}
+use Rattle.formula.specs.Tree.{boundBelow}
+use Rattle.prenex_form.specs.Scope.{inner}
+use Rattle.prenex_form.specs.Names.{boundCount, innerBelow}
+use Rattle.arrays.specs.Held.{entries}
+use Rattle.arrays.specs.Link.{link}
+
+-- The first n elements are the numbers from start on.
+abbrev pub Consecutive : ℕ → ℕ → List ℕ → Type 0
+Consecutive start n xs = (e : ℕ) → e < n → getD xs e 0 ≡ start + e
+
+-- The inner blocks below node i have the names from start on, in node order.
+abbrev pub DefinitionsBelow : Table → ℕ → ℕ → List ℕ → Type 0
+DefinitionsBelow t start i marks = (j : ℕ) → j < i → inner t j ≡ true → getD marks j 0 ≡ start + innerBelow t j
+
+-- Block i is the block of entry e.
+pub record OwnedBy (t : Table) (e i : ℕ) : Type 0 where
+  pub lt : i < t .size
+  pub from : boundBelow t i ≤ e
+  pub below : e < boundBelow t (suc i)
+
+-- The entries from e on are chained and have their blocks.
+pub record ChainedFrom (t : Table) (e : ℕ) (heads nexts owners : List ℕ) : Type 0 where
+  pub heads-length : length heads ≡ 65536
+  pub nexts-length : length nexts ≡ 4096
+  pub owners-length : length owners ≡ 4096
+  pub head-is : (x : ℕ) → getD heads x 0 ≡ link (λ k. eqb (getD (entries t) k 0) x) e (boundCount t)
+  pub next-is : (k : ℕ) → e ≤ k → k < boundCount t → getD nexts k 0 ≡ link (λ j. eqb (getD (entries t) j 0) (getD (entries t) k 0)) (suc k) (boundCount t)
+  pub owner-is : (k : ℕ) → e ≤ k → k < boundCount t → OwnedBy t k (getD owners k 0)
