@@ -1,3 +1,4 @@
 pub mod Link
 pub mod Enclosing
 pub mod Entries
+pub mod Chains

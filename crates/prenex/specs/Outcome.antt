@@ -51,9 +51,9 @@ tooShort ws ls nodes prefix variables =
     || ltb (length prefix) (length (writtenPrefix (tableOf ws ls)))
     || ltb (length variables) (length (writtenVariables (tableOf ws ls)))
 
--- "no buffer has changed"
-unfoldable pub unchanged : Answer → List ℕ → List ℕ → List ℕ → Outcome
-unchanged answer nodes prefix variables = record { answer = answer; nodes = nodes; prefix = prefix; variables = variables }
+-- an answer, and what the buffers hold with it
+unfoldable pub after : Answer → List ℕ → List ℕ → List ℕ → Outcome
+after answer nodes prefix variables = record { answer = answer; nodes = nodes; prefix = prefix; variables = variables }
 
 -- Refusals 1 to 8, then 9, with every buffer as it was. If done, the written form stands at the buffers' starts, and "words after
 -- the last one written keep their content".
@@ -63,11 +63,6 @@ lifted ws ls nodes prefix variables =
     let t = tableOf ws ls in
     pick (eqb (v .number) 0)
     (pick (tooShort ws ls nodes prefix variables)
-    (unchanged (refusal 9 0) nodes prefix variables)
-    (record {
-      answer = done (sizes t);
-      nodes = overwrite nodes 0 (writtenNodes t);
-      prefix = overwrite prefix 0 (writtenPrefix t);
-      variables = overwrite variables 0 (writtenVariables t);
-    }))
-    (unchanged (refusal (v .number) (v .position)) nodes prefix variables)
+    (after (refusal 9 0) nodes prefix variables)
+    (after (done (sizes t)) (overwrite nodes 0 (writtenNodes t)) (overwrite prefix 0 (writtenPrefix t)) (overwrite variables 0 (writtenVariables t))))
+    (after (refusal (v .number) (v .position)) nodes prefix variables)

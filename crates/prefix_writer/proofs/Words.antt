@@ -1,0 +1,69 @@
+-- Kinds and counts of nodes by their words, and the kinds of prefix blocks.
+-- Assumes nothing.
+use mathlib.Core.Path.{_≡_, refl, sym}
+use mathlib.Core.Bool.{true, false}
+use mathlib.Core.List.{List}
+use Prim.Native.Nat.{ℕ, _+_, _-_, _*_, _≤_}
+use native.Mathlib.Omega.{arith}
+use lib.ListN.{length}
+use Rattle.lists.specs.Choice.{pick, pick-yes, pick-no}
+use Rattle.formula.specs.Node.{Quantifier, exists, for-all, dual}
+use Rattle.formula.specs.Words.{width, nodeCount, field, nodeOf, nodeAt, tableOf}
+use Rattle.formula.proofs.Nodes.{Kind, kind-of, kind-constant, kind-variable, kind-negation, kind-operator, kind-exists, kind-for-all, kind-none}
+use Rattle.table_check.specs.Verdict.{isBlockKind, countAt, verdict, accepted}
+use Rattle.table_check.proofs.Accepted.{accepted-holds}
+use Rattle.prenex_form.specs.Levels.{quantifierAt, levelQuantifier}
+use Rattle.prenex_form.specs.Prefix.{kindOf}
+
+-- counts
+
+pub count-block : (ws : List ℕ) (i : ℕ) → isBlockKind (field ws i 0) ≡ true → field ws i 2 ≡ countAt ws i
+unfolding countAt
+count-block ws i e = sym (pick-yes _ _ _ e)
+
+pub count-none : (ws : List ℕ) (i : ℕ) → isBlockKind (field ws i 0) ≡ false → 0 ≡ countAt ws i
+unfolding countAt
+count-none ws i e = sym (pick-no _ _ _ e)
+
+-- kinds
+
+kind-exists-is : (ls : List ℕ) (kind a b c : ℕ) → kind ≡ 5 → 5 ≡ kindOf (quantifierAt (nodeOf ls kind a b c))
+unfolding nodeOf quantifierAt kindOf pick
+kind-exists-is ls kind a b c e = rw e
+
+kind-other-is : (ls : List ℕ) (kind a b c : ℕ) → (kind ≡ 5 → ⊥) → Kind kind → 6 ≡ kindOf (quantifierAt (nodeOf ls kind a b c))
+unfolding nodeOf quantifierAt kindOf pick
+kind-other-is ls kind a b c n (kind-constant e) = rw e
+kind-other-is ls kind a b c n (kind-variable e) = rw e
+kind-other-is ls kind a b c n (kind-negation e) = rw e
+kind-other-is ls kind a b c n (kind-operator e) = rw e
+kind-other-is ls kind a b c n (kind-exists e) = absurd (n e)
+kind-other-is ls kind a b c n (kind-for-all e) = rw e
+kind-other-is ls kind a b c n (kind-none e1 e2 e3 e4 e5 e6) = rw (e1, e2, e3, e4, e5, e6)
+
+module _ (ws ls : List ℕ) where
+  pub root-exists : field ws (nodeCount ws - 1) 0 ≡ 5 → 5 ≡ kindOf (levelQuantifier (tableOf ws ls) 0)
+  unfolding levelQuantifier tableOf nodeAt
+  root-exists e = kind-exists-is ls (field ws (nodeCount ws - 1) 0) _ _ _ e
+
+  pub root-other : (field ws (nodeCount ws - 1) 0 ≡ 5 → ⊥) → 6 ≡ kindOf (levelQuantifier (tableOf ws ls) 0)
+  unfolding levelQuantifier tableOf nodeAt
+  root-other n = kind-other-is ls (field ws (nodeCount ws - 1) 0) _ _ _ n (kind-of _)
+
+  -- an accepted table has a root
+  pub has-root : verdict ws ls ≡ accepted → 1 ≤ nodeCount ws
+  unfolding tableOf
+  has-root v = accepted-holds ws ls v .proper .tree .nonempty
+
+  pub root-fits : verdict ws ls ≡ accepted → width * (nodeCount ws - 1) + width ≤ length ws
+  root-fits v = omega (arith, has-root v)
+
+pub dual-exists : (kind : ℕ) (q : Quantifier) → kind ≡ 5 → kind ≡ kindOf q → 6 ≡ kindOf (dual q)
+unfolding kindOf dual
+dual-exists kind exists e p = refl
+dual-exists kind for-all e p = absurd (omega arith)
+
+pub dual-other : (kind : ℕ) (q : Quantifier) → (kind ≡ 5 → ⊥) → kind ≡ kindOf q → 5 ≡ kindOf (dual q)
+unfolding kindOf dual
+dual-other kind exists n p = absurd (n p)
+dual-other kind for-all n p = refl
