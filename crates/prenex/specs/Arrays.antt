@@ -2,11 +2,14 @@
 -- Assumes nothing.
 use mathlib.Core.List.{List}
 use mathlib.Core.Path.{_≡_}
-use Prim.Native.Nat.{ℕ}
+use Prim.Native.Nat.{ℕ, _≤_}
 use lib.ListN.{length}
+use Rattle.lists.specs.Parts.{overwrite}
 use Rattle.formula.specs.Words.{tableOf}
 use Rattle.table_check.specs.Verdict.{limit, verdict, accepted}
-use Rattle.arrays.specs.Held.{Parents, NodeLevels, LevelChains, Starts, Names}
+use Rattle.prenex_form.specs.Matrix.{writtenNodes}
+use Rattle.prenex_form.specs.Prefix.{writtenPrefix, writtenVariables}
+use Rattle.arrays.specs.Held.{Parents, NodeLevels}
 
 -- The parent block of each node.
 pub record Placed (ws ls parents : List ℕ) : Type 0 where
@@ -18,3 +21,15 @@ pub record Placed (ws ls parents : List ℕ) : Type 0 where
 pub record Levelled (ws ls levels : List ℕ) : Type 0 where
   pub levelled : NodeLevels (tableOf ws ls) levels
   pub levels-long : length levels ≡ limit
+
+-- There is room for all that is written.
+pub record Room (ws ls nodes prefix variables : List ℕ) : Type 0 where
+  pub nodes-fit : length (writtenNodes (tableOf ws ls)) ≤ length nodes
+  pub prefix-fits : length (writtenPrefix (tableOf ws ls)) ≤ length prefix
+  pub variables-fit : length (writtenVariables (tableOf ws ls)) ≤ length variables
+
+-- The three buffers after the form was written over their starts.
+pub record Written (ws ls nodes prefix variables nodes' prefix' variables' : List ℕ) : Type 0 where
+  pub nodes-are : nodes' ≡ overwrite nodes 0 (writtenNodes (tableOf ws ls))
+  pub prefix-is : prefix' ≡ overwrite prefix 0 (writtenPrefix (tableOf ws ls))
+  pub variables-are : variables' ≡ overwrite variables 0 (writtenVariables (tableOf ws ls))

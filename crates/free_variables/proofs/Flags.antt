@@ -1,0 +1,333 @@
+-- Laws of the flags: what one node, one block and one list entry change in them, and what they say in the end.
+-- Assumes nothing.
+use mathlib.Core.Path.{_≡_, refl, sym, _∙_, ap}
+use mathlib.Core.Bool.{Bool, true, false, not, _&&_, _||_, or-true, or-false, and-true, and-false}
+use mathlib.Core.List.{List, [], _∷_, _++_, append-nil}
+use mathlib.Core.Logic.{_⊎_, inl, inr, ⊎-elim}
+use Prim.Native.Nat.{ℕ, zero, suc, _+_, _-_, _≤_, _<_}
+use native.Mathlib.Numerals.{add-one}
+use native.Mathlib.Omega.{arith}
+use lib.Dec.{eqb, leb, ltb}
+use lib.ListN.{length, getD, set, drop, replicate, length-set, length-drop, length-replicate}
+use lib.Seq.{take-suc, getD-drop, getD-set-same, getD-set-other}
+use borrow.Author.Tests.{eqb-true, eqb-false, ne-eqb, ltb-true, ltb-false, lt-ltb, le-ltb, leb-true, not-true, not-false}
+use Rattle.lists.specs.Choice.{pick, pick-yes, pick-no, Is, is-true, is-false, look, clash, and-left, and-right}
+use Rattle.lists.specs.Search.{lowest}
+use Rattle.lists.specs.Members.{mem}
+use Rattle.lists.specs.Parts.{upTo}
+use Rattle.lists.proofs.Search.{lowest-holds, lowest-cong}
+use Rattle.lists.proofs.Members.{mem-append, mem-one, mem-getD, all-mem}
+use Rattle.lists.proofs.Parts.{upTo-cong}
+use Rattle.formula.specs.Node.{bound}
+use Rattle.formula.specs.Words.{nodeCount, field, range, nodeAt, tableOf}
+use Rattle.formula.proofs.Nodes.{Kind, kind-constant, kind-variable, kind-negation, kind-operator, kind-exists, kind-for-all, kind-none, kind-of, node-constant, node-variable, node-negation, node-operator, node-exists, node-for-all, node-none}
+use Rattle.formula.proofs.Ranges.{range-length, range-at}
+use Rattle.table_check.specs.Verdict.{isNumber, isBlockKind}
+use Rattle.table_check.specs.Accepted.{Accepted}
+use Rattle.prenex_form.specs.Names.{highestNumber}
+use Rattle.prenex_form.specs.FreeVariables.{standsAt, someNode, isFreeVariable, freeVariables}
+use Rattle.prenex_form.proofs.NameLaws.{variable-le}
+use Rattle.prenex_form.proofs.Limits.{highest-limit}
+use Rattle.free_variables.specs.Steps.{someBelow, variableBelow, boundBy, coveredBelow, Numbered, Marked, Unmarked, chosen, flagged}
+
+-- Some number below n passes a test.
+
+some-none : (p : ℕ → Bool) → someBelow p 0 ≡ false
+unfolding someBelow lowest
+some-none p = refl
+
+some-next : (p : ℕ → Bool) (n : ℕ) → someBelow p (n + 1) ≡ (someBelow p n || p n)
+unfolding someBelow lowest
+some-next p n = rw add-one (first (look (ltb (lowest p n) n)))
+  where
+    second : ltb (lowest p n) n ≡ false → Is (p n) → ltb (pick (ltb (lowest p n) n) (lowest p n) (pick (p n) n (suc n))) (suc n) ≡ (ltb (lowest p n) n || p n)
+    second e (is-true t) = rw (pick-no (ltb (lowest p n) n) (lowest p n) (pick (p n) n (suc n)) e, pick-yes (p n) n (suc n) t, e, t) (lt-ltb n (suc n) (omega arith))
+    second e (is-false t) = rw (pick-no (ltb (lowest p n) n) (lowest p n) (pick (p n) n (suc n)) e, pick-no (p n) n (suc n) t, e, t) (le-ltb (suc n) (suc n) (omega arith))
+
+    first : Is (ltb (lowest p n) n) → ltb (pick (ltb (lowest p n) n) (lowest p n) (pick (p n) n (suc n))) (suc n) ≡ (ltb (lowest p n) n || p n)
+    first (is-true e) =
+        let l : lowest p n < n = ltb-true _ _ e in
+        rw (pick-yes (ltb (lowest p n) n) (lowest p n) (pick (p n) n (suc n)) e, e) (lt-ltb (lowest p n) (suc n) (omega arith))
+    first (is-false e) = second e (look (p n))
+
+module _ (ws : List ℕ) where
+  variable-none : (x : ℕ) → variableBelow ws 0 x ≡ false
+  unfolding variableBelow
+  variable-none x = some-none _
+
+  variable-next : (i x : ℕ) → variableBelow ws (i + 1) x ≡ (variableBelow ws i x || (eqb (field ws i 0) 2 && eqb x (field ws i 1)))
+  unfolding variableBelow
+  variable-next i x = some-next _ i
+
+module _ (ws ls : List ℕ) where
+  covered-none : (x : ℕ) → coveredBelow ws ls 0 x ≡ false
+  unfolding coveredBelow
+  covered-none x = some-none _
+
+  covered-next : (i x : ℕ) → coveredBelow ws ls (i + 1) x ≡ (coveredBelow ws ls i x || mem x (boundBy ls (field ws i 0) (field ws i 1) (field ws i 2)))
+  unfolding coveredBelow
+  covered-next i x = some-next _ i
+
+upTo-suc : (g : ℕ → List ℕ) (n : ℕ) → upTo g (suc n) ≡ upTo g n ++ g n
+unfolding upTo
+upTo-suc g n = refl
+
+-- Parts that are empty from m on add nothing.
+upTo-rest : (g : ℕ → List ℕ) (m n : ℕ) → m ≤ n → ((x : ℕ) → m ≤ x → g x ≡ []) → upTo g n ≡ upTo g m
+upTo-rest g m zero h empty = let e : m ≡ zero = omega arith in rw e
+upTo-rest g m (suc n) h empty = go (look (ltb n m)) (upTo-rest g m n)
+  where
+    go : Is (ltb n m) → (m ≤ n → ((x : ℕ) → m ≤ x → g x ≡ []) → upTo g n ≡ upTo g m) → upTo g (suc n) ≡ upTo g m
+    go (is-true t) next =
+        let l : n < m = ltb-true n m t in
+        let e : m ≡ suc n = omega arith in rw e
+    go (is-false t) next =
+        let l : m ≤ n = ltb-false n m t in
+        upTo-suc g n ∙ rw (empty n l, append-nil (upTo g n)) (next l empty)
+
+-- Flags after a store.
+
+set-flag : (flags : List Bool) (y : ℕ) → y < length flags → (x : ℕ) → getD (set flags y true) x false ≡ (getD flags x false || eqb x y)
+set-flag flags y h x = go (look (eqb x y))
+  where
+    go : Is (eqb x y) → getD (set flags y true) x false ≡ (getD flags x false || eqb x y)
+    go (is-true e) =
+        let q : x ≡ y = eqb-true x y e in
+        rw (e, or-true (getD flags x false), q) (getD-set-same flags y true false h)
+    go (is-false e) = rw (e, or-false (getD flags x false)) (getD-set-other flags y x true false (eqb-false x y e))
+
+unset-flag : (flags : List Bool) (y : ℕ) → y < length flags → (x : ℕ) → getD (set flags y false) x false ≡ (getD flags x false && not (eqb x y))
+unset-flag flags y h x = go (look (eqb x y))
+  where
+    go : Is (eqb x y) → getD (set flags y false) x false ≡ (getD flags x false && not (eqb x y))
+    go (is-true e) =
+        let q : x ≡ y = eqb-true x y e in
+        rw (e, and-false (getD flags x false), q) (getD-set-same flags y false false h)
+    go (is-false e) = rw (e, and-true (getD flags x false)) (getD-set-other flags y x false false (eqb-false x y e))
+
+-- Marking the variable nodes.
+
+getD-unset : (n x : ℕ) → getD (replicate {A = Bool} n false) x false ≡ false
+getD-unset zero x = refl
+getD-unset (suc n) zero = refl
+getD-unset (suc n) (suc x) = getD-unset n x
+
+pub marked-none : (ws : List ℕ) (n : ℕ) → n ≡ 65536 → Marked ws (replicate n false) 0 0
+marked-none ws n e =
+    record {
+      wide = length-replicate {A = Bool} n false ∙ e;
+      marks = λ x. getD-unset n x ∙ sym (variable-none ws x);
+      low = omega arith;
+      under = λ x h. clash h (variable-none ws x);
+    }
+
+or-cases : (a b : Bool) → (a || b) ≡ true → Is a → (a ≡ true) ⊎ (b ≡ true)
+or-cases a b h (is-true e) = inl e
+or-cases a b h (is-false e) = inr (rw e at h)
+
+module _ (ws : List ℕ) (flags : List Bool) (i end : ℕ) (m : Marked ws flags i end) where
+  pub marked-other : (field ws i 0 ≡ 2 → ⊥) → Marked ws flags (i + 1) end
+  marked-other n =
+      let same : (x : ℕ) → variableBelow ws (i + 1) x ≡ variableBelow ws i x =
+      λ x. variable-next ws i x ∙ rw (ne-eqb (field ws i 0) 2 n) (or-false (variableBelow ws i x)) in
+      record {
+        wide = m .wide;
+        marks = λ x. m .marks x ∙ sym (same x);
+        low = m .low;
+        under = λ x h. m .under x (sym (same x) ∙ h);
+      }
+
+  pub marked-variable : field ws i 0 ≡ 2 → (r : ℕ) → end ≤ r → field ws i 1 < r → r ≤ 65536
+      → Marked ws (set flags (field ws i 1) true) (i + 1) r
+  marked-variable e r le lt low =
+      let y : ℕ = field ws i 1 in
+      let wide : length flags ≡ 65536 = m .wide in
+      let next : (x : ℕ) → variableBelow ws (i + 1) x ≡ (variableBelow ws i x || eqb x y) = λ x. variable-next ws i x ∙ rw e in
+      record {
+        wide = length-set flags y true ∙ m .wide;
+        marks = λ x. set-flag flags y (omega arith) x ∙ ap (λ b. b || eqb x y) (m .marks x) ∙ sym (next x);
+        low = low;
+        under = λ x h.
+            ⊎-elim
+            (λ v. omega (arith, m .under x v))
+            (λ q. omega (arith, eqb-true x y q))
+            (or-cases (variableBelow ws i x) (eqb x y) (sym (next x) ∙ h) (look (variableBelow ws i x)));
+      }
+
+-- Unmarking what blocks cover.
+
+pub unmarked-none : (ws ls : List ℕ) (flags : List Bool) (end : ℕ) → Marked ws flags (nodeCount ws) end → Unmarked ws ls flags 0
+unmarked-none ws ls flags end m =
+    record {
+      wide = m .wide;
+      marks = λ x. m .marks x ∙ sym (rw (covered-none ws ls x) (and-true (variableBelow ws (nodeCount ws) x)));
+    }
+
+and-nor : (a b c : Bool) → ((a && not b) && not c) ≡ (a && not (b || c))
+and-nor true true c = refl
+and-nor true false c = refl
+and-nor false b c = refl
+
+module _ (ws ls : List ℕ) (flags : List Bool) (i : ℕ) (u : Unmarked ws ls flags i) where
+  pub unmarked-next : (after : List Bool) → length after ≡ length flags
+      → ((x : ℕ) → getD after x false ≡ (getD flags x false && not (mem x (boundBy ls (field ws i 0) (field ws i 1) (field ws i 2)))))
+      → Unmarked ws ls after (i + 1)
+  unmarked-next after same step =
+      record {
+        wide = same ∙ u .wide;
+        marks = λ x.
+            step x
+            ∙ ap (λ b. b && not (mem x (boundBy ls (field ws i 0) (field ws i 1) (field ws i 2)))) (u .marks x)
+            ∙ and-nor (variableBelow ws (nodeCount ws) x) (coveredBelow ws ls i x) (mem x (boundBy ls (field ws i 0) (field ws i 1) (field ws i 2)))
+            ∙ ap (λ b. variableBelow ws (nodeCount ws) x && not b) (sym (covered-next ws ls i x));
+      }
+
+  -- at a node that is no block
+  pub unmarked-other : isBlockKind (field ws i 0) ≡ false → Unmarked ws ls flags (i + 1)
+  unfolding boundBy mem
+  unmarked-other n =
+      unmarked-next flags refl
+      (λ x. sym (rw (pick-no (isBlockKind (field ws i 0)) (range ls (field ws i 1) (field ws i 2)) [] n) (and-true (getD flags x false))))
+
+  -- at a block
+  pub unmarked-block : isBlockKind (field ws i 0) ≡ true → (after : List Bool) → length after ≡ length flags
+      → ((x : ℕ) → getD after x false ≡ (getD flags x false && not (mem x (range ls (field ws i 1) (field ws i 2)))))
+      → Unmarked ws ls after (i + 1)
+  unfolding boundBy
+  unmarked-block b after same step =
+      unmarked-next after same
+      (λ x. step x ∙ rw (pick-yes (isBlockKind (field ws i 0)) (range ls (field ws i 1) (field ws i 2)) [] b))
+
+-- The code's test for a node that is no block.
+none-or : (a b : Bool) → (not a && not b) ≡ not (a || b)
+none-or true b = refl
+none-or false b = refl
+
+module _ (kind : ℕ) where
+  pub no-block : (not (eqb kind 5) && not (eqb kind 6)) ≡ true → isBlockKind kind ≡ false
+  unfolding isBlockKind
+  no-block t = not-true _ (sym (none-or (eqb kind 5) (eqb kind 6)) ∙ t)
+
+  pub is-block : (not (eqb kind 5) && not (eqb kind 6)) ≡ false → isBlockKind kind ≡ true
+  unfolding isBlockKind
+  is-block t = not-false _ (sym (none-or (eqb kind 5) (eqb kind 6)) ∙ t)
+
+-- One entry of a block's range.
+
+range-next : (ls : List ℕ) (first k : ℕ) → first + k < length ls → range ls first (k + 1) ≡ range ls first k ++ (getD ls (first + k) 0 ∷ [])
+unfolding range
+range-next ls first k h =
+    let l : k < length (drop first ls) = simp length-drop (omega arith) in
+    rw add-one (take-suc (drop first ls) k 0 l ∙ rw getD-drop)
+
+-- The flags `before` with those of the numbers xs taken back.
+abbrev pub Without : List Bool → List ℕ → List Bool → Type 0
+Without before xs flags = (x : ℕ) → getD flags x false ≡ (getD before x false && not (mem x xs))
+
+pub without-none : (ls : List ℕ) (first : ℕ) (before : List Bool) → Without before (range ls first 0) before
+unfolding range mem
+without-none ls first before x = sym (and-true (getD before x false))
+
+pub without-next : (ls : List ℕ) (first k : ℕ) (before flags : List Bool) → first + k < length ls → getD ls (first + k) 0 < length flags
+    → Without before (range ls first k) flags → Without before (range ls first (k + 1)) (set flags (getD ls (first + k) 0) false)
+without-next ls first k before flags h l w x =
+    let y : ℕ = getD ls (first + k) 0 in
+    let m : mem x (range ls first (k + 1)) ≡ (mem x (range ls first k) || eqb x y) =
+    ap (mem x) (range-next ls first k h) ∙ mem-append x (range ls first k) (y ∷ []) ∙ ap (λ b. mem x (range ls first k) || b) (mem-one x y) in
+    unset-flag flags y l x
+    ∙ ap (λ b. b && not (eqb x y)) (w x)
+    ∙ and-nor (getD before x false) (mem x (range ls first k)) (eqb x y)
+    ∙ ap (λ b. getD before x false && not b) (sym m)
+
+-- an entry of a range stands in it
+pub entry-in-range : (ls : List ℕ) (first count k : ℕ) → first + count ≤ length ls → k < count
+    → mem (getD ls (first + k) 0) (range ls first count) ≡ true
+entry-in-range ls first count k fits h =
+    let l : length (range ls first count) ≡ count = range-length ls first count fits in
+    rw (← range-at ls first count k 0 h) (mem-getD (range ls first count) k 0 (omega arith))
+
+-- Nodes of an accepted table.
+
+absent : (b : Bool) → Is b → (b ≡ true → ⊥) → b ≡ false
+absent b (is-true e) h = absurd (h e)
+absent b (is-false e) h = e
+
+number-below : (x : ℕ) → isNumber x ≡ true → x < 65536
+unfolding isNumber
+number-below x h = let l : x ≤ 65535 = leb-true x 65535 (and-right (leb 1 x) (leb x 65535) h) in omega arith
+
+module _ (ws ls : List ℕ) where
+  stands-is : (j x : ℕ) → standsAt x (nodeAt ws ls j) ≡ (eqb (field ws j 0) 2 && eqb x (field ws j 1))
+  unfolding standsAt
+  stands-is j x = go (kind-of (field ws j 0))
+    where
+      go : Kind (field ws j 0) → standsAt x (nodeAt ws ls j) ≡ (eqb (field ws j 0) 2 && eqb x (field ws j 1))
+      go (kind-constant e) = rw (node-constant ws ls j e, e)
+      go (kind-variable e) = rw (node-variable ws ls j e, e)
+      go (kind-negation e) = rw (node-negation ws ls j e, e)
+      go (kind-operator e) = rw (node-operator ws ls j e, e)
+      go (kind-exists e) = rw (node-exists ws ls j e, e)
+      go (kind-for-all e) = rw (node-for-all ws ls j e, e)
+      go (kind-none e1 e2 e3 e4 e5 e6) = rw (node-none ws ls j e1 e2 e3 e4 e5 e6, e2)
+
+  bound-is : (j : ℕ) → bound (nodeAt ws ls j) ≡ boundBy ls (field ws j 0) (field ws j 1) (field ws j 2)
+  unfolding bound boundBy isBlockKind pick
+  bound-is j = go (kind-of (field ws j 0))
+    where
+      go : Kind (field ws j 0) → bound (nodeAt ws ls j) ≡ boundBy ls (field ws j 0) (field ws j 1) (field ws j 2)
+      go (kind-constant e) = rw (node-constant ws ls j e, e)
+      go (kind-variable e) = rw (node-variable ws ls j e, e)
+      go (kind-negation e) = rw (node-negation ws ls j e, e)
+      go (kind-operator e) = rw (node-operator ws ls j e, e)
+      go (kind-exists e) = rw (node-exists ws ls j e, e)
+      go (kind-for-all e) = rw (node-for-all ws ls j e, e)
+      go (kind-none e1 e2 e3 e4 e5 e6) = rw (node-none ws ls j e1 e2 e3 e4 e5 e6, e5, e6)
+
+  free-is : (x : ℕ) → isFreeVariable (tableOf ws ls) x ≡ (variableBelow ws (nodeCount ws) x && not (coveredBelow ws ls (nodeCount ws) x))
+  unfolding isFreeVariable someNode tableOf variableBelow coveredBelow someBelow
+  free-is x =
+      let n : ℕ = nodeCount ws in
+      let v = lowest-cong _ _ n (λ j h. stands-is j x) in
+      let c = lowest-cong _ _ n (λ j h. ap (mem x) (bound-is j)) in rw (v, c)
+
+  module _ (a : Accepted ws ls) where
+    pub numbered : Numbered ws
+    unfolding tableOf
+    numbered i h e =
+        omega (arith, variable-le (tableOf ws ls) i (field ws i 1) h (node-variable ws ls i e), highest-limit ws ls a)
+
+    pub range-numbered : (i : ℕ) → i < nodeCount ws → isBlockKind (field ws i 0) ≡ true
+        → (x : ℕ) → mem x (range ls (field ws i 1) (field ws i 2)) ≡ true → x < 65536
+    unfolding boundBy
+    range-numbered i h b x m =
+        let e : bound (nodeAt ws ls i) ≡ range ls (field ws i 1) (field ws i 2) = bound-is i ∙ pick-yes _ _ _ b in
+        number-below x (all-mem isNumber (bound (nodeAt ws ls i)) x (a .numbered i h) (rw e m))
+
+    -- a number above the highest is not free
+    above-highest : (x : ℕ) → suc (highestNumber (tableOf ws ls)) ≤ x → isFreeVariable (tableOf ws ls) x ≡ false
+    unfolding tableOf variableBelow someBelow
+    above-highest x h = free-is x ∙ go (look (variableBelow ws (nodeCount ws) x))
+      where
+        go : Is (variableBelow ws (nodeCount ws) x) → (variableBelow ws (nodeCount ws) x && not (coveredBelow ws ls (nodeCount ws) x)) ≡ false
+        go (is-true v) =
+            let p : ℕ → Bool = λ j. eqb (field ws j 0) 2 && eqb x (field ws j 1) in
+            let j : ℕ = lowest p (nodeCount ws) in
+            let l : j < nodeCount ws = ltb-true j (nodeCount ws) v in
+            let t : p j ≡ true = lowest-holds p (nodeCount ws) l in
+            let k : field ws j 0 ≡ 2 = eqb-true _ _ (and-left (eqb (field ws j 0) 2) (eqb x (field ws j 1)) t) in
+            let q : x ≡ field ws j 1 = eqb-true _ _ (and-right (eqb (field ws j 0) 2) (eqb x (field ws j 1)) t) in
+            absurd (omega (arith, variable-le (tableOf ws ls) j (field ws j 1) l (node-variable ws ls j k)))
+        go (is-false v) = rw v
+
+    -- What is flagged in the end is free: both lists are that of the free numbers below 65536.
+    pub flagged-free : (before flags : List Bool) (end : ℕ) → Marked ws before (nodeCount ws) end → Unmarked ws ls flags (nodeCount ws)
+        → flagged flags end ≡ freeVariables (tableOf ws ls)
+    unfolding flagged chosen freeVariables
+    flagged-free before flags end m u =
+        let free : ℕ → Bool = isFreeVariable (tableOf ws ls) in
+        let g : ℕ → List ℕ = λ x. pick (free x) (x ∷ []) [] in
+        let same : (x : ℕ) → getD flags x false ≡ free x = λ x. u .marks x ∙ sym (free-is x) in
+        let above-end : (x : ℕ) → end ≤ x → free x ≡ false = λ x h. absent (free x) (look (free x)) (λ f. omega (arith, m .under x (and-left _ _ (sym (free-is x) ∙ f)))) in
+        upTo-cong _ g end (λ x h. ap (λ b. pick b (x ∷ []) []) (same x))
+        ∙ sym (upTo-rest g end 65536 (m .low) (λ x h. pick-no _ _ _ (above-end x h)))
+        ∙ upTo-rest g (suc (highestNumber (tableOf ws ls))) 65536 (omega (arith, highest-limit ws ls a)) (λ x h. pick-no _ _ _ (above-highest x h))

@@ -1,0 +1,52 @@
+-- `free_variables::unmark_bound` meets its contract. The invariant: what the blocks passed cover is unmarked.
+-- Assumes nothing.
+use mathlib.Core.Path.{_≡_}
+use Prim.Native.Nat.{_-_, _≤_}
+use native.Mathlib.Omega.{arith}
+use borrow.Author.Needs.{needs}
+use Rattle.formula.specs.Words.{nodeCount}
+use Rattle.free_variables.specs.Steps.{Unmarked}
+use Rattle.free_variables.proofs.unmark_bound.Statement.{statement}
+use Rattle.free_variables.proofs.unmark_bound.Tie as tie
+
+abbrev Inv-loop : tie.InvT-loop
+Inv-loop words list flags₀ i₀ flags i = (i ≤ nodeCount words) × Unmarked words list flags i
+
+abbrev μ-loop : tie.MeasureT-loop
+μ-loop words list flags₀ i₀ flags i = nodeCount words - i
+
+loop-holds : tie.Need-loop-holds Inv-loop μ-loop
+loop-holds c = (omega arith, c .before .before .before .pre .1)
+
+unmark-node-requires : tie.Need-unmark-node-requires Inv-loop μ-loop
+unmark-node-requires c κs = (c .before .before .before .before .before .before .pre .0, (c .before .loop-test .taken, c .before .before .loop .inv .1))
+
+add-i : tie.Need-add-i Inv-loop μ-loop
+add-i c = search needs
+
+loop-less : tie.Need-loop-less Inv-loop μ-loop
+loop-less c = search needs
+
+loop-again : tie.Need-loop-again Inv-loop μ-loop
+loop-again c = (omega arith, c .before .before .unmark-node .ensures)
+
+same-length : tie.Need-same-length Inv-loop μ-loop
+same-length c = search needs
+
+returns : tie.Need-returns Inv-loop μ-loop
+returns c =
+    let all : nodeCount (c .before .before .before .before .before .args .words .now) ≡ c .before .loop .i = omega arith in rw all (c .before .loop .inv .1)
+
+pub unmark-bound-spec : {M : Type 1} → statement M
+unmark-bound-spec =
+    tie.close
+    (tie.spec
+    Inv-loop
+    μ-loop
+    loop-holds
+    unmark-node-requires
+    add-i
+    loop-less
+    loop-again
+    same-length
+    returns)

@@ -1,0 +1,62 @@
+-- The listing in steps: what the functions of this crate compute. The public contract cites none of these definitions.
+-- Assumes nothing.
+use mathlib.Core.Bool.{Bool, true, false, not, _&&_}
+use mathlib.Core.List.{List, [], _∷_}
+use mathlib.Core.Path.{_≡_}
+use Prim.Native.Nat.{ℕ, _<_, _≤_}
+use lib.Dec.{eqb, ltb}
+use lib.ListN.{length, getD}
+use Rattle.lists.specs.Choice.{pick}
+use Rattle.lists.specs.Search.{lowest}
+use Rattle.lists.specs.Members.{mem}
+use Rattle.lists.specs.Parts.{upTo, overwrite}
+use Rattle.formula.specs.Words.{nodeCount, field, range}
+use Rattle.table_check.specs.Verdict.{isBlockKind}
+use Rattle.free_variables.specs.Outcome.{Outcome, refused}
+
+-- Some number below n passes the test.
+unfoldable pub someBelow : (ℕ → Bool) → ℕ → Bool
+someBelow p n = ltb (lowest p n) n
+
+-- x stands at a variable node below node i.
+unfoldable pub variableBelow : List ℕ → ℕ → ℕ → Bool
+variableBelow ws i x = someBelow (λ j. eqb (field ws j 0) 2 && eqb x (field ws j 1)) i
+
+-- What a node with these words binds.
+unfoldable pub boundBy : List ℕ → ℕ → ℕ → ℕ → List ℕ
+boundBy ls kind a b = pick (isBlockKind kind) (range ls a b) []
+
+-- A block below node i covers x.
+unfoldable pub coveredBelow : List ℕ → List ℕ → ℕ → ℕ → Bool
+coveredBelow ws ls i x = someBelow (λ j. mem x (boundBy ls (field ws j 0) (field ws j 1) (field ws j 2))) i
+
+-- The number at each variable node has a flag.
+abbrev pub Numbered : List ℕ → Type 0
+Numbered ws = (i : ℕ) → i < nodeCount ws → field ws i 0 ≡ 2 → field ws i 1 < 65536
+
+-- The flags once the variable nodes below node i are marked, all of whose numbers are below `end`.
+pub record Marked (ws : List ℕ) (flags : List Bool) (i end : ℕ) : Type 0 where
+  pub wide : length flags ≡ 65536
+  pub marks : (x : ℕ) → getD flags x false ≡ variableBelow ws i x
+  pub low : end ≤ 65536
+  pub under : (x : ℕ) → variableBelow ws i x ≡ true → x < end
+
+-- The flags once all variable nodes are marked, and what the blocks below node i cover is unmarked again.
+pub record Unmarked (ws ls : List ℕ) (flags : List Bool) (i : ℕ) : Type 0 where
+  pub wide : length flags ≡ 65536
+  pub marks : (x : ℕ) → getD flags x false ≡ (variableBelow ws (nodeCount ws) x && not (coveredBelow ws ls i x))
+
+-- x, if its flag is set.
+unfoldable pub chosen : Bool → ℕ → List ℕ
+chosen flag x = pick flag (x ∷ []) []
+
+-- The numbers below n whose flag is set, ascending.
+unfoldable pub flagged : List Bool → ℕ → List ℕ
+flagged flags n = upTo (λ x. chosen (getD flags x false) x) n
+
+-- The answer and the buffer, where the free variables of an accepted table are xs.
+unfoldable pub listing : List ℕ → List ℕ → Outcome
+listing names xs =
+    pick (ltb (length names) (length xs))
+    (refused 9 0 names)
+    (record { answer = record { number = 0; position = 0; count = length xs }; names = overwrite names 0 xs })
