@@ -1,3 +1,7 @@
+-- `prenex::lift` meets its contract.
+-- Assumes nothing.
+use Rattle.prenex.proofs.Answers.{accepted-by, lifted-refused}
+use Rattle.prenex.proofs.Form.{form-left}
 use native.Mathlib.Omega.{arith}
 use borrow.Author.Needs.{needs}
 use Rattle.prenex.proofs.lift.Statement.{statement}
@@ -18,11 +22,18 @@ refusal-requires c κs = search needs
 
 -- src/lib.rt:136:9
 returns : tie.Need-returns
-returns c = ?
+returns c =
+    let s = c .before .before .before .before .before .before .before .before in
+    let d = c .before .before in
+    let e = lifted-refused (s .args .words .now) (s .args .list .now) (s .args .nodes .now) (s .args .prefix .now) (s .args .variables .now) (d .check .result) (d .check .ensures) (c .before .if1 .taken) _ (c .refusal .ensures) in
+    (e, form-left (s .args .words .now) (s .args .list .now) (s .args .nodes .now) (s .args .prefix .now) (s .args .variables .now) _ _ _ _ e)
 
 -- src/lib.rt:138:5
 lift-accepted-requires : tie.Need-lift-accepted-requires
-lift-accepted-requires c κs = ?
+lift-accepted-requires c κs =
+    let s = c .before .before .before .before .before .before .before .before .before .before in
+    let d = c .before .before .before .before in
+    accepted-by (s .args .words .now) (s .args .list .now) (d .check .result) (d .check .ensures) (c .before .before .before .if1 .left)
 
 -- src/lib.rt:123:1
 same-length : tie.Need-same-length
@@ -38,7 +49,10 @@ same-length-3 c = search needs
 
 -- src/lib.rt:123:1
 returns-2 : tie.Need-returns-2
-returns-2 c = ?
+returns-2 c =
+    let s = c .before .before .before .before .before .before .before .before .before .before .before .before .before .before .before .before .before in
+    let e = c .before .before .before .before .before .before .lift-accepted .ensures in
+    (e, form-left (s .args .words .now) (s .args .list .now) (s .args .nodes .now) (s .args .prefix .now) (s .args .variables .now) _ _ _ _ e)
 
 pub lift-spec : {M : Type 1} → statement M
 lift-spec =

@@ -1,3 +1,12 @@
+-- `prenex::lift_accepted` meets its contract.
+-- Assumes nothing.
+use mathlib.Core.Path.{ap}
+use Rattle.formula.specs.Words.{tableOf}
+use Rattle.table_check.proofs.Accepted.{accepted-holds}
+use Rattle.prenex_form.specs.declared.Sizes.{Sizes}
+use Rattle.prenex.specs.Arrays.{Placed, Levelled, Room}
+use Rattle.prenex.proofs.Answers.{short-nodes, short-prefix, short-variables, lifted-short, lifted-done}
+use Rattle.prenex.proofs.Form.{nodes-size, prefix-size, variables-size}
 use native.Mathlib.Omega.{arith}
 use borrow.Author.Needs.{needs}
 use Rattle.prenex.proofs.lift_accepted.Statement.{statement}
@@ -45,7 +54,12 @@ refusal-requires c κs = search needs
 
 -- src/lib.rt:158:9
 returns : tie.Need-returns
-returns c = ?
+returns c =
+    let s = c .before .before .before .before .before .before .before .before .before .before .before .before .before .before .before in
+    let t = tableOf (s .args .words .now) (s .args .list .now) in
+    let tree = accepted-holds (s .args .words .now) (s .args .list .now) (s .pre) .proper .tree in
+    let e = ap (λ (z : Sizes). z .nodes) (c .before .before .before .sizes-of .ensures) in
+    lifted-short (s .args .words .now) (s .args .list .now) (s .args .nodes .now) (s .args .prefix .now) (s .args .variables .now) (s .pre) (short-nodes (s .args .words .now) (s .args .list .now) (s .args .nodes .now) (s .args .prefix .now) (s .args .variables .now) (omega (arith, nodes-size t tree, e, c .before .if1 .taken))) _ (c .refusal .ensures)
 
 -- src/lib.rt:160:39
 cast-if2 : tie.Need-cast-if2
@@ -61,7 +75,12 @@ refusal-requires-2 c κs = search needs
 
 -- src/lib.rt:161:9
 returns-2 : tie.Need-returns-2
-returns-2 c = ?
+returns-2 c =
+    let s = c .before .before .before .before .before .before .before .before .before .before .before .before .before .before .before .before .before in
+    let t = tableOf (s .args .words .now) (s .args .list .now) in
+    let tree = accepted-holds (s .args .words .now) (s .args .list .now) (s .pre) .proper .tree in
+    let e = ap (λ (z : Sizes). z .blocks) (c .before .before .before .before .before .sizes-of .ensures) in
+    lifted-short (s .args .words .now) (s .args .list .now) (s .args .nodes .now) (s .args .prefix .now) (s .args .variables .now) (s .pre) (short-prefix (s .args .words .now) (s .args .list .now) (s .args .nodes .now) (s .args .prefix .now) (s .args .variables .now) (omega (arith, prefix-size t tree, e, c .before .if2 .taken))) _ (c .refusal2 .ensures)
 
 -- src/lib.rt:163:26
 cast-if3 : tie.Need-cast-if3
@@ -73,7 +92,12 @@ refusal-requires-3 c κs = search needs
 
 -- src/lib.rt:164:9
 returns-3 : tie.Need-returns-3
-returns-3 c = ?
+returns-3 c =
+    let s = c .before .before .before .before .before .before .before .before .before .before .before .before .before .before .before .before .before .before .before in
+    let t = tableOf (s .args .words .now) (s .args .list .now) in
+    let tree = accepted-holds (s .args .words .now) (s .args .list .now) (s .pre) .proper .tree in
+    let e = ap (λ (z : Sizes). z .entries) (c .before .before .before .before .before .before .before .sizes-of .ensures) in
+    lifted-short (s .args .words .now) (s .args .list .now) (s .args .nodes .now) (s .args .prefix .now) (s .args .variables .now) (s .pre) (short-variables (s .args .words .now) (s .args .list .now) (s .args .nodes .now) (s .args .prefix .now) (s .args .variables .now) (omega (arith, variables-size t tree, e, c .before .if3 .taken))) _ (c .refusal3 .ensures)
 
 -- src/lib.rt:166:55
 slice-aggregate-write-form : tie.Need-slice-aggregate-write-form
@@ -85,7 +109,21 @@ slice-aggregate-write-form-2 c = search needs
 
 -- src/lib.rt:166:5
 write-form-requires : tie.Need-write-form-requires
-write-form-requires c κs = ?
+write-form-requires c κs =
+    let s = c .before .before .before .before .before .before .before .before .before .before .before .before .before .before .before .before .before .before .before .before .before .before .before in
+    let t = tableOf (s .args .words .now) (s .args .list .now) in
+    let tree = accepted-holds (s .args .words .now) (s .args .list .now) (s .pre) .proper .tree in
+    let z = c .before .before .before .before .before .before .before .before .before .before .before .sizes-of .ensures in
+    let room : Room (s .args .words .now) (s .args .list .now) (s .args .nodes .now) (s .args .prefix .now) (s .args .variables .now) =
+        record {
+          nodes-fit = omega (arith, nodes-size t tree, ap (λ (z : Sizes). z .nodes) z, c .before .before .before .before .before .before .before .before .before .if1 .left);
+          prefix-fits = omega (arith, prefix-size t tree, ap (λ (z : Sizes). z .blocks) z, c .before .before .before .before .before .before .before .if2 .left);
+          variables-fit = omega (arith, variables-size t tree, ap (λ (z : Sizes). z .entries) z, c .before .before .before .before .before .if3 .left)
+        } in
+    let f = c .before .before .before .before .before .before .before .before .before .before .before .before .before .before .before .fill-scopes in
+    let a : Placed (s .args .words .now) (s .args .list .now) _ = record { checked = s .pre; placed = f .ensures .0; parents-long = f .kept .1 .1 .0 } in
+    let l : Levelled (s .args .words .now) (s .args .list .now) _ = record { levelled = f .ensures .1 .0; levels-long = f .kept .1 .1 .1 .0 } in
+    (a, (l, (f .ensures .1 .1, (c .before .before .before .before .before .before .before .before .before .before .before .before .count-blocks .ensures, room))))
 
 -- src/lib.rt:167:5
 done-requires : tie.Need-done-requires
@@ -105,7 +143,18 @@ same-length-3 c = search needs
 
 -- src/lib.rt:142:1
 returns-4 : tie.Need-returns-4
-returns-4 c = ?
+returns-4 c =
+    let s = c .before .before .before .before .before .before .before .before .before .before .before .before .before .before .before .before .before .before .before .before .before .before .before .before .before .before .before .before .before .before .before in
+    let t = tableOf (s .args .words .now) (s .args .list .now) in
+    let tree = accepted-holds (s .args .words .now) (s .args .list .now) (s .pre) .proper .tree in
+    let z = c .before .before .before .before .before .before .before .before .before .before .before .before .before .before .before .before .before .before .before .sizes-of .ensures in
+    let room : Room (s .args .words .now) (s .args .list .now) (s .args .nodes .now) (s .args .prefix .now) (s .args .variables .now) =
+        record {
+          nodes-fit = omega (arith, nodes-size t tree, ap (λ (z : Sizes). z .nodes) z, c .before .before .before .before .before .before .before .before .before .before .before .before .before .before .before .before .before .if1 .left);
+          prefix-fits = omega (arith, prefix-size t tree, ap (λ (z : Sizes). z .blocks) z, c .before .before .before .before .before .before .before .before .before .before .before .before .before .before .before .if2 .left);
+          variables-fit = omega (arith, variables-size t tree, ap (λ (z : Sizes). z .entries) z, c .before .before .before .before .before .before .before .before .before .before .before .before .before .if3 .left)
+        } in
+    lifted-done (s .args .words .now) (s .args .list .now) (s .args .nodes .now) (s .args .prefix .now) (s .args .variables .now) (s .pre) room _ _ (c .done .ensures) z _ _ _ (c .before .before .before .before .before .before .before .write-form .ensures)
 
 pub lift-accepted-spec : {M : Type 1} → statement M
 lift-accepted-spec =

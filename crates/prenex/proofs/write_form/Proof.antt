@@ -1,3 +1,8 @@
+-- `prenex::write_form` meets its contract.
+-- Assumes nothing.
+use mathlib.Core.Path.{refl}
+use Rattle.table_check.proofs.Arrays.{getD-zeros}
+use Rattle.prefix_writer.specs.Held.{Started, Chained}
 use native.Mathlib.Omega.{arith}
 use borrow.Author.Needs.{needs}
 use Rattle.prenex.proofs.write_form.Statement.{statement}
@@ -18,7 +23,10 @@ slice-aggregate-chain-levels-2 c = search needs
 
 -- src/lib.rt:191:5
 chain-levels-requires : tie.Need-chain-levels-requires
-chain-levels-requires c κs = ?
+chain-levels-requires c κs =
+    let s = c .before .before .before .before .before .before .before .before .before in
+    let l = s .pre .1 .0 in
+    (s .pre .0 .checked, ((l .levels-long, refl, refl), (l .levelled, λ x. getD-zeros 4096 x)))
 
 -- src/lib.rt:193:37
 slice-aggregate-fill-starts : tie.Need-slice-aggregate-fill-starts
@@ -42,7 +50,16 @@ slice-aggregate-write-named-3 c = search needs
 
 -- src/lib.rt:194:5
 write-named-requires : tie.Need-write-named-requires
-write-named-requires c κs = ?
+write-named-requires c κs =
+    let s = c .before .before .before .before .before .before .before .before .before .before .before .before .before .before .before .before .before .before .before .before .before in
+    let p = s .pre in
+    let f = c .before .before .before .before .before .before .before .fill-starts in
+    let h = c .before .before .before .before .before .before .before .before .before .before .before .chain-levels in
+    let a : Started (s .args .words .now) (s .args .list .now) _ =
+        record { checked = p .0 .checked; started = f .ensures .0; starts-long = f .kept .1 .1 .0 } in
+    let k : Chained (s .args .words .now) (s .args .list .now) _ _ =
+        record { chained = h .ensures; firsts-long = h .kept .1 .1 .1 .0; nexts-long = h .kept .1 .1 .1 .1 .0 } in
+    (p .0, (a, (k, (p .1 .1 .0, (p .1 .1 .1 .0, p .1 .1 .1 .1)))))
 
 -- src/lib.rt:171:1
 same-length : tie.Need-same-length

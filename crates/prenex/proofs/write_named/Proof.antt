@@ -1,3 +1,8 @@
+-- `prenex::write_named` meets its contract.
+-- Assumes nothing.
+use mathlib.Core.Path.{refl}
+use Rattle.formula.specs.Words.{tableOf}
+use Rattle.prefix_writer.specs.Held.{Named}
 use native.Mathlib.Omega.{arith}
 use borrow.Author.Needs.{needs}
 use Rattle.prenex.proofs.write_named.Statement.{statement}
@@ -39,7 +44,11 @@ slice-aggregate-give-names-3 c = search needs
 
 -- src/lib.rt:227:5
 give-names-requires : tie.Need-give-names-requires
-give-names-requires c κs = ?
+unfolding tableOf
+give-names-requires c κs =
+    let s = c .before .before .before .before .before .before .before .before .before .before .before .before .before .before .before in
+    let n = s .pre .1 .1 .1 .1 .0 in
+    (s .pre .0 .checked, (omega (arith, c .before .before .before .before .before .highest-number .ensures .0), ((refl, refl, refl), (n .bound-is, n .inner-bound-is))))
 
 -- src/lib.rt:228:70
 slice-aggregate-write-matrix : tie.Need-slice-aggregate-write-matrix
@@ -55,7 +64,17 @@ slice-aggregate-write-matrix-3 c = search needs
 
 -- src/lib.rt:228:5
 write-matrix-requires : tie.Need-write-matrix-requires
-write-matrix-requires c κs = ?
+write-matrix-requires c κs =
+    let s = c .before .before .before .before .before .before .before .before .before .before .before .before .before .before .before .before .before .before .before .before .before .before .before in
+    let g = c .before .before .before .before .before .before .before in
+    let p = s .pre in
+    let n : Named (s .args .words .now) (s .args .list .now) _ _ _ = record {
+      named = g .give-names .ensures .0;
+      names-long = g .give-names .kept .1 .1 .1 .0;
+      copies-long = g .give-names .kept .1 .1 .1 .1 .0;
+      marks-long = g .give-names .kept .1 .1 .1 .1 .1 .0
+    } in
+    (p .0, (p .1 .0, (p .1 .1 .0, (n, (p .1 .1 .1 .0, p .1 .1 .1 .1 .1 .nodes-fit)))))
 
 -- src/lib.rt:229:18
 cast-blocks : tie.Need-cast-blocks
@@ -75,7 +94,16 @@ slice-aggregate-write-prefix-3 c = search needs
 
 -- src/lib.rt:230:5
 write-prefix-requires : tie.Need-write-prefix-requires
-write-prefix-requires c κs = ?
+write-prefix-requires c κs =
+    let s = c .before .before .before .before .before .before .before .before .before .before .before .before .before .before .before .before .before .before .before .before .before .before .before .before .before .before .before .before .before .before .before .before in
+    let g = c .before .before .before .before .before .before .before .before .before .before .before .before .before .before .before .before in
+    let p = s .pre in
+    let h = p .1 .1 .0 in
+    let r = p .1 .1 .1 .1 .1 in
+    let k = g .give-names .kept .1 .1 .1 in
+    let n = p .1 .1 .1 .1 .0 in
+    (p .0 .checked, (p .1 .0 .started, (g .give-names .ensures .0, (h .chained,
+    ((p .1 .0 .starts-long, k .0, k .1 .0, k .1 .1 .0, h .firsts-long, h .nexts-long), ((n .blocks-is, p .1 .1 .1 .0), (r .prefix-fits, r .variables-fit)))))))
 
 -- src/lib.rt:198:1
 same-length : tie.Need-same-length
