@@ -100,7 +100,7 @@ module _ (ws ls nodes prefix variables : List ℕ) where
     lifted-done room r s e f nodes' prefix' variables' w =
         let g = e ∙ ap done f in
         let p : after r nodes' prefix' variables'
-            ≡ after (done (sizes (tableOf ws ls))) (overwrite nodes 0 (writtenNodes (tableOf ws ls))) (overwrite prefix 0 (writtenPrefix (tableOf ws ls)))
-                (overwrite variables 0 (writtenVariables (tableOf ws ls)))
-            = λ i. record { answer = g i; nodes = w .nodes-are i; prefix = w .prefix-is i; variables = w .variables-are i } in
+        ≡ after (done (sizes (tableOf ws ls))) (overwrite nodes 0 (writtenNodes (tableOf ws ls))) (overwrite prefix 0 (writtenPrefix (tableOf ws ls)))
+        (overwrite variables 0 (writtenVariables (tableOf ws ls)))
+        = λ i. record { answer = g i; nodes = w .nodes-are i; prefix = w .prefix-is i; variables = w .variables-are i } in
         p ∙ sym (pick-no _ _ _ (room-enough ws ls nodes prefix variables room)) ∙ sym (pick-yes _ _ _ zero-number)

@@ -49,8 +49,8 @@ module _ (ws ls nodes prefix variables : List ℕ) (r : Answer) (nodes' prefix' 
   -- the three parts, read off buffers that hold them
   parts : verdict ws ls ≡ accepted
       → after r nodes' prefix' variables'
-        ≡ after (done (sizes (tableOf ws ls))) (overwrite nodes 0 (writtenNodes (tableOf ws ls))) (overwrite prefix 0 (writtenPrefix (tableOf ws ls)))
-            (overwrite variables 0 (writtenVariables (tableOf ws ls)))
+      ≡ after (done (sizes (tableOf ws ls))) (overwrite nodes 0 (writtenNodes (tableOf ws ls))) (overwrite prefix 0 (writtenPrefix (tableOf ws ls)))
+      (overwrite variables 0 (writtenVariables (tableOf ws ls)))
       → PrenexOf (tableOf ws ls) (take (width * r .sizes .nodes) nodes') (take (prefixWidth * r .sizes .blocks) prefix') (take (r .sizes .entries) variables')
   unfolding after done
   parts ok e =
@@ -58,17 +58,17 @@ module _ (ws ls nodes prefix variables : List ℕ) (r : Answer) (nodes' prefix' 
       let tree = accepted-holds ws ls ok .proper .tree in
       let s : r .sizes ≡ sizes t = ap (λ (o : Outcome). o .answer .sizes) e in
       let n : take (width * r .sizes .nodes) nodes' ≡ writtenNodes t =
-          ap (λ (m : ℕ). take m nodes') (ap (λ (z : Sizes). width * z .nodes) s)
-          ∙ ap (take (width * sizes t .nodes)) (ap (λ (o : Outcome). o .nodes) e)
-          ∙ start-of nodes (writtenNodes t) _ (nodes-size t tree) in
+      ap (λ (m : ℕ). take m nodes') (ap (λ (z : Sizes). width * z .nodes) s)
+      ∙ ap (take (width * sizes t .nodes)) (ap (λ (o : Outcome). o .nodes) e)
+      ∙ start-of nodes (writtenNodes t) _ (nodes-size t tree) in
       let p : take (prefixWidth * r .sizes .blocks) prefix' ≡ writtenPrefix t =
-          ap (λ (m : ℕ). take m prefix') (ap (λ (z : Sizes). prefixWidth * z .blocks) s)
-          ∙ ap (take (prefixWidth * sizes t .blocks)) (ap (λ (o : Outcome). o .prefix) e)
-          ∙ start-of prefix (writtenPrefix t) _ (prefix-size t tree) in
+      ap (λ (m : ℕ). take m prefix') (ap (λ (z : Sizes). prefixWidth * z .blocks) s)
+      ∙ ap (take (prefixWidth * sizes t .blocks)) (ap (λ (o : Outcome). o .prefix) e)
+      ∙ start-of prefix (writtenPrefix t) _ (prefix-size t tree) in
       let v : take (r .sizes .entries) variables' ≡ writtenVariables t =
-          ap (λ (m : ℕ). take m variables') (ap (λ (z : Sizes). z .entries) s)
-          ∙ ap (take (sizes t .entries)) (ap (λ (o : Outcome). o .variables) e)
-          ∙ start-of variables (writtenVariables t) _ (variables-size t tree) in
+      ap (λ (m : ℕ). take m variables') (ap (λ (z : Sizes). z .entries) s)
+      ∙ ap (take (sizes t .entries)) (ap (λ (o : Outcome). o .variables) e)
+      ∙ start-of variables (writtenVariables t) _ (variables-size t tree) in
       rw (n, p, v) (prenex ws ls ok)
 
   -- Lifting's second promise follows from its first: where the answer is 0, the buffers hold a prenex form of the table.

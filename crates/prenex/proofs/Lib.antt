@@ -1,4 +1,5 @@
 pub mod Answers
 pub mod Examples
 pub mod Form
+pub mod Matrix
 pub mod Measured

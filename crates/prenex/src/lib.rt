@@ -163,7 +163,17 @@ fn lift_accepted(
     if variables.len() < sizes.entries as usize {
         return refusal(BUFFER_TOO_SHORT, 0);
     }
-    write_form(words, list, nodes, prefix, variables, &parents, &levels, deepest, counts);
+    write_form(
+        words,
+        list,
+        nodes,
+        prefix,
+        variables,
+        &parents,
+        &levels,
+        deepest,
+        counts,
+    );
     done(sizes)
 }
 
@@ -191,7 +201,19 @@ fn write_form(
     scopes::chain_levels(words, list, levels, &mut firsts, &mut nexts);
     let mut starts = [0u32; LIMIT];
     names::fill_starts(words, list, &mut starts);
-    write_named(words, list, nodes, prefix, variables, parents, &firsts, &nexts, &starts, deepest, counts);
+    write_named(
+        words,
+        list,
+        nodes,
+        prefix,
+        variables,
+        parents,
+        &firsts,
+        &nexts,
+        &starts,
+        deepest,
+        counts,
+    );
 }
 
 // Hands out the new names, and writes the three parts of the form.
@@ -224,10 +246,44 @@ fn write_named(
     };
     let bound = counts.bound as usize;
     let inner_bound = counts.inner_bound as usize;
-    names::give_names(words, list, counter, &mut new_names, &mut copies, &mut marks, bound, inner_bound);
-    write_matrix(words, list, nodes, parents, firsts, nexts, starts, &new_names, &copies, &marks, deepest);
+    names::give_names(
+        words,
+        list,
+        counter,
+        &mut new_names,
+        &mut copies,
+        &mut marks,
+        bound,
+        inner_bound,
+    );
+    write_matrix(
+        words,
+        list,
+        nodes,
+        parents,
+        firsts,
+        nexts,
+        starts,
+        &new_names,
+        &copies,
+        &marks,
+        deepest,
+    );
     let blocks = counts.blocks as usize;
-    prefix_writer::write_prefix(words, list, prefix, variables, starts, &new_names, &copies, &marks, firsts, nexts, blocks, deepest);
+    prefix_writer::write_prefix(
+        words,
+        list,
+        prefix,
+        variables,
+        starts,
+        &new_names,
+        &copies,
+        &marks,
+        firsts,
+        nexts,
+        blocks,
+        deepest,
+    );
 }
 
 // Chains the entries of each number, and writes the nodes.
@@ -255,10 +311,40 @@ fn write_matrix(
     let mut heads = [0u16; NUMBERS];
     let mut entry_nexts = [0u32; LIMIT];
     let mut owners = [0u32; LIMIT];
-    names::chain_entries(words, list, starts, &mut heads, &mut entry_nexts, &mut owners);
+    names::chain_entries(
+        words,
+        list,
+        starts,
+        &mut heads,
+        &mut entry_nexts,
+        &mut owners,
+    );
     let first = words.len() / formula::WIDTH - root_blocks(words, list) as usize;
-    binders::write_first(nodes, words, list, parents, &heads, &entry_nexts, &owners, new_names, marks, first);
-    matrix_writer::write_levels(words, list, nodes, firsts, nexts, starts, new_names, copies, marks, first, deepest);
+    binders::write_first(
+        nodes,
+        words,
+        list,
+        parents,
+        &heads,
+        &entry_nexts,
+        &owners,
+        new_names,
+        marks,
+        first,
+    );
+    matrix_writer::write_levels(
+        words,
+        list,
+        nodes,
+        firsts,
+        nexts,
+        starts,
+        new_names,
+        copies,
+        marks,
+        first,
+        deepest,
+    );
 }
 
 // 1 if the root is a block, else 0.

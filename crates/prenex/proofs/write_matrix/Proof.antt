@@ -1,3 +1,14 @@
+-- `prenex::write_matrix` meets its contract.
+-- Assumes nothing.
+use mathlib.Core.Path.{refl, ap}
+use lib.ListN.{length}
+use Rattle.formula.specs.Words.{tableOf}
+use Rattle.table_check.proofs.Arrays.{getD-zeros}
+use Rattle.binders.specs.Given.{Scopes, NewNames, DefinitionVariables}
+use Rattle.matrix_writer.specs.Added.{addedNodes}
+use Rattle.matrix_writer.specs.Arrays.{BlockArrays, ChainArrays}
+use Rattle.prenex.proofs.Matrix.{kept-is, first-room, added-room, whole}
+use Rattle.prenex.proofs.Measured.{root-le, count-some}
 use native.Mathlib.Omega.{arith}
 use borrow.Author.Needs.{needs}
 use Rattle.prenex.proofs.write_matrix.Statement.{statement}
@@ -23,7 +34,10 @@ slice-aggregate-chain-entries-3 c = search needs
 
 -- src/lib.rt:258:5
 chain-entries-requires : tie.Need-chain-entries-requires
-chain-entries-requires c κs = ?
+chain-entries-requires c κs =
+    let s = c .before .before .before .before .before .before .before .before .before .before .before .before .before in
+    let a = s .pre .1 .0 in
+    (a .checked, (a .started, ((a .starts-long, refl, refl, refl), λ x. getD-zeros 65536 x)))
 
 -- src/lib.rt:259:48
 root-blocks-requires : tie.Need-root-blocks-requires
@@ -35,7 +49,10 @@ cast-first c = search needs
 
 -- src/lib.rt:259:17
 sub-first : tie.Need-sub-first
-sub-first c = ?
+unfolding tableOf
+sub-first c =
+    let s = c .before .before .before .before .before .before .before .before .before .before .before .before .before .before .before .before .before .before in
+    omega (arith, c .root-blocks .ensures, root-le (tableOf (s .args .words .now) (s .args .list .now)), count-some (s .args .words .now) (s .args .list .now) (s .pre .0 .checked))
 
 -- src/lib.rt:260:55
 slice-aggregate-write-first : tie.Need-slice-aggregate-write-first
@@ -51,11 +68,55 @@ slice-aggregate-write-first-3 c = search needs
 
 -- src/lib.rt:260:5
 write-first-requires : tie.Need-write-first-requires
-write-first-requires c κs = ?
+unfolding tableOf
+write-first-requires c κs =
+    let s = c .before .before .before .before .before .before .before .before .before .before .before .before .before .before .before .before .before .before .before .before .before .before in
+    let p = s .pre in
+    let n = p .1 .1 .1 .0 in
+    let h = c .before .before .before .before .before .before .before .before .chain-entries in
+    let k = c .before .before .before .before .root-blocks .ensures in
+    let scopes : Scopes (s .args .words .now) (s .args .list .now) (s .args .parents .now) _ _ _ =
+    record {
+      accepts = p .0 .checked;
+      parents-length = p .0 .parents-long;
+      heads-length = h .kept .1 .1 .1 .0;
+      nexts-length = h .kept .1 .1 .1 .1 .0;
+      owners-length = h .kept .1 .1 .1 .1 .1 .0;
+      parents-hold = p .0 .placed;
+      chains-hold = h .ensures;
+    } in
+    let names : NewNames (s .args .words .now) (s .args .list .now) (s .args .new-names .now) = record { names-length = n .names-long; name-is = n .named .name-is } in
+    let marks : DefinitionVariables (s .args .words .now) (s .args .list .now) (s .args .marks .now) = record { marks-length = n .marks-long; mark-is = n .named .mark-is } in
+    let e = kept-is (s .args .words .now) (s .args .list .now) (p .0 .checked) in
+    let r = first-room (s .args .words .now) (s .args .list .now) (p .0 .checked) (s .args .nodes .now) (p .1 .1 .1 .1 .1) in
+    (scopes, (names, (marks, (omega (arith, k, e), omega (arith, k, e, r)))))
 
 -- src/lib.rt:261:5
 write-levels-requires : tie.Need-write-levels-requires
-write-levels-requires c κs = ?
+unfolding tableOf
+write-levels-requires c κs =
+    let s = c .before .before .before .before .before .before .before .before .before .before .before .before .before .before .before .before .before .before .before .before .before .before .before .before .before .before in
+    let p = s .pre in
+    let n = p .1 .1 .1 .0 in
+    let a = p .1 .0 in
+    let h = p .1 .1 .0 in
+    let k = c .before .before .before .before .before .before .before .before .root-blocks .ensures in
+    let e = kept-is (s .args .words .now) (s .args .list .now) (p .0 .checked) in
+    let blocks : BlockArrays (s .args .words .now) (s .args .list .now) (s .args .starts .now) (s .args .new-names .now) (s .args .copies .now) (s .args .marks .now) =
+    record {
+      is-accepted = p .0 .checked;
+      starts-hold = a .started;
+      names-hold = n .named;
+      starts-long = omega (arith, a .starts-long);
+      names-long = omega (arith, n .names-long);
+      copies-long = omega (arith, n .copies-long);
+      marks-long = omega (arith, n .marks-long);
+    } in
+    let chains : ChainArrays (s .args .words .now) (s .args .list .now) (s .args .firsts .now) (s .args .nexts .now) =
+    record { chains-hold = h .chained; nexts-long = omega (arith, h .nexts-long) } in
+    let r = added-room (s .args .words .now) (s .args .list .now) (p .0 .checked) (s .args .nodes .now) (p .1 .1 .1 .1 .1) (c .before .before .before .write-first .last .0) (c .before .before .before .write-first .kept .0) in
+    let q = ap (λ d. length (addedNodes (tableOf (s .args .words .now) (s .args .list .now)) d)) (p .1 .1 .1 .1 .0) in
+    (blocks, (chains, (omega (arith, k, e), (p .1 .1 .1 .1 .0, record { fits = omega (arith, r .fits, q, k, e); small = omega (arith, r .small, q, k, e) }))))
 
 -- src/lib.rt:234:1
 same-length : tie.Need-same-length
@@ -63,7 +124,9 @@ same-length c = search needs
 
 -- src/lib.rt:234:1
 returns : tie.Need-returns
-returns c = ?
+returns c =
+    let s = c .before .before .before .before .before .before .before .before .before .before .before .before .before .before .before .before .before .before .before .before .before .before .before .before .before .before .before .before .before in
+    whole (s .args .words .now) (s .args .list .now) (s .pre .0 .checked) (s .args .nodes .now) (s .pre .1 .1 .1 .1 .1) _ _ (c .before .before .before .before .before .before .write-first .ensures) (c .before .before .write-levels .ensures .0)
 
 pub write-matrix-spec : {M : Type 1} → statement M
 write-matrix-spec =

@@ -72,7 +72,7 @@ write-matrix-requires c κs =
       named = g .give-names .ensures .0;
       names-long = g .give-names .kept .1 .1 .1 .0;
       copies-long = g .give-names .kept .1 .1 .1 .1 .0;
-      marks-long = g .give-names .kept .1 .1 .1 .1 .1 .0
+      marks-long = g .give-names .kept .1 .1 .1 .1 .1 .0;
     } in
     (p .0, (p .1 .0, (p .1 .1 .0, (n, (p .1 .1 .1 .0, p .1 .1 .1 .1 .1 .nodes-fit)))))
 
@@ -101,9 +101,19 @@ write-prefix-requires c κs =
     let h = p .1 .1 .0 in
     let r = p .1 .1 .1 .1 .1 in
     let k = g .give-names .kept .1 .1 .1 in
-    let n = p .1 .1 .1 .1 .0 in
-    (p .0 .checked, (p .1 .0 .started, (g .give-names .ensures .0, (h .chained,
-    ((p .1 .0 .starts-long, k .0, k .1 .0, k .1 .1 .0, h .firsts-long, h .nexts-long), ((n .blocks-is, p .1 .1 .1 .0), (r .prefix-fits, r .variables-fit)))))))
+    let n = p .1 .1 .1 .1 .0 in (
+      p .0 .checked,
+      (
+        p .1 .0 .started,
+        (
+          g .give-names .ensures .0,
+          (
+            h .chained,
+            ((p .1 .0 .starts-long, k .0, k .1 .0, k .1 .1 .0, h .firsts-long, h .nexts-long), ((n .blocks-is, p .1 .1 .1 .0), (r .prefix-fits, r .variables-fit))),
+          ),
+        ),
+      ),
+    )
 
 -- src/lib.rt:198:1
 same-length : tie.Need-same-length
