@@ -105,9 +105,6 @@ module _ (xs : List ℕ) (first count : ℕ) (fits : first + count ≤ length xs
       rw (e, f, drop-cons xs (first + k) 0 (omega arith))
 
   module _ (out₀ out : List ℕ) (k : ℕ) (so-far : Left out₀ out k (range xs first count) (rangeLeft k)) where
-    pub copy-room : count ≤ length out₀ → k < count → k < length out
-    copy-room room h = omega (arith, so-far .kept)
-
     pub copy-step : count ≤ length out₀ → k < count → Left out₀ (set out k (getD xs (first + k) 0)) (k + 1) (range xs first count) (rangeLeft (k + 1))
     copy-step room h =
         let a = getD xs (first + k) 0 ∷ [] in

@@ -1,9 +1,9 @@
 // The prefix of a prenex form: its blocks, three words each, and the list of their variables, one block's after the
 // other's.
-ghost use mathlib.Core.List.{List, [], _∷_, flatMap};
+ghost use mathlib.Core.List.{[], _∷_, flatMap};
 ghost use mathlib.Core.Path.{_≡_};
-ghost use Prim.Native.Nat.{ℕ, suc, _+_, _*_, _-_, _≤_, _<_};
-ghost use lib.ListN.{length, getD};
+ghost use Prim.Native.Nat.{_+_, _*_, _≤_, _<_};
+ghost use lib.ListN.{length};
 ghost use Rattle.lists.specs.Parts.{overwrite};
 ghost use Rattle.formula.specs.Node.{Quantifier, dual};
 ghost use Rattle.formula.specs.Words.{nodeCount, range, tableOf};

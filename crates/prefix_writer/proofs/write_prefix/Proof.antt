@@ -59,8 +59,9 @@ loop-again c =
     let p = c .before .before .before .before .before .before .before .before .before .before .before .before .before .before .before .before .before .before .before .before .before .before .pre in
     let room = p .1 .1 .1 .1 .1 .1 in
     let h = rw (p .1 .1 .1 .1 .1 .0 .1) at (c .before .before .before .before .before .before .before .before .loop-test .taken) in
-    let e = c .before .before .before .before .before .write-block .ensures in
-    written-step _ _ _ _ _ _ _ _ (c .before .before .before .before .before .before .before .before .before .loop .inv) h _ _ _ _ (room .0) (room .1) (e .0) (e .1 .0) (e .1 .1) (c .dual-kind .ensures)
+    let b = c .before .before .before .before .before .write-block in
+    let e = b .ensures in
+    written-step _ _ _ _ _ _ _ _ (c .before .before .before .before .before .before .before .before .before .loop .inv) h (b .last .1 .1 .0) (b .last .1 .1 .1 .0) _ _ (room .0) (room .1) (e .0) (e .1 .0) (e .1 .1) (c .dual-kind .ensures)
 
 same-length : tie.Need-same-length Inv-loop μ-loop
 same-length c = c .before .loop .inv .words .kept
