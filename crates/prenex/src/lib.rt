@@ -131,9 +131,9 @@ pub fn lift(
     ensures form { λ r. ⌜ (r .number ≡ 0 → PrenexOf (tableOf (now (words .entry)) (now (list .entry))) (take (width * r .sizes .nodes) (now (nodes .exit))) (take (prefixWidth * r .sizes .blocks) (now (prefix .exit))) (take (r .sizes .entries) (now (variables .exit)))) ⌝ }
 {
     let v = table_check::check(words, list);
-    let number = v.number;
-    if number != 0 {
-        return refusal(number, v.position);
+    let fault = v.number;
+    if fault != 0 {
+        return refusal(fault, v.position);
     }
     lift_accepted(words, list, nodes, prefix, variables)
 }
@@ -319,7 +319,8 @@ fn write_matrix(
         &mut entry_nexts,
         &mut owners,
     );
-    let first = words.len() / formula::WIDTH - root_blocks(words, list) as usize;
+    let n = words.len() / formula::WIDTH;
+    let first = n - root_blocks(words, list) as usize;
     binders::write_first(
         nodes,
         words,

@@ -1,8 +1,10 @@
-// Document 01's "Formulas to try" under the table checker: each formula's name and its verdict.
+// Document 01's "Formulas to try": each formula's name and what measuring says of it, and the prenex
+// form of one of them.
 ghost use Prim.Native.Nat.{_+_, _*_, _≤_};
 ghost use lib.ListN.{length};
 ghost use Rattle.formula.specs.Words.{width};
 use formula::WIDTH;
+use prenex::Answer;
 
 const OUT: i32 = 1;
 
@@ -13,23 +15,79 @@ fn main() {
     large();
     long_list();
     crowded();
+    form();
 }
 
-// Prints a formula's name and what the checker says of its table.
+// Prints a formula's name and what measuring says of its table.
 fn show(name: &[u8], words: &[u32], list: &[u32]) {
     io::write_all(OUT, name);
-    let v = table_check::check(words, list);
-    let number = v.number;
-    let position = v.position;
-    if number == 0 {
-        io::write_all(OUT, b": accepted\n");
+    show_answer(prenex::measure(words, list));
+}
+
+fn show_answer(a: Answer) {
+    let number = a.number;
+    let s = a.sizes;
+    if number != 0 {
+        show_number(b": refused, ", number);
+        show_number(b" at ", a.position);
+        io::write_all(OUT, b"\n");
         return;
     }
-    io::write_all(OUT, b": refused, ");
-    io::print_decimal(OUT, wide(number));
-    io::write_all(OUT, b" at ");
-    io::print_decimal(OUT, wide(position));
+    show_number(b": n ", s.n);
+    show_number(b", b ", s.b);
+    show_number(b", q ", s.q);
+    show_number(b", depth ", s.depth);
+    show_number(b"; form of ", s.nodes);
+    show_number(b" nodes, ", s.blocks);
+    show_number(b" prefix blocks, ", s.entries);
+    io::write_all(OUT, b" prefix variables\n");
+}
+
+fn show_number(before: &[u8], x: u32) {
+    io::write_all(OUT, before);
+    io::print_decimal(OUT, wide(x));
+}
+
+// Lifts variable 1 xor (exists 2: 2 and 1), once with a word too little room for its nodes.
+fn form() {
+    let words = [2, 1, 0, 0, 2, 2, 0, 0, 2, 1, 0, 0, 4, 8, 1, 2, 5, 0, 1, 3, 4, 6, 0, 4];
+    let list = [2];
+    let mut short = [0u32; 59];
+    let mut nodes = [0u32; 60];
+    let mut prefix = [0u32; 6];
+    let mut variables = [0u32; 3];
+    let refused = prenex::lift(&words, &list, &mut short, &mut prefix, &mut variables);
+    io::write_all(OUT, b"a block below an exclusive or, lifted into 59 words");
+    show_answer(refused);
+    let done = prenex::lift(&words, &list, &mut nodes, &mut prefix, &mut variables);
+    io::write_all(OUT, b"a block below an exclusive or, lifted into 60 words");
+    show_answer(done);
+    show_rows(b"nodes\n", &nodes, WIDTH);
+    show_rows(b"prefix\n", &prefix, 3);
+    show_rows(b"variables\n", &variables, 1);
+}
+
+// Words, so many to a line.
+fn show_rows(name: &[u8], words: &[u32], width: usize) {
+    io::write_all(OUT, name);
+    let mut i = 0;
+    let mut column = 0;
+    while i < words.len() {
+        show_number(b" ", words[i]);
+        column = next_column(column, width);
+        i += 1;
+    }
+}
+
+// The next word's place on its line, after the line's end where it is full.
+fn next_column(column: usize, width: usize) -> usize {
+    if column < width {
+        if column + 1 < width {
+            return column + 1;
+        }
+    }
     io::write_all(OUT, b"\n");
+    0
 }
 
 fn wide(x: u32) -> u64 {
