@@ -1,16 +1,16 @@
 -- What the working arrays of a lift hold of a table t.
 -- Assumes nothing.
 use mathlib.Core.Bool.{Bool, true, _&&_}
-use mathlib.Core.List.{List, []}
+use mathlib.Core.List.{List}
 use mathlib.Core.Path.{_≡_}
-use Prim.Native.Nat.{ℕ, suc, _+_, _<_, _≤_}
+use Prim.Native.Nat.{ℕ, suc, _+_, _%_, _<_, _≤_}
 use lib.Dec.{eqb, ltb}
-use lib.ListN.{length, getD}
+use lib.ListN.{getD}
 use Rattle.lists.specs.Choice.{pick}
 use Rattle.lists.specs.Search.{lowest}
 use Rattle.lists.specs.Members.{place}
 use Rattle.lists.specs.Parts.{upTo}
-use Rattle.formula.specs.Node.{Node, Table, isBlock, bound}
+use Rattle.formula.specs.Node.{Table, isBlock, bound}
 use Rattle.formula.specs.Tree.{boundBelow}
 use Rattle.prenex_form.specs.Scope.{above, binder, inner, level}
 use Rattle.prenex_form.specs.Names.{highestNumber, boundCount, innerBoundBelow, definitionVariable}
@@ -46,10 +46,19 @@ entries t = upTo (λ i. bound (t .node i)) (t .size)
 pub record Starts (t : Table) (starts : List ℕ) : Type 0 where
   pub start-is : (i : ℕ) → i < t .size → getD starts i 0 ≡ boundBelow t i
 
--- The entries of each number chained in order, and the block of each.
-pub record EntryChains (t : Table) (heads nexts owners : List ℕ) : Type 0 where
-  pub head-is : (x : ℕ) → x < 65536 → getD heads x 0 ≡ link (λ e. eqb (getD (entries t) e 0) x) 0 (boundCount t)
-  pub next-is : (e : ℕ) → e < boundCount t → getD nexts e 0 ≡ link (λ k. eqb (getD (entries t) k 0) (getD (entries t) e 0)) (suc e) (boundCount t)
+-- How many remainders the entries are chained by: at most 16 variable numbers share one.
+abbrev pub buckets : ℕ
+buckets = 4096
+
+-- The number of entry e has the remainder h.
+abbrev pub inBucket : Table → ℕ → ℕ → Bool
+inBucket t h e = eqb (getD (entries t) e 0 % buckets) h
+
+-- The entries of each remainder chained in order, and the number and the block of each.
+pub record EntryChains (t : Table) (heads nexts owners numbers : List ℕ) : Type 0 where
+  pub head-is : (h : ℕ) → h < buckets → getD heads h 0 ≡ link (inBucket t h) 0 (boundCount t)
+  pub next-is : (e : ℕ) → e < boundCount t → getD nexts e 0 ≡ link (inBucket t (getD (entries t) e 0 % buckets)) (suc e) (boundCount t)
+  pub number-is : (e : ℕ) → e < boundCount t → getD numbers e 0 ≡ getD (entries t) e 0
   pub owner-lt : (e : ℕ) → e < boundCount t → getD owners e 0 < t .size
   pub owner-from : (e : ℕ) → e < boundCount t → boundBelow t (getD owners e 0) ≤ e
   pub owner-below : (e : ℕ) → e < boundCount t → e < boundBelow t (suc (getD owners e 0))

@@ -6,10 +6,10 @@ use mathlib.Core.List.{List, [], _∷_, _++_, flatMap, append-assoc, append-nil}
 use Prim.Native.Nat.{ℕ, zero, suc, _+_, _-_, _*_, _≤_, _<_}
 use native.Mathlib.Omega.{arith}
 use native.Mathlib.Numerals.{add-one}
-use lib.Dec.{eqb, ltb, leb}
+use lib.Dec.{eqb, ltb}
 use lib.ListN.{length, getD, length-append}
-use borrow.Author.Tests.{ltb-true, ltb-false, leb-true, eqb-true, eqb-false}
-use Rattle.lists.specs.Choice.{pick-yes, pick-no, Is, is-true, is-false, look, clash, and-right}
+use borrow.Author.Tests.{ltb-true, ltb-false, eqb-true, eqb-false}
+use Rattle.lists.specs.Choice.{pick-yes, pick-no, Is, is-true, is-false, look, clash}
 use Rattle.lists.specs.Parts.{upTo, overwrite}
 use Rattle.lists.proofs.Parts.{length-each}
 use Rattle.lists.proofs.Overwrite.{overwrite-nil, overwrite-append}
@@ -19,7 +19,6 @@ use Rattle.formula.specs.Truth.{digit}
 use Rattle.formula.specs.Tree.{Proper}
 use Rattle.formula.proofs.Nodes.{node-constant, node-variable, node-negation, node-operator, node-exists, node-for-all}
 use Rattle.table_check.specs.Accepted.{Accepted}
-use Rattle.table_check.specs.Verdict.{isNumber}
 use Rattle.table_check.proofs.Accepted.{Formed, formed-constant, formed-variable, formed-negation, formed-operator, formed-exists, formed-for-all}
 use Rattle.table_check.proofs.Accepted.{formed-cases}
 use Rattle.prenex_form.specs.Scope.{binder, inner}
@@ -108,18 +107,6 @@ module _ (ws ls : List ℕ) (accepts : Accepted ws ls) (i : ℕ) (h : i < kept (
   module _ (kind x y z : ℕ) (read : (kind ≡ field ws i 0) × (x ≡ field ws i 1) × (y ≡ field ws i 2) × (z ≡ field ws i 3)) where
     formed : Formed (field ws i 0) (field ws i 1) (field ws i 2) (field ws i 3)
     formed = formed-cases _ _ _ _ (accepts .formed i kept-node)
-
-    pub variable-number : kind ≡ 2 → x ≤ 65535
-    unfolding isNumber
-    variable-number e = go formed
-      where
-        go : Formed (field ws i 0) (field ws i 1) (field ws i 2) (field ws i 3) → x ≤ 65535
-        go (formed-constant k _ _ _) = absurd (omega (arith, read .0))
-        go (formed-variable k n _ _) = omega (arith, read .1, leb-true (field ws i 1) 65535 (and-right (leb 1 (field ws i 1)) _ n))
-        go (formed-negation k _ _) = absurd (omega (arith, read .0))
-        go (formed-operator k _) = absurd (omega (arith, read .0))
-        go (formed-exists k) = absurd (omega (arith, read .0))
-        go (formed-for-all k) = absurd (omega (arith, read .0))
 
     -- a variable node is renamed
     pub variable-written : kind ≡ 2 → (name : ℕ) → name ≡ newName (tableOf ws ls) i x → (out last : List ℕ)

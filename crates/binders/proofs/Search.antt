@@ -3,7 +3,7 @@
 use mathlib.Core.Path.{_≡_, refl, sym, _∙_, ap, subst}
 use mathlib.Core.Bool.{true, _&&_}
 use mathlib.Core.List.{List}
-use Prim.Native.Nat.{ℕ, zero, suc, _+_, _-_, _≤_, _<_}
+use Prim.Native.Nat.{ℕ, zero, suc, _+_, _-_, _%_, _≤_, _<_}
 use native.Mathlib.Omega.{arith}
 use lib.Dec.{eqb, ltb}
 use lib.ListN.{getD}
@@ -22,17 +22,17 @@ use Rattle.prenex_form.specs.Names.{boundCount}
 use Rattle.prenex_form.proofs.Paths.{above-line, above-trans, binder-block, binder-binds, binder-above}
 use Rattle.prenex_form.proofs.Limits.{bound-limit}
 use Rattle.arrays.specs.Link.{link}
-use Rattle.arrays.specs.Held.{enclosing, entries, boundEntry}
+use Rattle.arrays.specs.Held.{enclosing, entries, buckets, inBucket, boundEntry}
 use Rattle.arrays.proofs.Link.{Next, link-some, link-none}
 use Rattle.arrays.proofs.Enclosing.{enclosing-le, enclosing-block, enclosing-above, enclosing-higher, enclosing-least}
 use Rattle.arrays.proofs.Entries.{boundBelow-next, boundBelow-grows, boundBelow-end, entries-at}
 use Rattle.binders.specs.Given.{Scopes}
 
--- Where the search stands in the chain of x's entries: at one more than an entry that holds x, or at 0 past the last. If an
--- entry binds x at node i, it is not behind.
+-- Where the search stands in the chain of the entries with x's remainder: at one more than an entry of it, or at 0 past the
+-- last. If an entry binds x at node i, it is not behind.
 pub record EntryReached (t : Table) (i x entry : ℕ) : Type 0 where
   pub limit : entry ≤ boundCount t
-  pub holds : 0 < entry → getD (entries t) (entry - 1) 0 ≡ x
+  pub holds : 0 < entry → getD (entries t) (entry - 1) 0 % buckets ≡ x % buckets
   pub left : 0 < boundEntry t i x → 0 < entry
   pub ahead : 0 < boundEntry t i x → entry ≤ boundEntry t i x
 
@@ -105,7 +105,7 @@ module _ (t : Table) (proper : Proper t) (i x : ℕ) where
   bound-is h = binding (boundEntry t i x - 1) (omega arith)
 
   -- from an index up to the entry that binds x, the chain leads to an entry up to it
-  chain-on : (k entry : ℕ) → link (λ e. eqb (getD (entries t) e 0) x) k (boundCount t) ≡ entry
+  chain-on : (k entry : ℕ) → link (inBucket t (x % buckets)) k (boundCount t) ≡ entry
       → (0 < boundEntry t i x → k < boundEntry t i x) → EntryReached t i x entry
   chain-on k zero e f =
       record {
@@ -117,8 +117,8 @@ module _ (t : Table) (proper : Proper t) (i x : ℕ) where
     where
       none : (z : 0 < boundEntry t i x) → Binding t i x (boundEntry t i x - 1) → 0 < 0
       none z r =
-          clash (eq-eqb _ _ (r .holds))
-          (link-none (λ e. eqb (getD (entries t) e 0) x) k (boundCount t) e (boundEntry t i x - 1) (omega (arith, f z)) (r .limit))
+          clash (eq-eqb _ _ (ap (λ n. n % buckets) (r .holds)))
+          (link-none (inBucket t (x % buckets)) k (boundCount t) e (boundEntry t i x - 1) (omega (arith, f z)) (r .limit))
   chain-on k (suc j) e f =
       record {
         limit = r .below;
@@ -127,12 +127,12 @@ module _ (t : Table) (proper : Proper t) (i x : ℕ) where
         ahead = λ z. go z (bound-is z) (look (ltb (boundEntry t i x - 1) j));
       }
     where
-      r : Next (λ e. eqb (getD (entries t) e 0) x) k (boundCount t) j
-      r = link-some (λ e. eqb (getD (entries t) e 0) x) k (boundCount t) j e
+      r : Next (inBucket t (x % buckets)) k (boundCount t) j
+      r = link-some (inBucket t (x % buckets)) k (boundCount t) j e
 
       go : (z : 0 < boundEntry t i x) → Binding t i x (boundEntry t i x - 1) → Is (ltb (boundEntry t i x - 1) j) → suc j ≤ boundEntry t i x
       go z w (is-false l) = omega (arith, ltb-false (boundEntry t i x - 1) j l)
-      go z w (is-true l) = clash (eq-eqb _ _ (w .holds)) (r .between (boundEntry t i x - 1) (omega (arith, f z)) (ltb-true _ _ l))
+      go z w (is-true l) = clash (eq-eqb _ _ (ap (λ n. n % buckets) (w .holds))) (r .between (boundEntry t i x - 1) (omega (arith, f z)) (ltb-true _ _ l))
 
 -- the nearest block above node j is reached where all blocks above node j are above node i, and x's binder is above node j
 block-from : (t : Table) (proper : Proper t) (i x j : ℕ) → ((b : ℕ) → above t b j ≡ true → above t b i ≡ true)
@@ -160,23 +160,23 @@ pub record Searching (ws ls : List ℕ) (i x size entry block : ℕ) : Type 0 wh
   pub at-entry : EntryReached (tableOf ws ls) i x entry
   pub at-block : BlockReached (tableOf ws ls) i x block
 
-module _ {ws ls parents heads nexts owners : List ℕ} (s : Scopes ws ls parents heads nexts owners) (i x : ℕ) (inside : i < nodeCount ws) where
+module _ {ws ls parents heads nexts owners numbers : List ℕ} (s : Scopes ws ls parents heads nexts owners numbers) (i x : ℕ) (inside : i < nodeCount ws) where
   abbrev t : Table
   t = tableOf ws ls
 
   proper : Proper t
   proper = accepted-holds ws ls (s .accepts) .proper
 
-  -- it begins at the first entry that holds x, and at the nearest block above node i
-  pub search-start : x ≤ 65535 → Searching ws ls i x (nodeCount ws) (getD heads x 0) (getD parents i 0)
+  -- it begins at the first entry with x's remainder, and at the nearest block above node i
+  pub search-start : Searching ws ls i x (nodeCount ws) (getD heads (x % buckets) 0) (getD parents i 0)
   unfolding tableOf
-  search-start l =
+  search-start =
       let a = accepted-holds ws ls (s .accepts) in
       record {
         size-is = refl;
         size-le = a .nodes-limit;
         bound-le = bound-limit ws ls a;
-        at-entry = chain-on t proper i x 0 (getD heads x 0) (sym (s .chains-hold .head-is x (omega arith))) (λ z. z);
+        at-entry = chain-on t proper i x 0 (getD heads (x % buckets) 0) (sym (s .chains-hold .head-is (x % buckets) (omega arith))) (λ z. z);
         at-block =
             subst (λ b. BlockReached t i x b) (sym (s .parents-hold .parent-is i inside))
             (block-from t proper i x i (λ b u. u) (binder-above t (proper .tree) i x));
@@ -201,9 +201,19 @@ module _ {ws ls parents heads nexts owners : List ℕ} (s : Scopes ws ls parents
       within : entry - 1 < boundCount t
       within = omega (arith, r .at-entry .limit, positive)
 
-      -- an entry of a lower block does not bind x
-      entry-later : getD owners (entry - 1) 0 < block → 0 < boundEntry t i x → entry < boundEntry t i x
-      entry-later o z =
+      -- an entry with another number does not bind x
+      pub other-number : (getD numbers (entry - 1) 0 ≡ x → ⊥) → 0 < boundEntry t i x → entry < boundEntry t i x
+      other-number n z = go (look (eqb entry (boundEntry t i x)))
+        where
+          go : Is (eqb entry (boundEntry t i x)) → entry < boundEntry t i x
+          go (is-false e) = let m = eqb-false entry (boundEntry t i x) e in omega (arith, r .at-entry .ahead z)
+          go (is-true e) =
+              let q = eqb-true entry (boundEntry t i x) e in
+              absurd (n (s .chains-hold .number-is (entry - 1) within ∙ rw q (bound-is t proper i x z .holds)))
+
+      -- nor does an entry of a lower block
+      pub lower-block : getD owners (entry - 1) 0 < block → 0 < boundEntry t i x → entry < boundEntry t i x
+      lower-block o z =
           let b = bound-is t proper i x z in
           omega (
             arith,
@@ -212,8 +222,8 @@ module _ {ws ls parents heads nexts owners : List ℕ} (s : Scopes ws ls parents
             b .from,
           )
 
-      pub next-entry : getD owners (entry - 1) 0 < block → Searching ws ls i x size (getD nexts (entry - 1) 0) block
-      next-entry o =
+      pub next-entry : (0 < boundEntry t i x → entry < boundEntry t i x) → Searching ws ls i x size (getD nexts (entry - 1) 0) block
+      next-entry later =
           record {
             size-is = r .size-is;
             size-le = r .size-le;
@@ -221,7 +231,7 @@ module _ {ws ls parents heads nexts owners : List ℕ} (s : Scopes ws ls parents
             at-entry =
                 chain-on t proper i x (suc (entry - 1)) (getD nexts (entry - 1) 0)
                 (sym (rw (r .at-entry .holds positive) at (s .chains-hold .next-is (entry - 1) within)))
-                (λ z. omega (arith, entry-later o z));
+                (λ z. omega (arith, later z));
             at-block = r .at-block;
           }
 
@@ -279,10 +289,10 @@ module _ {ws ls parents heads nexts owners : List ℕ} (s : Scopes ws ls parents
         block-less =
             omega (arith, s .parents-hold .parent-is block inner-block, enclosing-higher t (proper .tree) block inner-block)
 
-        -- an entry of the block reached binds x
-        pub found : getD owners (entry - 1) 0 ≡ block → entry ≡ boundEntry t i x
+        -- an entry of the block reached, with the number x, binds x
+        pub found : getD numbers (entry - 1) 0 ≡ x → getD owners (entry - 1) 0 ≡ block → entry ≡ boundEntry t i x
         unfolding binder count
-        found o = omega (arith, place-is, place-of, bound-entry)
+        found same o = omega (arith, place-is, place-of, bound-entry)
           where
             j : ℕ
             j = entry - 1 - boundBelow t block
@@ -304,7 +314,7 @@ module _ {ws ls parents heads nexts owners : List ℕ} (s : Scopes ws ls parents
 
             number : getD (bound (t .node block)) j 0 ≡ x
             number =
-                sym (entries-at t block j inner-block below) ∙ ap (λ n. getD (entries t) n 0) place-is ∙ r .at-entry .holds positive
+                sym (entries-at t block j inner-block below) ∙ ap (λ n. getD (entries t) n 0) place-is ∙ sym (s .chains-hold .number-is (entry - 1) within) ∙ same
 
             covers : mem x (bound (t .node block)) ≡ true
             covers = rw number at (mem-getD (bound (t .node block)) j 0 below)

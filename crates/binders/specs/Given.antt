@@ -9,17 +9,18 @@ use Rattle.formula.specs.Words.{tableOf}
 use Rattle.table_check.specs.Verdict.{limit, verdict, accepted}
 use Rattle.prenex_form.specs.Scope.{inner}
 use Rattle.prenex_form.specs.Names.{highestNumber, boundCount, definitionVariable}
-use Rattle.arrays.specs.Held.{Parents, EntryChains}
+use Rattle.arrays.specs.Held.{Parents, buckets, EntryChains}
 
--- An accepted table, each node's parent block, and the entries of each number chained.
-pub record Scopes (ws ls parents heads nexts owners : List ℕ) : Type 0 where
+-- An accepted table, each node's parent block, and the entries chained by the remainders of their numbers.
+pub record Scopes (ws ls parents heads nexts owners numbers : List ℕ) : Type 0 where
   pub accepts : verdict ws ls ≡ accepted
   pub parents-length : length parents ≡ limit
-  pub heads-length : length heads ≡ 65536
+  pub heads-length : length heads ≡ buckets
   pub nexts-length : length nexts ≡ limit
   pub owners-length : length owners ≡ limit
+  pub numbers-length : length numbers ≡ limit
   pub parents-hold : Parents (tableOf ws ls) parents
-  pub chains-hold : EntryChains (tableOf ws ls) heads nexts owners
+  pub chains-hold : EntryChains (tableOf ws ls) heads nexts owners numbers
 
 -- The new name of each entry.
 pub record NewNames (ws ls names : List ℕ) : Type 0 where

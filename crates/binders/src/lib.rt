@@ -10,16 +10,13 @@ ghost use Rattle.prenex_form.specs.Names.{newName};
 ghost use Rattle.prenex_form.specs.Matrix.{kept, renamed, firstNodes, nodeWords};
 ghost use Rattle.arrays.specs.Held.{boundEntry};
 ghost use Rattle.binders.specs.Given.{Scopes, NewNames, DefinitionVariables};
+use formula::EXISTS_BLOCK;
+use formula::VARIABLE;
 
-// The kind of a variable node.
-const VARIABLE: u32 = 2;
-
-// The lower of the two kinds of a block.
-const EXISTS_BLOCK: u32 = 5;
-
-// The entry that binds the number x at node i, and one more; 0 if x is free there. The chain of x's
-// entries and the blocks above node i both ascend in node order, so one pass over the two finds the
-// first block that stands in both.
+// The entry that binds the number x at node i, and one more; 0 if x is free there. The chain of the
+// entries with x's remainder and the blocks above node i both ascend in node order, so one pass over
+// the two finds the first block that has an entry with x. An entry with another number is passed by
+// without a look at its block, so that for a number that no block covers nothing climbs.
 pub fn find_entry(
     words: &[u32],
     list: &[u32],
@@ -27,18 +24,23 @@ pub fn find_entry(
     heads: &[u16],
     nexts: &[u32],
     owners: &[u32],
+    numbers: &[u32],
     i: usize,
     x: u32,
 ) -> u32
-    requires { ⌜ Scopes (now words) (now list) (now parents) (now heads) (now nexts) (now owners) ⌝ }
-    requires { ⌜ i < nodeCount (now words) ⌝ ∗ ⌜ x ≤ 65535 ⌝ }
+    requires { ⌜ Scopes (now words) (now list) (now parents) (now heads) (now nexts) (now owners) (now numbers) ⌝ }
+    requires { ⌜ i < nodeCount (now words) ⌝ }
     ensures { λ r. ⌜ r ≡ boundEntry (tableOf (now (words .entry)) (now (list .entry))) i x ⌝ }
 {
     let size = words.len() / formula::WIDTH;
-    let mut entry = heads[x as usize] as u32;
+    let mut entry = heads[x as usize % arrays::BUCKETS] as u32;
     let mut block = parents[i] as usize;
     while entry != 0 && block < size {
         let at = entry as usize - 1;
+        if numbers[at] != x {
+            entry = nexts[at];
+            continue;
+        }
         let owner = owners[at] as usize;
         if owner == block {
             return entry;
@@ -60,16 +62,17 @@ fn new_name(
     heads: &[u16],
     nexts: &[u32],
     owners: &[u32],
+    numbers: &[u32],
     names: &[u32],
     i: usize,
     x: u32,
 ) -> u32
-    requires { ⌜ Scopes (now words) (now list) (now parents) (now heads) (now nexts) (now owners) ⌝ }
+    requires { ⌜ Scopes (now words) (now list) (now parents) (now heads) (now nexts) (now owners) (now numbers) ⌝ }
     requires { ⌜ NewNames (now words) (now list) (now names) ⌝ }
-    requires { ⌜ i < nodeCount (now words) ⌝ ∗ ⌜ x ≤ 65535 ⌝ }
+    requires { ⌜ i < nodeCount (now words) ⌝ }
     ensures { λ r. ⌜ r ≡ newName (tableOf (now (words .entry)) (now (list .entry))) i x ⌝ }
 {
-    let entry = find_entry(words, list, parents, heads, nexts, owners, i, x);
+    let entry = find_entry(words, list, parents, heads, nexts, owners, numbers, i, x);
     if entry == 0 {
         return x;
     }
@@ -85,18 +88,30 @@ fn write_renamed(
     heads: &[u16],
     nexts: &[u32],
     owners: &[u32],
+    numbers: &[u32],
     names: &[u32],
     marks: &[u32],
     i: usize,
 )
-    requires { ⌜ Scopes (now words) (now list) (now parents) (now heads) (now nexts) (now owners) ⌝ }
+    requires { ⌜ Scopes (now words) (now list) (now parents) (now heads) (now nexts) (now owners) (now numbers) ⌝ }
     requires { ⌜ NewNames (now words) (now list) (now names) ⌝ ∗ ⌜ DefinitionVariables (now words) (now list) (now marks) ⌝ }
     requires { ⌜ i < kept (tableOf (now words) (now list)) ⌝ ∗ ⌜ width * i + width ≤ length (now nodes) ⌝ }
     ensures { λ _. ⌜ now (nodes .exit) ≡ overwrite (now (nodes .entry)) (width * i) (nodeWords (renamed (tableOf (now (words .entry)) (now (list .entry))) i (nodeAt (now (words .entry)) (now (list .entry)) i))) ⌝ }
 {
     let node = formula::node_at(words, i);
     if node.kind == VARIABLE {
-        let name = new_name(words, list, parents, heads, nexts, owners, names, i, node.a);
+        let name = new_name(
+            words,
+            list,
+            parents,
+            heads,
+            nexts,
+            owners,
+            numbers,
+            names,
+            i,
+            node.a,
+        );
         formula::put_node(nodes, i, VARIABLE, name, 0, 0);
         return;
     }
@@ -116,11 +131,12 @@ pub fn write_first(
     heads: &[u16],
     nexts: &[u32],
     owners: &[u32],
+    numbers: &[u32],
     names: &[u32],
     marks: &[u32],
     count: usize,
 )
-    requires { ⌜ Scopes (now words) (now list) (now parents) (now heads) (now nexts) (now owners) ⌝ }
+    requires { ⌜ Scopes (now words) (now list) (now parents) (now heads) (now nexts) (now owners) (now numbers) ⌝ }
     requires { ⌜ NewNames (now words) (now list) (now names) ⌝ ∗ ⌜ DefinitionVariables (now words) (now list) (now marks) ⌝ }
     requires { ⌜ count ≡ kept (tableOf (now words) (now list)) ⌝ ∗ ⌜ width * count ≤ length (now nodes) ⌝ }
     ensures { λ _. ⌜ now (nodes .exit) ≡ overwrite (now (nodes .entry)) 0 (flatMap nodeWords (firstNodes (tableOf (now (words .entry)) (now (list .entry))))) ⌝ }
@@ -135,6 +151,7 @@ pub fn write_first(
             heads,
             nexts,
             owners,
+            numbers,
             names,
             marks,
             i,

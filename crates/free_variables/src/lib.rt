@@ -18,16 +18,12 @@ ghost use Rattle.free_variables.specs.Steps.{
   flagged,
   listing,
 };
+use formula::EXISTS_BLOCK;
+use formula::FOR_ALL_BLOCK;
+use formula::VARIABLE;
 
 // The length of an array that a variable's number is an index of.
 const NUMBERS: usize = 65536;
-
-// The kinds of nodes that matter here.
-const VARIABLE: u32 = 2;
-
-const EXISTS_BLOCK: u32 = 5;
-
-const FOR_ALL_BLOCK: u32 = 6;
 
 // The number of a table that is not refused.
 const ACCEPTED: u32 = 0;

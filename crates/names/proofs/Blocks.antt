@@ -2,7 +2,7 @@
 -- Assumes nothing.
 use mathlib.Core.Path.{_≡_}
 use mathlib.Core.List.{List}
-use Prim.Native.Nat.{ℕ, suc, _+_, _<_}
+use Prim.Native.Nat.{ℕ, suc, _+_, _%_, _<_}
 use native.Mathlib.Omega.{arith}
 use lib.ListN.{length, getD, set}
 use Rattle.formula.specs.Words.{nodeCount, field, tableOf}
@@ -11,10 +11,10 @@ use Rattle.table_check.specs.Verdict.{countAt}
 use Rattle.table_check.specs.Accepted.{Accepted}
 use Rattle.prenex_form.specs.Names.{boundCount}
 use Rattle.prenex_form.proofs.Limits.{bound-limit}
-use Rattle.arrays.specs.Held.{EntryChains}
+use Rattle.arrays.specs.Held.{buckets, EntryChains}
 use Rattle.arrays.proofs.Entries.{boundBelow-next, boundBelow-end}
 use Rattle.names.specs.Steps.{OwnedBy, ChainedFrom}
-use Rattle.names.proofs.Tables.{boundBelow-none, count-words, entry-words, entry-number, entry-within}
+use Rattle.names.proofs.Tables.{boundBelow-none, count-words, entry-words, entry-within}
 use Rattle.names.proofs.Chained.{chained-none, chained-next, chained-all}
 
 module _ (ws ls : List ℕ) (a : Accepted ws ls) where
@@ -31,9 +31,6 @@ module _ (ws ls : List ℕ) (a : Accepted ws ls) where
     pub entry-lt : start + k < 4096
     entry-lt = omega (arith, entry-below, bound-limit ws ls a)
 
-    pub number-lt : getD ls (first + k) 0 < 65536
-    number-lt = rw f (omega (arith, entry-number ws ls a i k h l))
-
     pub range-lt : first + k < length ls
     range-lt = omega (arith, entry-within ws ls a i k h l)
 
@@ -41,18 +38,18 @@ module _ (ws ls : List ℕ) (a : Accepted ws ls) where
     unfolding tableOf
     owned = record { lt = h; from = omega arith; below = omega (arith, boundBelow-next (tableOf ws ls) i, count-words ws ls a i h) }
 
-    pub chained-entry : (heads nexts owners : List ℕ) (e : ℕ) → start + k + 1 ≡ e → ChainedFrom (tableOf ws ls) e heads nexts owners
-        → ChainedFrom (tableOf ws ls) (start + k) (set heads (getD ls (first + k) 0) (start + k + 1)) (set nexts (start + k) (getD heads (getD ls (first + k) 0) 0)) (set owners (start + k) i)
-    chained-entry heads nexts owners e q c =
-        chained-next (tableOf ws ls) heads nexts owners (start + k) (getD ls (first + k) 0) i (bound-limit ws ls a) entry-below
-        (rw (s, f) (entry-words ws ls a i k h l)) (omega (arith, number-lt)) owned (rw q c)
+    pub chained-entry : (heads nexts owners numbers : List ℕ) (e : ℕ) → start + k + 1 ≡ e → ChainedFrom (tableOf ws ls) e heads nexts owners numbers
+        → ChainedFrom (tableOf ws ls) (start + k) (set heads (getD ls (first + k) 0 % buckets) (start + k + 1)) (set nexts (start + k) (getD heads (getD ls (first + k) 0 % buckets) 0)) (set owners (start + k) i) (set numbers (start + k) (getD ls (first + k) 0))
+    chained-entry heads nexts owners numbers e q c =
+        chained-next (tableOf ws ls) heads nexts owners numbers (start + k) (getD ls (first + k) 0) i (bound-limit ws ls a) entry-below
+        (rw (s, f) (entry-words ws ls a i k h l)) owned (rw q c)
 
   -- at the last node nothing is chained yet, and at the first all is
-  module _ (heads nexts owners : List ℕ) where
-    pub blocks-none : length heads ≡ 65536 → length nexts ≡ 4096 → length owners ≡ 4096 → ((x : ℕ) → getD heads x 0 ≡ 0)
-        → ChainedFrom (tableOf ws ls) (boundBelow (tableOf ws ls) (nodeCount ws)) heads nexts owners
+  module _ (heads nexts owners numbers : List ℕ) where
+    pub blocks-none : length heads ≡ buckets → length nexts ≡ 4096 → length owners ≡ 4096 → length numbers ≡ 4096 → ((h : ℕ) → getD heads h 0 ≡ 0)
+        → ChainedFrom (tableOf ws ls) (boundBelow (tableOf ws ls) (nodeCount ws)) heads nexts owners numbers
     unfolding boundCount tableOf
-    blocks-none h n o z = chained-none (tableOf ws ls) heads nexts owners h n o z _ (omega arith)
+    blocks-none h n o m z = chained-none (tableOf ws ls) heads nexts owners numbers h n o m z _ (omega arith)
 
-    pub blocks-all : ChainedFrom (tableOf ws ls) (boundBelow (tableOf ws ls) 0) heads nexts owners → EntryChains (tableOf ws ls) heads nexts owners
-    blocks-all c = chained-all (tableOf ws ls) heads nexts owners (rw (boundBelow-none (tableOf ws ls)) at c)
+    pub blocks-all : ChainedFrom (tableOf ws ls) (boundBelow (tableOf ws ls) 0) heads nexts owners numbers → EntryChains (tableOf ws ls) heads nexts owners numbers
+    blocks-all c = chained-all (tableOf ws ls) heads nexts owners numbers (rw (boundBelow-none (tableOf ws ls)) at c)

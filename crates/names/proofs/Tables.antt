@@ -7,18 +7,16 @@ use Prim.Native.Nat.{ℕ, zero, suc, _+_, _≤_, _<_}
 use native.Mathlib.Omega.{arith}
 use native.Mathlib.Numerals.{add-one}
 use native.Mathlib.Nat.{not-suc-le-zero}
-use lib.Dec.{leb}
 use lib.ListN.{length, getD}
-use borrow.Author.Tests.{leb-true, eq-eqb}
-use Rattle.lists.specs.Choice.{pick, and-right, Is, is-true, is-false, look, pick-yes, pick-no}
+use borrow.Author.Tests.{eq-eqb}
+use Rattle.lists.specs.Choice.{pick, Is, is-true, is-false, look, pick-yes, pick-no}
 use Rattle.lists.specs.Parts.{sum}
-use Rattle.lists.proofs.Members.{mem-getD, all-mem}
 use Rattle.formula.specs.Node.{Table, isBlock, bound}
 use Rattle.formula.specs.Words.{nodeCount, field, range, nodeOf, nodeAt, tableOf}
 use Rattle.formula.specs.Tree.{count, boundBelow}
 use Rattle.formula.proofs.Nodes.{Kind, kind-of, kind-constant, kind-variable, kind-negation, kind-operator, kind-exists, kind-for-all, kind-none}
 use Rattle.formula.proofs.Ranges.{range-at}
-use Rattle.table_check.specs.Verdict.{isNumber, isBlockKind, countAt}
+use Rattle.table_check.specs.Verdict.{isBlockKind, countAt}
 use Rattle.table_check.specs.Accepted.{Accepted}
 use Rattle.table_check.proofs.Accepted.{count-at}
 use Rattle.prenex_form.specs.Scope.{inner}
@@ -27,10 +25,6 @@ use Rattle.prenex_form.proofs.Paths.{inner-is}
 use Rattle.prenex_form.proofs.NameLaws.{innerBound-le, pick-le}
 use Rattle.arrays.specs.Held.{entries}
 use Rattle.arrays.proofs.Entries.{boundBelow-next, boundBelow-grows, entries-at}
-
-number-le : (x : ℕ) → isNumber x ≡ true → x ≤ 65535
-unfolding isNumber
-number-le x h = leb-true x 65535 (and-right (leb 1 x) (leb x 65535) h)
 
 -- nodes by their words
 
@@ -133,8 +127,3 @@ module _ (ws ls : List ℕ) (a : Accepted ws ls) where
     pub entry-words : getD (entries (tableOf ws ls)) (boundBelow (tableOf ws ls) i + k) 0 ≡ getD ls (field ws i 1 + k) 0
     unfolding tableOf count
     entry-words = entries-at (tableOf ws ls) i k h covered ∙ bound-at
-
-    pub entry-number : getD ls (field ws i 1 + k) 0 ≤ 65535
-    entry-number =
-        let n = all-mem isNumber _ _ (a .numbered i h) (mem-getD (bound (nodeAt ws ls i)) k 0 covered) in
-        subst (λ x. x ≤ 65535) bound-at (number-le _ n)

@@ -3,14 +3,13 @@
 use mathlib.Core.Bool.{true}
 use mathlib.Core.List.{List}
 use mathlib.Core.Path.{_≡_}
-use Prim.Native.Nat.{ℕ, suc, _+_, _<_, _≤_}
-use lib.Dec.{eqb}
+use Prim.Native.Nat.{ℕ, suc, _+_, _%_, _<_, _≤_}
 use lib.ListN.{length, getD}
 use Rattle.formula.specs.Node.{Table}
 use Rattle.formula.specs.Tree.{boundBelow}
 use Rattle.prenex_form.specs.Scope.{inner}
 use Rattle.prenex_form.specs.Names.{boundCount, innerBelow}
-use Rattle.arrays.specs.Held.{entries}
+use Rattle.arrays.specs.Held.{entries, buckets, inBucket}
 use Rattle.arrays.specs.Link.{link}
 
 -- The first n elements are the numbers from start on.
@@ -27,11 +26,13 @@ pub record OwnedBy (t : Table) (e i : ℕ) : Type 0 where
   pub from : boundBelow t i ≤ e
   pub below : e < boundBelow t (suc i)
 
--- The entries from e on are chained and have their blocks.
-pub record ChainedFrom (t : Table) (e : ℕ) (heads nexts owners : List ℕ) : Type 0 where
-  pub heads-length : length heads ≡ 65536
+-- The entries from e on are chained and have their numbers and blocks.
+pub record ChainedFrom (t : Table) (e : ℕ) (heads nexts owners numbers : List ℕ) : Type 0 where
+  pub heads-length : length heads ≡ buckets
   pub nexts-length : length nexts ≡ 4096
   pub owners-length : length owners ≡ 4096
-  pub head-is : (x : ℕ) → getD heads x 0 ≡ link (λ k. eqb (getD (entries t) k 0) x) e (boundCount t)
-  pub next-is : (k : ℕ) → e ≤ k → k < boundCount t → getD nexts k 0 ≡ link (λ j. eqb (getD (entries t) j 0) (getD (entries t) k 0)) (suc k) (boundCount t)
+  pub numbers-length : length numbers ≡ 4096
+  pub head-is : (h : ℕ) → getD heads h 0 ≡ link (inBucket t h) e (boundCount t)
+  pub next-is : (k : ℕ) → e ≤ k → k < boundCount t → getD nexts k 0 ≡ link (inBucket t (getD (entries t) k 0 % buckets)) (suc k) (boundCount t)
+  pub number-is : (k : ℕ) → e ≤ k → k < boundCount t → getD numbers k 0 ≡ getD (entries t) k 0
   pub owner-is : (k : ℕ) → e ≤ k → k < boundCount t → OwnedBy t k (getD owners k 0)

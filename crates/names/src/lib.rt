@@ -1,7 +1,7 @@
 // The names of a lift: the highest number of a table, the new names and copies of its bound variables, the definition
-// variables of its inner blocks, and the entries of each number chained.
+// variables of its inner blocks, and the entries chained by the remainders of their numbers.
 ghost use mathlib.Core.Path.{_≡_};
-ghost use Prim.Native.Nat.{ℕ, suc, max, _+_, _≤_, _<_};
+ghost use Prim.Native.Nat.{ℕ, suc, max, _+_, _%_, _≤_, _<_};
 ghost use lib.ListN.{length, getD, set};
 ghost use Rattle.lists.specs.Choice.{pick};
 ghost use Rattle.formula.specs.Words.{nodeCount, field, range, nodeAt, tableOf};
@@ -15,15 +15,11 @@ ghost use Rattle.prenex_form.specs.Names.{
   innerBoundBelow,
   innerBelow,
 };
-ghost use Rattle.arrays.specs.Held.{Starts, Names, EntryChains};
+ghost use Rattle.arrays.specs.Held.{Starts, Names, buckets, EntryChains};
 ghost use Rattle.names.specs.Steps.{Consecutive, DefinitionsBelow, ChainedFrom};
-
-// The kinds of nodes that hold numbers.
-const VARIABLE: u32 = 2;
-
-const EXISTS_BLOCK: u32 = 5;
-
-const FOR_ALL_BLOCK: u32 = 6;
+use formula::EXISTS_BLOCK;
+use formula::FOR_ALL_BLOCK;
+use formula::VARIABLE;
 
 // The next free number. Every new name is handed out by it.
 pub struct NameCounter {
@@ -217,8 +213,8 @@ fn name_definition(words: &[u32], counter: NameCounter, marks: &mut [u32], i: us
     handed.counter
 }
 
-// Chains the entries of each number in order, and writes the block of each entry. It goes from the last entry down, so
-// that the entry which heads a number's chain is the next of the one put before it.
+// Chains the entries of each remainder in order, and writes the number and the block of each entry. It goes from the
+// last entry down, so that the entry which heads a remainder's chain is the next of the one put before it.
 pub fn chain_entries(
     words: &[u32],
     list: &[u32],
@@ -226,17 +222,27 @@ pub fn chain_entries(
     heads: &mut [u16],
     nexts: &mut [u32],
     owners: &mut [u32],
+    numbers: &mut [u32],
 )
     requires { ⌜ verdict (now words) (now list) ≡ accepted ⌝ }
     requires { ⌜ Starts (tableOf (now words) (now list)) (now starts) ⌝ }
-    requires { ⌜ (length (now starts) ≡ 4096) × (length (now heads) ≡ 65536) × (length (now nexts) ≡ 4096) × (length (now owners) ≡ 4096) ⌝ }
-    requires { ⌜ ((x : ℕ) → getD (now heads) x 0 ≡ 0) ⌝ }
-    ensures { λ r. ⌜ EntryChains (tableOf (now (words .entry)) (now (list .entry))) (now (heads .exit)) (now (nexts .exit)) (now (owners .exit)) ⌝ }
+    requires { ⌜ (length (now starts) ≡ 4096) × (length (now heads) ≡ buckets) × (length (now nexts) ≡ 4096) × (length (now owners) ≡ 4096) × (length (now numbers) ≡ 4096) ⌝ }
+    requires { ⌜ ((h : ℕ) → getD (now heads) h 0 ≡ 0) ⌝ }
+    ensures { λ r. ⌜ EntryChains (tableOf (now (words .entry)) (now (list .entry))) (now (heads .exit)) (now (nexts .exit)) (now (owners .exit)) (now (numbers .exit)) ⌝ }
 {
     let mut i = words.len() / formula::WIDTH;
     while 0 < i {
         i -= 1;
-        chain_block(words, list, heads, nexts, owners, i, starts[i] as usize);
+        chain_block(
+            words,
+            list,
+            heads,
+            nexts,
+            owners,
+            numbers,
+            i,
+            starts[i] as usize,
+        );
     }
 }
 
@@ -247,13 +253,14 @@ fn chain_block(
     heads: &mut [u16],
     nexts: &mut [u32],
     owners: &mut [u32],
+    numbers: &mut [u32],
     i: usize,
     start: usize,
 )
     requires { ⌜ verdict (now words) (now list) ≡ accepted ⌝ }
     requires { ⌜ (i < nodeCount (now words)) × (start ≡ boundBelow (tableOf (now words) (now list)) i) ⌝ }
-    requires { ⌜ ChainedFrom (tableOf (now words) (now list)) (boundBelow (tableOf (now words) (now list)) (suc i)) (now heads) (now nexts) (now owners) ⌝ }
-    ensures { λ r. ⌜ ChainedFrom (tableOf (now (words .entry)) (now (list .entry))) start (now (heads .exit)) (now (nexts .exit)) (now (owners .exit)) ⌝ }
+    requires { ⌜ ChainedFrom (tableOf (now words) (now list)) (boundBelow (tableOf (now words) (now list)) (suc i)) (now heads) (now nexts) (now owners) (now numbers) ⌝ }
+    ensures { λ r. ⌜ ChainedFrom (tableOf (now (words .entry)) (now (list .entry))) start (now (heads .exit)) (now (nexts .exit)) (now (owners .exit)) (now (numbers .exit)) ⌝ }
 {
     let node = formula::node_at(words, i);
     let mut k = count_at(words, i);
@@ -263,6 +270,7 @@ fn chain_block(
             heads,
             nexts,
             owners,
+            numbers,
             list[node.a as usize + k],
             start + k,
             i,
@@ -270,15 +278,26 @@ fn chain_block(
     }
 }
 
-// Puts entry e, of block i and with the number x, before the entries of x.
-fn chain_entry(heads: &mut [u16], nexts: &mut [u32], owners: &mut [u32], x: u32, e: usize, i: usize)
-    requires { ⌜ (x < length (now heads)) × (e < length (now nexts)) × (e < length (now owners)) ⌝ }
+// Puts entry e, of block i and with the number x, before the entries of x's remainder.
+fn chain_entry(
+    heads: &mut [u16],
+    nexts: &mut [u32],
+    owners: &mut [u32],
+    numbers: &mut [u32],
+    x: u32,
+    e: usize,
+    i: usize,
+)
+    requires { ⌜ (length (now heads) ≡ buckets) × (e < length (now nexts)) × (e < length (now owners)) × (e < length (now numbers)) ⌝ }
     requires { ⌜ (e < 4096) × (i < 4096) ⌝ }
-    ensures { λ r. ⌜ now (heads .exit) ≡ set (now (heads .entry)) x (e + 1) ⌝ }
-    ensures { λ r. ⌜ now (nexts .exit) ≡ set (now (nexts .entry)) e (getD (now (heads .entry)) x 0) ⌝ }
+    ensures { λ r. ⌜ now (heads .exit) ≡ set (now (heads .entry)) (x % buckets) (e + 1) ⌝ }
+    ensures { λ r. ⌜ now (nexts .exit) ≡ set (now (nexts .entry)) e (getD (now (heads .entry)) (x % buckets) 0) ⌝ }
     ensures { λ r. ⌜ now (owners .exit) ≡ set (now (owners .entry)) e i ⌝ }
+    ensures { λ r. ⌜ now (numbers .exit) ≡ set (now (numbers .entry)) e x ⌝ }
 {
-    nexts[e] = heads[x as usize] as u32;
-    heads[x as usize] = (e + 1) as u16;
+    let bucket = x as usize % arrays::BUCKETS;
+    nexts[e] = heads[bucket] as u32;
+    heads[bucket] = (e + 1) as u16;
     owners[e] = i as u32;
+    numbers[e] = x;
 }

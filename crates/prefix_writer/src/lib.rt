@@ -26,13 +26,11 @@ ghost use Rattle.prefix_writer.specs.Held.{
   heldOwn,
   heldLeading,
 };
+use formula::EXISTS_BLOCK;
+use formula::FOR_ALL_BLOCK;
 
 // The words of a prefix block: its kind, where its variables start in the list, and how many there are.
 pub const PREFIX_WIDTH: usize = 3;
-
-const EXISTS_BLOCK: u32 = 5;
-
-const FOR_ALL_BLOCK: u32 = 6;
 
 // Writes the prefix blocks and their variables from the start of the two buffers. A table without blocks has none.
 pub fn write_prefix(

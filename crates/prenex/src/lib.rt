@@ -24,9 +24,6 @@ use scopes::Counts;
 // At most so many nodes, list entries and bound variables.
 const LIMIT: usize = 4096;
 
-// Variables are numbered below this.
-const NUMBERS: usize = 65536;
-
 // Words to a prefix block.
 const PREFIX_WIDTH: usize = prefix_writer::PREFIX_WIDTH;
 
@@ -286,7 +283,7 @@ fn write_named(
     );
 }
 
-// Chains the entries of each number, and writes the nodes.
+// Chains the entries by their numbers, and writes the nodes.
 fn write_matrix(
     words: &[u32],
     list: &[u32],
@@ -308,9 +305,10 @@ fn write_matrix(
     requires { ⌜ length (writtenNodes (tableOf (now words) (now list))) ≤ length (now nodes) ⌝ }
     ensures { λ _. ⌜ now (nodes .exit) ≡ overwrite (now (nodes .entry)) 0 (writtenNodes (tableOf (now (words .entry)) (now (list .entry)))) ⌝ }
 {
-    let mut heads = [0u16; NUMBERS];
+    let mut heads = [0u16; arrays::BUCKETS];
     let mut entry_nexts = [0u32; LIMIT];
     let mut owners = [0u32; LIMIT];
+    let mut numbers = [0u32; LIMIT];
     names::chain_entries(
         words,
         list,
@@ -318,6 +316,7 @@ fn write_matrix(
         &mut heads,
         &mut entry_nexts,
         &mut owners,
+        &mut numbers,
     );
     let n = words.len() / formula::WIDTH;
     let first = n - root_blocks(words, list) as usize;
@@ -329,6 +328,7 @@ fn write_matrix(
         &heads,
         &entry_nexts,
         &owners,
+        &numbers,
         new_names,
         marks,
         first,

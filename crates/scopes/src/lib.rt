@@ -19,15 +19,10 @@ ghost use Rattle.scopes.specs.Passes.{
   CountsBelow,
   BlockCounts,
 };
-
-// The kinds of the nodes that have operands.
-const NEGATION: u32 = 3;
-
-const OPERATOR: u32 = 4;
-
-const EXISTS_BLOCK: u32 = 5;
-
-const FOR_ALL_BLOCK: u32 = 6;
+use formula::EXISTS_BLOCK;
+use formula::FOR_ALL_BLOCK;
+use formula::NEGATION;
+use formula::OPERATOR;
 
 // Document 01: "4 × count + 5 for each inner block, or 3 where its count is 0".
 const NODES_PER_VARIABLE: u32 = 4;

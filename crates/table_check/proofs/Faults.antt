@@ -16,7 +16,7 @@ use Rattle.lists.specs.Parts.{sum}
 use Rattle.lists.proofs.Search.{lowest-holds, lowest-before, lowest-is, lowest-none}
 use Rattle.formula.specs.Words.{width, nodeCount, field}
 use Rattle.table_check.specs.Verdict.{limit, isBlockKind, partialNode, tooLarge, wellFormed, forwardReference, rangePastEnd, countAt, tooManyVariables, badVariable, nodeFault, refusal, accepted, verdict}
-use Rattle.table_check.specs.Steps.{goodRange, blockFault, Stamps, nodesVerdict, treeVerdict}
+use Rattle.table_check.specs.Steps.{goodRange, blockFault, nodesVerdict, treeVerdict}
 use Rattle.table_check.specs.declared.Verdict.{Verdict}
 use Rattle.table_check.proofs.Named.{and-off, not-once-is}
 
@@ -110,28 +110,26 @@ counts-more : (ws : List ℕ) (i : ℕ) → sum (countAt ws) (i + 1) ≡ sum (co
 unfolding sum
 counts-more ws i = rw add-one
 
--- What holds of the nodes below i once they are passed, with the stamps and the count as they are then.
-pub record Checked (ws ls stamps : List ℕ) (before i : ℕ) : Type 0 where
+-- What holds of the nodes below i once they are passed, with the count as it is then.
+pub record Checked (ws ls : List ℕ) (before i : ℕ) : Type 0 where
   pub counted : before ≡ sum (countAt ws) i
   pub few : before ≤ limit
   pub faultless : (j : ℕ) → j < i → nodeFault ws ls j ≡ 0
-  pub kept : Stamps stamps i
 
-pub checked-none : (ws ls stamps : List ℕ) → Stamps stamps 0 → Checked ws ls stamps 0 0
+pub checked-none : (ws ls : List ℕ) → Checked ws ls 0 0
 unfolding sum
-checked-none ws ls stamps s = record { counted = refl; few = omega arith; faultless = below-none (λ j. nodeFault ws ls j ≡ 0); kept = s }
+checked-none ws ls = record { counted = refl; few = omega arith; faultless = below-none (λ j. nodeFault ws ls j ≡ 0) }
 
 -- the count and what node i adds to it
-pub checked-few : (ws ls stamps : List ℕ) (before i count : ℕ) → Checked ws ls stamps before i → nodeFault ws ls i ≡ 0 → count ≡ countAt ws i → before + count ≤ limit
-checked-few ws ls stamps before i count p f e = rw (p .counted, e) (counts-fit ws ls i f (rw (p .counted) at (p .few)))
+pub checked-few : (ws ls : List ℕ) (before i count : ℕ) → Checked ws ls before i → nodeFault ws ls i ≡ 0 → count ≡ countAt ws i → before + count ≤ limit
+checked-few ws ls before i count p f e = rw (p .counted, e) (counts-fit ws ls i f (rw (p .counted) at (p .few)))
 
-pub checked-more : (ws ls stamps next : List ℕ) (before i count : ℕ) → Checked ws ls stamps before i → nodeFault ws ls i ≡ 0 → count ≡ countAt ws i → Stamps next (i + 1) → Checked ws ls next (before + count) (i + 1)
-checked-more ws ls stamps next before i count p f e s =
+pub checked-more : (ws ls : List ℕ) (before i count : ℕ) → Checked ws ls before i → nodeFault ws ls i ≡ 0 → count ≡ countAt ws i → Checked ws ls (before + count) (i + 1)
+checked-more ws ls before i count p f e =
     record {
       counted = rw (p .counted, e) (sym (counts-more ws i));
-      few = checked-few ws ls stamps before i count p f e;
+      few = checked-few ws ls before i count p f e;
       faultless = below-more (λ j. nodeFault ws ls j ≡ 0) i (p .faultless) f;
-      kept = s;
     }
 
 -- whole nodes, and one at least

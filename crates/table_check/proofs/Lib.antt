@@ -1,5 +1,6 @@
 pub mod Accepted
 pub mod Arrays
+pub mod Chains
 pub mod Faults
 pub mod Named
-pub mod Stamps
+pub mod Ranges

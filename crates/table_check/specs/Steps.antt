@@ -3,12 +3,12 @@
 use mathlib.Core.Bool.{Bool, false, not, _&&_}
 use mathlib.Core.List.{List, [], _∷_}
 use mathlib.Core.Path.{_≡_}
-use Prim.Native.Nat.{ℕ, _+_, _-_, _≤_, _<_}
+use Prim.Native.Nat.{ℕ, _+_, _-_, _%_, _≤_, _<_}
 use lib.Dec.{eqb, ltb}
 use lib.ListN.{length, getD}
 use Rattle.lists.specs.Choice.{pick}
 use Rattle.lists.specs.Search.{lowest}
-use Rattle.lists.specs.Members.{all, distinct, times}
+use Rattle.lists.specs.Members.{mem, all, distinct, times}
 use Rattle.lists.specs.Parts.{sum}
 use Rattle.formula.specs.Words.{nodeCount, field, range}
 use Rattle.table_check.specs.Verdict.{limit, isNumber, isBlockKind, forwardReference, nodeFault, refusal, accepted}
@@ -26,14 +26,38 @@ blockFault ls before first count =
     (pick (not (goodRange ls first count)) 7
     0))
 
--- Each variable number has a stamp, and none is above `top`.
-pub record Stamps (stamps : List ℕ) (top : ℕ) : Type 0 where
-  pub wide : length stamps ≡ 65536
-  pub low : (x : ℕ) → getD stamps x 0 ≤ top
+-- c is one more than the latest entry below entry e whose number leaves the remainder h, 0 if there is none.
+pub record Latest (numbers : List ℕ) (h e c : ℕ) : Type 0 where
+  pub low : c ≤ e
+  pub shares : (k : ℕ) → k + 1 ≡ c → getD numbers k 0 % limit ≡ h
+  pub none : (k : ℕ) → c ≤ k → k < e → getD numbers k 0 % limit ≡ h → ⊥
 
--- x is a variable number that does not bear the stamp.
-abbrev pub isNew : List ℕ → ℕ → ℕ → Bool
-isNew stamps stamp x = isNumber x && not (eqb (getD stamps x 0) stamp)
+-- Each entry below e is followed by the latest before it that shares its number's remainder.
+abbrev pub Linked : List ℕ → List ℕ → ℕ → Type 0
+Linked numbers prevs e = (k : ℕ) → k < e → Latest numbers (getD numbers k 0 % limit) k (getD prevs k 0)
+
+-- The entries below e are chained by their numbers' remainders.
+pub record Chains (numbers heads prevs : List ℕ) (e : ℕ) : Type 0 where
+  pub numbers-wide : length numbers ≡ limit
+  pub heads-wide : length heads ≡ limit
+  pub prevs-wide : length prevs ≡ limit
+  pub newest : (h : ℕ) → Latest numbers h e (getD heads h 0)
+  pub linked : Linked numbers prevs e
+
+-- c is one more than an entry on the chain of x, or 0.
+pub record Chain (numbers prevs : List ℕ) (x c : ℕ) : Type 0 where
+  pub in-numbers : c ≤ length numbers
+  pub in-prevs : c ≤ length prevs
+  pub shares : (k : ℕ) → k + 1 ≡ c → getD numbers k 0 % limit ≡ x % limit
+  pub linked : Linked numbers prevs c
+
+-- One of the entries from `before` on and below e has the number x.
+abbrev pub stands : List ℕ → ℕ → ℕ → ℕ → Bool
+stands numbers before e x = mem x (range numbers before (e - before))
+
+-- x is a variable number, and none of these entries has it.
+abbrev pub isNew : List ℕ → ℕ → ℕ → ℕ → Bool
+isNew numbers before e x = isNumber x && not (stands numbers before e x)
 
 -- Refusals 3 to 7: of the lowest node that one applies to.
 unfoldable pub nodesVerdict : List ℕ → List ℕ → Verdict

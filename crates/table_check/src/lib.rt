@@ -4,7 +4,7 @@ ghost use mathlib.Core.List.{[], _∷_};
 ghost use mathlib.Core.Path.{_≡_};
 ghost use Prim.Native.Nat.{ℕ, _+_, _≤_, _<_};
 ghost use lib.Dec.{eqb};
-ghost use lib.ListN.{length, getD};
+ghost use lib.ListN.{length, getD, set};
 ghost use Rattle.lists.specs.Search.{lowest};
 ghost use Rattle.lists.specs.Members.{mem, times};
 ghost use Rattle.lists.specs.Parts.{sum};
@@ -25,7 +25,9 @@ ghost use Rattle.table_check.specs.Verdict.{
 ghost use Rattle.table_check.specs.Steps.{
   goodRange,
   blockFault,
-  Stamps,
+  Chains,
+  Chain,
+  stands,
   isNew,
   nodesVerdict,
   namedBy,
@@ -39,9 +41,6 @@ const LIMIT: usize = 4096;
 
 // Variables are numbered from 1 to this.
 const HIGHEST_VARIABLE: u32 = 65535;
-
-// The length of an array that a variable's number is an index of.
-const NUMBERS: usize = 65536;
 
 // The kinds of nodes.
 const CONSTANT: u32 = 1;
@@ -123,26 +122,36 @@ fn too_large(words: &[u32], list: &[u32]) -> bool
 
 // Refusals 3 to 7.
 //
-// Each variable number has a stamp: one more than the last block so far that binds it, 0 if none does. An entry stands
-// twice in a block's range exactly if its number bears the block's own stamp when it is come to, so each entry is looked
-// at once and no stamp is ever cleared.
+// The entries that blocks cover are numbered in the order in which they are read, and those whose variables leave the
+// same remainder by 4,096 are chained, the latest first: `heads` holds one more than the latest entry of each remainder
+// (0: none), `prevs` one more than the next entry on each entry's chain. A variable stands twice in a block exactly if a
+// walk down its chain meets it among the block's own entries. At most 16 variables share a remainder, so that no walk
+// within a block takes more steps, and nothing is ever cleared.
 fn check_nodes(words: &[u32], list: &[u32]) -> Verdict
     requires { ⌜ nodeCount (now words) ≤ limit ⌝ }
     ensures { λ r. ⌜ r ≡ nodesVerdict (now (words .entry)) (now (list .entry)) ⌝ }
 {
-    let mut stamps = [0u16; NUMBERS];
-    check_each_node(words, list, &mut stamps)
+    let mut numbers = [0u16; LIMIT];
+    let mut heads = [0u16; LIMIT];
+    let mut prevs = [0u16; LIMIT];
+    check_each_node(words, list, &mut numbers, &mut heads, &mut prevs)
 }
 
-fn check_each_node(words: &[u32], list: &[u32], stamps: &mut [u16]) -> Verdict
+fn check_each_node(
+    words: &[u32],
+    list: &[u32],
+    numbers: &mut [u16],
+    heads: &mut [u16],
+    prevs: &mut [u16],
+) -> Verdict
     requires { ⌜ nodeCount (now words) ≤ limit ⌝ }
-    requires { ⌜ Stamps (now stamps) 0 ⌝ }
+    requires { ⌜ Chains (now numbers) (now heads) (now prevs) 0 ⌝ }
     ensures { λ r. ⌜ r ≡ nodesVerdict (now (words .entry)) (now (list .entry)) ⌝ }
 {
     let mut before: usize = 0;
     let mut i: usize = 0;
     while i < words.len() / formula::WIDTH {
-        let fault = node_fault(words, list, stamps, i, before);
+        let fault = node_fault(words, list, numbers, heads, prevs, i, before);
         if fault != ACCEPTED {
             return answer(fault, i as u32);
         }
@@ -153,12 +162,20 @@ fn check_each_node(words: &[u32], list: &[u32], stamps: &mut [u16]) -> Verdict
 }
 
 // The first of refusals 3 to 7 that applies to node i. The nodes below it bind `before` variables.
-fn node_fault(words: &[u32], list: &[u32], stamps: &mut [u16], i: usize, before: usize) -> u32
-    requires { ⌜ (i < nodeCount (now words)) × (i < limit) ⌝ }
+fn node_fault(
+    words: &[u32],
+    list: &[u32],
+    numbers: &mut [u16],
+    heads: &mut [u16],
+    prevs: &mut [u16],
+    i: usize,
+    before: usize,
+) -> u32
+    requires { ⌜ i < nodeCount (now words) ⌝ }
     requires { ⌜ (before ≡ sum (countAt (now words)) i) × (before ≤ limit) ⌝ }
-    requires { ⌜ Stamps (now stamps) i ⌝ }
+    requires { ⌜ Chains (now numbers) (now heads) (now prevs) before ⌝ }
     ensures { λ r. ⌜ r ≡ nodeFault (now (words .entry)) (now (list .entry)) i ⌝ }
-    ensures { λ r. ⌜ Stamps (now (stamps .exit)) (i + 1) ⌝ }
+    ensures { λ r. ⌜ (r ≡ 0 → Chains (now (numbers .exit)) (now (heads .exit)) (now (prevs .exit)) (before + countAt (now (words .entry)) i)) ⌝ }
 {
     let node = formula::node_at(words, i);
     if !well_formed(node) {
@@ -170,7 +187,7 @@ fn node_fault(words: &[u32], list: &[u32], stamps: &mut [u16], i: usize, before:
     if !is_block_kind(node.kind) {
         return ACCEPTED;
     }
-    block_fault(list, stamps, i, before, node.a, node.b)
+    block_fault(list, numbers, heads, prevs, before, node.a, node.b)
 }
 
 fn well_formed(node: formula::NodeWords) -> bool
@@ -207,20 +224,22 @@ fn forward_reference(i: usize, node: formula::NodeWords) -> bool
     negation | operator | block
 }
 
-// The first of refusals 5 to 7 that applies to node i, a block. No entry of a range is read that the list does not have,
-// and none of a range that brings the counts over the limit: so all ranges together cost no more than the limit.
+// The first of refusals 5 to 7 that applies to a block. The nodes below it bind `before` variables. No entry of a range
+// is read that the list does not have, and none of a range that brings the counts over the limit: so all ranges together
+// cost no more than the limit.
 fn block_fault(
     list: &[u32],
-    stamps: &mut [u16],
-    i: usize,
+    numbers: &mut [u16],
+    heads: &mut [u16],
+    prevs: &mut [u16],
     before: usize,
     first: u32,
     count: u32,
 ) -> u32
-    requires { ⌜ (i < limit) × (before ≤ limit) ⌝ }
-    requires { ⌜ Stamps (now stamps) i ⌝ }
+    requires { ⌜ before ≤ limit ⌝ }
+    requires { ⌜ Chains (now numbers) (now heads) (now prevs) before ⌝ }
     ensures { λ r. ⌜ r ≡ blockFault (now (list .entry)) before first count ⌝ }
-    ensures { λ r. ⌜ Stamps (now (stamps .exit)) (i + 1) ⌝ }
+    ensures { λ r. ⌜ (r ≡ 0 → Chains (now (numbers .exit)) (now (heads .exit)) (now (prevs .exit)) (before + count)) ⌝ }
 {
     let first = first as usize;
     let count = count as usize;
@@ -230,40 +249,91 @@ fn block_fault(
     if LIMIT < before + count {
         return TOO_MANY_VARIABLES;
     }
-    if !good_range(list, stamps, i, first, count) {
+    if !good_range(list, numbers, heads, prevs, before, first, count) {
         return BAD_VARIABLE;
     }
     ACCEPTED
 }
 
-// Whether the entries of block i's range are variable numbers, none of them twice.
-fn good_range(list: &[u32], stamps: &mut [u16], i: usize, first: usize, count: usize) -> bool
-    requires { ⌜ (i < limit) × (first + count ≤ length (now list)) ⌝ }
-    requires { ⌜ Stamps (now stamps) i ⌝ }
+// Whether the entries of a block's range are variable numbers, none of them twice. They are the entries from `before` on.
+fn good_range(
+    list: &[u32],
+    numbers: &mut [u16],
+    heads: &mut [u16],
+    prevs: &mut [u16],
+    before: usize,
+    first: usize,
+    count: usize,
+) -> bool
+    requires { ⌜ (before + count ≤ limit) × (first + count ≤ length (now list)) ⌝ }
+    requires { ⌜ Chains (now numbers) (now heads) (now prevs) before ⌝ }
     ensures { λ r. ⌜ r ≡ goodRange (now (list .entry)) first count ⌝ }
-    ensures { λ r. ⌜ Stamps (now (stamps .exit)) (i + 1) ⌝ }
+    ensures { λ r. ⌜ (r ≡ true → Chains (now (numbers .exit)) (now (heads .exit)) (now (prevs .exit)) (before + count)) ⌝ }
 {
-    let stamp = (i + 1) as u16;
     let mut k = 0;
     while k < count {
         let x = list[first + k];
-        if !is_new(x, stamps, stamp) {
+        if !enter(numbers, heads, prevs, before, before + k, x) {
             return false;
         }
-        stamps[x as usize] = stamp;
         k += 1;
     }
     true
 }
 
-fn is_new(x: u32, stamps: &[u16], stamp: u16) -> bool
-    requires { ⌜ length (now stamps) ≡ 65536 ⌝ }
-    ensures { λ r. ⌜ r ≡ isNew (now (stamps .entry)) stamp x ⌝ }
+// Makes x the number of entry e, unless it is no variable or an entry from `before` on has it; whether it did.
+fn enter(
+    numbers: &mut [u16],
+    heads: &mut [u16],
+    prevs: &mut [u16],
+    before: usize,
+    e: usize,
+    x: u32,
+) -> bool
+    requires { ⌜ e < limit ⌝ }
+    requires { ⌜ Chains (now numbers) (now heads) (now prevs) e ⌝ }
+    ensures { λ r. ⌜ r ≡ isNew (now (numbers .entry)) before e x ⌝ }
+    ensures { λ r. ⌜ (r ≡ true → (now (numbers .exit) ≡ set (now (numbers .entry)) e x) × Chains (now (numbers .exit)) (now (heads .exit)) (now (prevs .exit)) (e + 1)) ⌝ }
 {
     if !is_number(x) {
         return false;
     }
-    !(stamps[x as usize] == stamp)
+    let number = x as u16;
+    let head = heads[number as usize % LIMIT];
+    if in_chain(numbers, prevs, head, before, number) {
+        return false;
+    }
+    push(numbers, heads, prevs, e, number);
+    true
+}
+
+// Whether an entry from `before` on that stands on the chain from `head` has the number x.
+fn in_chain(numbers: &[u16], prevs: &[u16], head: u16, before: usize, x: u16) -> bool
+    requires { ⌜ Chain (now numbers) (now prevs) x head ⌝ }
+    ensures { λ r. ⌜ r ≡ stands (now (numbers .entry)) before head x ⌝ }
+{
+    let mut c = head as usize;
+    while before < c {
+        if numbers[c - 1] == x {
+            return true;
+        }
+        c = prevs[c - 1] as usize;
+    }
+    false
+}
+
+// Puts entry e, whose number is x, at the head of its chain.
+fn push(numbers: &mut [u16], heads: &mut [u16], prevs: &mut [u16], e: usize, x: u16)
+    requires { ⌜ e < limit ⌝ }
+    requires { ⌜ Chains (now numbers) (now heads) (now prevs) e ⌝ }
+    ensures { λ r. ⌜ now (numbers .exit) ≡ set (now (numbers .entry)) e x ⌝ }
+    ensures { λ r. ⌜ Chains (now (numbers .exit)) (now (heads .exit)) (now (prevs .exit)) (e + 1) ⌝ }
+{
+    let h = x as usize % LIMIT;
+    let head = heads[h];
+    prevs[e] = head;
+    numbers[e] = x;
+    heads[h] = (e + 1) as u16;
 }
 
 // How many variables node i binds.

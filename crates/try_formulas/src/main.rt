@@ -50,7 +50,32 @@ fn show_number(before: &[u8], x: u32) {
 
 // Lifts variable 1 xor (exists 2: 2 and 1), once with a word too little room for its nodes.
 fn form() {
-    let words = [2, 1, 0, 0, 2, 2, 0, 0, 2, 1, 0, 0, 4, 8, 1, 2, 5, 0, 1, 3, 4, 6, 0, 4];
+    let words = [
+        2,
+        1,
+        0,
+        0,
+        2,
+        2,
+        0,
+        0,
+        2,
+        1,
+        0,
+        0,
+        4,
+        8,
+        1,
+        2,
+        5,
+        0,
+        1,
+        3,
+        4,
+        6,
+        0,
+        4,
+    ];
     let list = [2];
     let mut short = [0u32; 59];
     let mut nodes = [0u32; 60];

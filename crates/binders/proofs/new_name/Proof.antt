@@ -13,7 +13,7 @@ find-entry-requires c κs = search needs
 
 returns : tie.Need-returns
 returns c =
-    let a = c .before .before .before .before .before .before .before .before .before in
+    let a = c .before .before .before .before .before .before .before .before .before .before in
     let d = accepted-holds _ _ (a .pre .0 .accepts) in
     keeps-number (a .pre .1 .0) (d .proper) _ _ _ (c .before .find-entry .ensures) (c .if1 .taken)
 
@@ -28,14 +28,14 @@ mul-result c = search needs
 
 shared-slice-read-result : tie.Need-shared-slice-read-result
 shared-slice-read-result c =
-    let a = c .before .before .before .before .before .before .before .before .before .before in
+    let a = c .before .before .before .before .before .before .before .before .before .before .before in
     let d = accepted-holds _ _ (a .pre .0 .accepts) in
     let e = c .before .before .find-entry .ensures in
     omega (arith, bound-limit _ _ d, name-within (a .pre .1 .0) (d .proper) _ _ _ e (c .before .if1 .left), a .pre .1 .0)
 
 returns-2 : tie.Need-returns-2
 returns-2 c =
-    let a = c .before .before .before .before .before .before .before .before .before .before in
+    let a = c .before .before .before .before .before .before .before .before .before .before .before in
     let d = accepted-holds _ _ (a .pre .0 .accepts) in
     takes-name (a .pre .1 .0) (d .proper) _ _ _ (c .before .before .find-entry .ensures) (c .before .if1 .left)
 

@@ -5,58 +5,43 @@ use native.Mathlib.Omega.{arith}
 use borrow.Author.Needs.{needs}
 use Rattle.formula.proofs.node_at.Statement.{statement}
 use Rattle.formula.proofs.node_at.Tie as tie
-use Rattle.formula.proofs.node_at.Reads as reads
-use Rattle.formula.proofs.node_at.Lts as lts
 
--- src/lib.rt:24:14
 mul-at : tie.Need-mul-at
 mul-at c = search needs
 
--- src/lib.rt:26:15
 mul-t4 : tie.Need-mul-t4
 mul-t4 c = search needs
 
--- src/lib.rt:26:15
 shared-slice-read-t6 : tie.Need-shared-slice-read-t6
 shared-slice-read-t6 c = search needs
 
--- src/lib.rt:27:18
 add-t7 : tie.Need-add-t7
 add-t7 c = search needs
 
--- src/lib.rt:27:12
 mul-t8 : tie.Need-mul-t8
 mul-t8 c = search needs
 
--- src/lib.rt:27:12
 shared-slice-read-t10 : tie.Need-shared-slice-read-t10
 shared-slice-read-t10 c = search needs
 
--- src/lib.rt:28:18
 add-t11 : tie.Need-add-t11
 add-t11 c = search needs
 
--- src/lib.rt:28:12
 mul-t12 : tie.Need-mul-t12
 mul-t12 c = search needs
 
--- src/lib.rt:28:12
 shared-slice-read-t14 : tie.Need-shared-slice-read-t14
 shared-slice-read-t14 c = search needs
 
--- src/lib.rt:29:18
 add-t15 : tie.Need-add-t15
 add-t15 c = search needs
 
--- src/lib.rt:29:12
 mul-t16 : tie.Need-mul-t16
 mul-t16 c = search needs
 
--- src/lib.rt:29:12
 shared-slice-read-t18 : tie.Need-shared-slice-read-t18
 shared-slice-read-t18 c = search needs
 
--- src/lib.rt:20:1
 returns : tie.Need-returns
 unfolding field
 returns c = (rw add-zero, refl, refl, refl)

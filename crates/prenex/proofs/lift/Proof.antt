@@ -6,21 +6,13 @@ use native.Mathlib.Omega.{arith}
 use borrow.Author.Needs.{needs}
 use Rattle.prenex.proofs.lift.Statement.{statement}
 use Rattle.prenex.proofs.lift.Tie as tie
-use Rattle.prenex.proofs.lift.Reads as reads
-use Rattle.prenex.proofs.lift.Lts as lts
-use Rattle.prenex.proofs.lift_accepted.Reads as lift-accepted-reads
-use Rattle.prenex.proofs.refusal.Reads as refusal-reads
-use Rattle.table_check.proofs.check.Reads as check-reads
 
--- src/lib.rt:133:9
 check-requires : tie.Need-check-requires
 check-requires c κs = search needs
 
--- src/lib.rt:136:9
 refusal-requires : tie.Need-refusal-requires
 refusal-requires c κs = search needs
 
--- src/lib.rt:136:9
 returns : tie.Need-returns
 returns c =
     let s = c .before .before .before .before .before .before .before .before in
@@ -28,26 +20,21 @@ returns c =
     let e = lifted-refused (s .args .words .now) (s .args .list .now) (s .args .nodes .now) (s .args .prefix .now) (s .args .variables .now) (d .check .result) (d .check .ensures) (c .before .if1 .taken) _ (c .refusal .ensures) in
     (e, form-left (s .args .words .now) (s .args .list .now) (s .args .nodes .now) (s .args .prefix .now) (s .args .variables .now) _ _ _ _ e)
 
--- src/lib.rt:138:5
 lift-accepted-requires : tie.Need-lift-accepted-requires
 lift-accepted-requires c κs =
     let s = c .before .before .before .before .before .before .before .before .before .before in
     let d = c .before .before .before .before in
     accepted-by (s .args .words .now) (s .args .list .now) (d .check .result) (d .check .ensures) (c .before .before .before .if1 .left)
 
--- src/lib.rt:123:1
 same-length : tie.Need-same-length
 same-length c = search needs
 
--- src/lib.rt:123:1
 same-length-2 : tie.Need-same-length-2
 same-length-2 c = search needs
 
--- src/lib.rt:123:1
 same-length-3 : tie.Need-same-length-3
 same-length-3 c = search needs
 
--- src/lib.rt:123:1
 returns-2 : tie.Need-returns-2
 returns-2 c =
     let s = c .before .before .before .before .before .before .before .before .before .before .before .before .before .before .before .before .before in

@@ -7,48 +7,34 @@ use native.Mathlib.Omega.{arith}
 use borrow.Author.Needs.{needs}
 use Rattle.prenex.proofs.write_form.Statement.{statement}
 use Rattle.prenex.proofs.write_form.Tie as tie
-use Rattle.prenex.proofs.write_form.Reads as reads
-use Rattle.prenex.proofs.write_form.Lts as lts
-use Rattle.names.proofs.fill_starts.Reads as fill-starts-reads
-use Rattle.prenex.proofs.write_named.Reads as write-named-reads
-use Rattle.scopes.proofs.chain_levels.Reads as chain-levels-reads
 
--- src/lib.rt:191:47
 slice-aggregate-chain-levels : tie.Need-slice-aggregate-chain-levels
 slice-aggregate-chain-levels c = search needs
 
--- src/lib.rt:191:60
 slice-aggregate-chain-levels-2 : tie.Need-slice-aggregate-chain-levels-2
 slice-aggregate-chain-levels-2 c = search needs
 
--- src/lib.rt:191:5
 chain-levels-requires : tie.Need-chain-levels-requires
 chain-levels-requires c κs =
     let s = c .before .before .before .before .before .before .before .before .before in
     let l = s .pre .1 .0 in
     (s .pre .0 .checked, ((l .levels-long, refl, refl), (l .levelled, λ x. getD-zeros 4096 x)))
 
--- src/lib.rt:193:37
 slice-aggregate-fill-starts : tie.Need-slice-aggregate-fill-starts
 slice-aggregate-fill-starts c = search needs
 
--- src/lib.rt:193:5
 fill-starts-requires : tie.Need-fill-starts-requires
 fill-starts-requires c κs = search needs
 
--- src/lib.rt:194:65
 slice-aggregate-write-named : tie.Need-slice-aggregate-write-named
 slice-aggregate-write-named c = search needs
 
--- src/lib.rt:194:74
 slice-aggregate-write-named-2 : tie.Need-slice-aggregate-write-named-2
 slice-aggregate-write-named-2 c = search needs
 
--- src/lib.rt:194:82
 slice-aggregate-write-named-3 : tie.Need-slice-aggregate-write-named-3
 slice-aggregate-write-named-3 c = search needs
 
--- src/lib.rt:194:5
 write-named-requires : tie.Need-write-named-requires
 write-named-requires c κs =
     let s = c .before .before .before .before .before .before .before .before .before .before .before .before .before .before .before .before .before .before .before .before .before in
@@ -61,19 +47,15 @@ write-named-requires c κs =
     record { chained = h .ensures; firsts-long = h .kept .1 .1 .1 .0; nexts-long = h .kept .1 .1 .1 .1 .0 } in
     (p .0, (a, (k, (p .1 .1 .0, (p .1 .1 .1 .0, p .1 .1 .1 .1)))))
 
--- src/lib.rt:171:1
 same-length : tie.Need-same-length
 same-length c = search needs
 
--- src/lib.rt:171:1
 same-length-2 : tie.Need-same-length-2
 same-length-2 c = search needs
 
--- src/lib.rt:171:1
 same-length-3 : tie.Need-same-length-3
 same-length-3 c = search needs
 
--- src/lib.rt:171:1
 returns : tie.Need-returns
 returns c = search needs
 

@@ -13,75 +13,65 @@ use native.Mathlib.Omega.{arith}
 use borrow.Author.Needs.{needs}
 use Rattle.prenex.proofs.write_matrix.Statement.{statement}
 use Rattle.prenex.proofs.write_matrix.Tie as tie
-use Rattle.prenex.proofs.write_matrix.Reads as reads
-use Rattle.prenex.proofs.write_matrix.Lts as lts
-use Rattle.binders.proofs.write_first.Reads as write-first-reads
-use Rattle.matrix_writer.proofs.write_levels.Reads as write-levels-reads
-use Rattle.names.proofs.chain_entries.Reads as chain-entries-reads
-use Rattle.prenex.proofs.root_blocks.Reads as root-blocks-reads
 
--- src/lib.rt:258:47
 slice-aggregate-chain-entries : tie.Need-slice-aggregate-chain-entries
 slice-aggregate-chain-entries c = search needs
 
--- src/lib.rt:258:59
 slice-aggregate-chain-entries-2 : tie.Need-slice-aggregate-chain-entries-2
 slice-aggregate-chain-entries-2 c = search needs
 
--- src/lib.rt:258:77
 slice-aggregate-chain-entries-3 : tie.Need-slice-aggregate-chain-entries-3
 slice-aggregate-chain-entries-3 c = search needs
 
--- src/lib.rt:258:5
+slice-aggregate-chain-entries-4 : tie.Need-slice-aggregate-chain-entries-4
+slice-aggregate-chain-entries-4 c = search needs
+
 chain-entries-requires : tie.Need-chain-entries-requires
 chain-entries-requires c κs =
-    let s = c .before .before .before .before .before .before .before .before .before .before .before .before .before in
+    let s = c .before .before .before .before .before .before .before .before .before .before .before .before .before .before in
     let a = s .pre .1 .0 in
-    (a .checked, (a .started, ((a .starts-long, refl, refl, refl), λ x. getD-zeros 65536 x)))
+    (a .checked, (a .started, ((a .starts-long, refl, refl, refl, refl), λ x. getD-zeros 4096 x)))
 
--- src/lib.rt:259:48
 root-blocks-requires : tie.Need-root-blocks-requires
 root-blocks-requires c κs = search needs
 
--- src/lib.rt:259:48
 cast-first : tie.Need-cast-first
 cast-first c = search needs
 
--- src/lib.rt:259:17
 sub-first : tie.Need-sub-first
 unfolding tableOf
 sub-first c =
-    let s = c .before .before .before .before .before .before .before .before .before .before .before .before .before .before .before .before .before .before in
+    let s = c .before .before .before .before .before .before .before .before .before .before .before .before .before .before .before .before .before .before .before .before in
     omega (arith, c .root-blocks .ensures, root-le (tableOf (s .args .words .now) (s .args .list .now)), count-some (s .args .words .now) (s .args .list .now) (s .pre .0 .checked))
 
--- src/lib.rt:260:55
 slice-aggregate-write-first : tie.Need-slice-aggregate-write-first
 slice-aggregate-write-first c = search needs
 
--- src/lib.rt:260:63
 slice-aggregate-write-first-2 : tie.Need-slice-aggregate-write-first-2
 slice-aggregate-write-first-2 c = search needs
 
--- src/lib.rt:260:77
 slice-aggregate-write-first-3 : tie.Need-slice-aggregate-write-first-3
 slice-aggregate-write-first-3 c = search needs
 
--- src/lib.rt:260:5
+slice-aggregate-write-first-4 : tie.Need-slice-aggregate-write-first-4
+slice-aggregate-write-first-4 c = search needs
+
 write-first-requires : tie.Need-write-first-requires
 unfolding tableOf
 write-first-requires c κs =
-    let s = c .before .before .before .before .before .before .before .before .before .before .before .before .before .before .before .before .before .before .before .before .before .before in
+    let s = c .before .before .before .before .before .before .before .before .before .before .before .before .before .before .before .before .before .before .before .before .before .before .before .before .before in
     let p = s .pre in
     let n = p .1 .1 .1 .0 in
-    let h = c .before .before .before .before .before .before .before .before .chain-entries in
-    let k = c .before .before .before .before .root-blocks .ensures in
-    let scopes : Scopes (s .args .words .now) (s .args .list .now) (s .args .parents .now) _ _ _ =
+    let h = c .before .before .before .before .before .before .before .before .before .before .chain-entries in
+    let k = c .before .before .before .before .before .root-blocks .ensures in
+    let scopes : Scopes (s .args .words .now) (s .args .list .now) (s .args .parents .now) _ _ _ _ =
     record {
       accepts = p .0 .checked;
       parents-length = p .0 .parents-long;
       heads-length = h .kept .1 .1 .1 .0;
       nexts-length = h .kept .1 .1 .1 .1 .0;
       owners-length = h .kept .1 .1 .1 .1 .1 .0;
+      numbers-length = h .kept .1 .1 .1 .1 .1 .1 .0;
       parents-hold = p .0 .placed;
       chains-hold = h .ensures;
     } in
@@ -91,16 +81,15 @@ write-first-requires c κs =
     let r = first-room (s .args .words .now) (s .args .list .now) (p .0 .checked) (s .args .nodes .now) (p .1 .1 .1 .1 .1) in
     (scopes, (names, (marks, (omega (arith, k, e), omega (arith, k, e, r)))))
 
--- src/lib.rt:261:5
 write-levels-requires : tie.Need-write-levels-requires
 unfolding tableOf
 write-levels-requires c κs =
-    let s = c .before .before .before .before .before .before .before .before .before .before .before .before .before .before .before .before .before .before .before .before .before .before .before .before .before .before in
+    let s = c .before .before .before .before .before .before .before .before .before .before .before .before .before .before .before .before .before .before .before .before .before .before .before .before .before .before .before .before .before in
     let p = s .pre in
     let n = p .1 .1 .1 .0 in
     let a = p .1 .0 in
     let h = p .1 .1 .0 in
-    let k = c .before .before .before .before .before .before .before .before .root-blocks .ensures in
+    let k = c .before .before .before .before .before .before .before .before .before .root-blocks .ensures in
     let e = kept-is (s .args .words .now) (s .args .list .now) (p .0 .checked) in
     let blocks : BlockArrays (s .args .words .now) (s .args .list .now) (s .args .starts .now) (s .args .new-names .now) (s .args .copies .now) (s .args .marks .now) =
     record {
@@ -118,14 +107,12 @@ write-levels-requires c κs =
     let q = ap (λ d. length (addedNodes (tableOf (s .args .words .now) (s .args .list .now)) d)) (p .1 .1 .1 .1 .0) in
     (blocks, (chains, (omega (arith, k, e), (p .1 .1 .1 .1 .0, record { fits = omega (arith, r .fits, q, k, e); small = omega (arith, r .small, q, k, e) }))))
 
--- src/lib.rt:234:1
 same-length : tie.Need-same-length
 same-length c = search needs
 
--- src/lib.rt:234:1
 returns : tie.Need-returns
 returns c =
-    let s = c .before .before .before .before .before .before .before .before .before .before .before .before .before .before .before .before .before .before .before .before .before .before .before .before .before .before .before .before .before in
+    let s = c .before .before .before .before .before .before .before .before .before .before .before .before .before .before .before .before .before .before .before .before .before .before .before .before .before .before .before .before .before .before .before .before in
     whole (s .args .words .now) (s .args .list .now) (s .pre .0 .checked) (s .args .nodes .now) (s .pre .1 .1 .1 .1 .1) _ _ (c .before .before .before .before .before .before .write-first .ensures) (c .before .before .write-levels .ensures .0)
 
 pub write-matrix-spec : {M : Type 1} → statement M
@@ -135,6 +122,7 @@ write-matrix-spec =
     slice-aggregate-chain-entries
     slice-aggregate-chain-entries-2
     slice-aggregate-chain-entries-3
+    slice-aggregate-chain-entries-4
     chain-entries-requires
     root-blocks-requires
     cast-first
@@ -142,6 +130,7 @@ write-matrix-spec =
     slice-aggregate-write-first
     slice-aggregate-write-first-2
     slice-aggregate-write-first-3
+    slice-aggregate-write-first-4
     write-first-requires
     write-levels-requires
     same-length

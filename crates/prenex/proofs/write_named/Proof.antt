@@ -7,42 +7,28 @@ use native.Mathlib.Omega.{arith}
 use borrow.Author.Needs.{needs}
 use Rattle.prenex.proofs.write_named.Statement.{statement}
 use Rattle.prenex.proofs.write_named.Tie as tie
-use Rattle.prenex.proofs.write_named.Reads as reads
-use Rattle.prenex.proofs.write_named.Lts as lts
-use Rattle.names.proofs.give_names.Reads as give-names-reads
-use Rattle.names.proofs.highest_number.Reads as highest-number-reads
-use Rattle.prefix_writer.proofs.write_prefix.Reads as write-prefix-reads
-use Rattle.prenex.proofs.write_matrix.Reads as write-matrix-reads
 
--- src/lib.rt:223:15
 highest-number-requires : tie.Need-highest-number-requires
 highest-number-requires c κs = search needs
 
--- src/lib.rt:223:15
 add-t20 : tie.Need-add-t20
 add-t20 c = search needs
 
--- src/lib.rt:225:17
 cast-bound : tie.Need-cast-bound
 cast-bound c = search needs
 
--- src/lib.rt:226:23
 cast-inner-bound : tie.Need-cast-inner-bound
 cast-inner-bound c = search needs
 
--- src/lib.rt:227:45
 slice-aggregate-give-names : tie.Need-slice-aggregate-give-names
 slice-aggregate-give-names c = search needs
 
--- src/lib.rt:227:61
 slice-aggregate-give-names-2 : tie.Need-slice-aggregate-give-names-2
 slice-aggregate-give-names-2 c = search needs
 
--- src/lib.rt:227:74
 slice-aggregate-give-names-3 : tie.Need-slice-aggregate-give-names-3
 slice-aggregate-give-names-3 c = search needs
 
--- src/lib.rt:227:5
 give-names-requires : tie.Need-give-names-requires
 unfolding tableOf
 give-names-requires c κs =
@@ -50,19 +36,15 @@ give-names-requires c κs =
     let n = s .pre .1 .1 .1 .1 .0 in
     (s .pre .0 .checked, (omega (arith, c .before .before .before .before .before .highest-number .ensures .0), ((refl, refl, refl), (n .bound-is, n .inner-bound-is))))
 
--- src/lib.rt:228:70
 slice-aggregate-write-matrix : tie.Need-slice-aggregate-write-matrix
 slice-aggregate-write-matrix c = search needs
 
--- src/lib.rt:228:82
 slice-aggregate-write-matrix-2 : tie.Need-slice-aggregate-write-matrix-2
 slice-aggregate-write-matrix-2 c = search needs
 
--- src/lib.rt:228:91
 slice-aggregate-write-matrix-3 : tie.Need-slice-aggregate-write-matrix-3
 slice-aggregate-write-matrix-3 c = search needs
 
--- src/lib.rt:228:5
 write-matrix-requires : tie.Need-write-matrix-requires
 write-matrix-requires c κs =
     let s = c .before .before .before .before .before .before .before .before .before .before .before .before .before .before .before .before .before .before .before .before .before .before .before in
@@ -76,23 +58,18 @@ write-matrix-requires c κs =
     } in
     (p .0, (p .1 .0, (p .1 .1 .0, (n, (p .1 .1 .1 .0, p .1 .1 .1 .1 .1 .nodes-fit)))))
 
--- src/lib.rt:229:18
 cast-blocks : tie.Need-cast-blocks
 cast-blocks c = search needs
 
--- src/lib.rt:230:73
 slice-aggregate-write-prefix : tie.Need-slice-aggregate-write-prefix
 slice-aggregate-write-prefix c = search needs
 
--- src/lib.rt:230:85
 slice-aggregate-write-prefix-2 : tie.Need-slice-aggregate-write-prefix-2
 slice-aggregate-write-prefix-2 c = search needs
 
--- src/lib.rt:230:94
 slice-aggregate-write-prefix-3 : tie.Need-slice-aggregate-write-prefix-3
 slice-aggregate-write-prefix-3 c = search needs
 
--- src/lib.rt:230:5
 write-prefix-requires : tie.Need-write-prefix-requires
 write-prefix-requires c κs =
     let s = c .before .before .before .before .before .before .before .before .before .before .before .before .before .before .before .before .before .before .before .before .before .before .before .before .before .before .before .before .before .before .before .before in
@@ -115,19 +92,15 @@ write-prefix-requires c κs =
       ),
     )
 
--- src/lib.rt:198:1
 same-length : tie.Need-same-length
 same-length c = search needs
 
--- src/lib.rt:198:1
 same-length-2 : tie.Need-same-length-2
 same-length-2 c = search needs
 
--- src/lib.rt:198:1
 same-length-3 : tie.Need-same-length-3
 same-length-3 c = search needs
 
--- src/lib.rt:198:1
 returns : tie.Need-returns
 returns c = search needs
 

@@ -1,20 +1,31 @@
--- `table_check::check_nodes` meets its contract: a new array has no stamp above 0.
+-- `table_check::check_nodes` meets its contract: three new arrays chain no entry.
 -- Assumes nothing.
-use mathlib.Core.Path.{refl}
 use borrow.Author.Needs.{needs}
-use Rattle.table_check.proofs.Stamps.{stamps-new}
+use Rattle.table_check.proofs.Chains.{chains-new}
 use Rattle.table_check.proofs.check_nodes.Statement.{statement}
 use Rattle.table_check.proofs.check_nodes.Tie as tie
 
 slice-aggregate-check-each-node : tie.Need-slice-aggregate-check-each-node
 slice-aggregate-check-each-node c = search needs
 
+slice-aggregate-check-each-node-2 : tie.Need-slice-aggregate-check-each-node-2
+slice-aggregate-check-each-node-2 c = search needs
+
+slice-aggregate-check-each-node-3 : tie.Need-slice-aggregate-check-each-node-3
+slice-aggregate-check-each-node-3 c = search needs
+
 check-each-node-requires : tie.Need-check-each-node-requires
-check-each-node-requires c κs = (c .before .before .before .pre, stamps-new 65536 refl)
+check-each-node-requires c κs = (c .before .before .before .before .before .pre, chains-new)
 
 returns : tie.Need-returns
 returns c = search needs
 
 pub check-nodes-spec : {M : Type 1} → statement M
 check-nodes-spec =
-    tie.close (tie.spec slice-aggregate-check-each-node check-each-node-requires returns)
+    tie.close
+    (tie.spec
+    slice-aggregate-check-each-node
+    slice-aggregate-check-each-node-2
+    slice-aggregate-check-each-node-3
+    check-each-node-requires
+    returns)

@@ -19,7 +19,7 @@ is-block-kind-requires c κs = search needs
 
 returns : tie.Need-returns
 unfolding forwardReference
-returns c = rw (← (c .is-block-kind .ensures))
+returns c = cc
 
 pub forward-reference-spec : {M : Type 1} → statement M
 forward-reference-spec = tie.close (tie.spec cast-a cast-b cast-c is-block-kind-requires returns)

@@ -13,8 +13,7 @@ is-block-kind-requires c κs = search needs
 
 returns : tie.Need-returns
 unfolding wellFormed
-returns c =
-    rw (← (c .before .before .before .before .before .before .before .before .is-number .ensures), ← (c .is-block-kind .ensures))
+returns c = cc
 
 pub well-formed-spec : {M : Type 1} → statement M
 well-formed-spec = tie.close (tie.spec is-number-requires is-block-kind-requires returns)
