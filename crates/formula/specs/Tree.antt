@@ -1,16 +1,12 @@
 -- The shape of a table: which node names which (document 01, "The formula table").
 -- Assumes nothing.
-use mathlib.Core.Bool.{Bool, true, false, not, _&&_}
-use mathlib.Core.List.{List, [], _∷_}
+use mathlib.Core.Bool.{true}
 use mathlib.Core.Path.{_≡_}
-use Prim.Native.Nat.{ℕ, zero, suc, _+_, _-_, _<_, _≤_}
-use lib.Dec.{eqb, ltb}
+use Prim.Native.Nat.{ℕ, suc, _<_}
 use lib.ListN.{length}
-use Rattle.lists.specs.Choice.{pick}
-use Rattle.lists.specs.Search.{lowest}
 use Rattle.lists.specs.Members.{mem, times, distinct}
 use Rattle.lists.specs.Parts.{sum}
-use Rattle.formula.specs.Node.{Node, Table, operands, isBlock, bound}
+use Rattle.formula.specs.Node.{Table, operands, bound}
 
 -- How often the nodes of a table name node i.
 unfoldable pub timesNamed : Table → ℕ → ℕ

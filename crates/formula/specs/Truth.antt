@@ -1,12 +1,10 @@
 -- The truth value of a table (document 01, "Truth and size"), and the variables that are free in it.
 -- Assumes nothing.
 use mathlib.Core.Bool.{Bool, true, false, not, _&&_, _||_}
-use mathlib.Core.List.{List, [], _∷_, _++_}
 use Prim.Native.Nat.{ℕ, zero, suc, _+_, _*_, _/_, _%_, _^_, _-_}
 use lib.Dec.{eqb}
-use Rattle.lists.specs.Choice.{pick}
 use Rattle.lists.specs.Members.{mem}
-use Rattle.formula.specs.Node.{Quantifier, Node, constant, variable, negation, operator, block, Table}
+use Rattle.formula.specs.Node.{Node, constant, variable, negation, operator, block, Table}
 use Rattle.formula.specs.Valuation.{Valuation, quant}
 
 -- "An operator's value is bit (2 × left + right) of its truth table."

@@ -1,13 +1,13 @@
 -- Words as nodes (document 01, "The formula table"): "a lent run of 32-bit words, four to a node (kind and three fields),
 -- and a lent list of 32-bit variable numbers. Nodes count from 0. The last node is the root."
 -- Assumes nothing.
-use mathlib.Core.Bool.{Bool, true, false}
-use mathlib.Core.List.{List, [], _∷_, _++_}
-use Prim.Native.Nat.{ℕ, _+_, _*_, _/_, _-_}
+use mathlib.Core.Bool.{false}
+use mathlib.Core.List.{List}
+use Prim.Native.Nat.{ℕ, _+_, _*_, _/_}
 use lib.Dec.{eqb}
 use lib.ListN.{length, getD, take, drop}
 use Rattle.lists.specs.Choice.{pick}
-use Rattle.formula.specs.Node.{Quantifier, exists, for-all, Node, constant, variable, negation, operator, block, Table}
+use Rattle.formula.specs.Node.{exists, for-all, Node, constant, variable, negation, operator, block, Table}
 
 -- The words of a node: a kind and three fields. Nothing else says how many there are.
 abbrev pub width : ℕ

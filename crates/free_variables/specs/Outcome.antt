@@ -1,6 +1,5 @@
 -- What listing a table's free variables answers and leaves in the lent buffer (document 01, "When the lifter says no").
 -- Assumes nothing.
-use mathlib.Core.Bool.{Bool}
 use mathlib.Core.List.{List}
 use Prim.Native.Nat.{ℕ}
 use lib.Dec.{eqb, ltb}

@@ -1,7 +1,7 @@
 -- A choice by a test, and cases on a computed test.
 -- Assumes nothing.
-use mathlib.Core.Path.{_≡_, refl, sym, _∙_, subst}
-use mathlib.Core.Bool.{Bool, true, false, not, _&&_, _||_, true≢false}
+use mathlib.Core.Path.{_≡_, refl, sym, _∙_}
+use mathlib.Core.Bool.{Bool, true, false, _&&_, _||_, true≢false}
 
 -- a where the test passes, b where it does not
 unfoldable pub pick {ℓ} : {A : Type ℓ} → Bool → A → A → A

@@ -1,11 +1,8 @@
 -- Lists put together from parts, and parts written over a list.
 -- Assumes nothing.
-use mathlib.Core.Path.{_≡_, refl}
-use mathlib.Core.Bool.{Bool}
 use mathlib.Core.List.{List, [], _∷_, _++_}
 use Prim.Native.Nat.{ℕ, zero, suc, _+_}
 use lib.ListN.{length, take, drop}
-use Rattle.lists.specs.Choice.{pick}
 
 -- g 0, g 1, .. g (n - 1), one after the other
 unfoldable pub upTo {ℓ} : {A : Type ℓ} → (ℕ → List A) → ℕ → List A

@@ -7,7 +7,7 @@ use Prim.Native.Nat.{ℕ, _<_}
 use lib.Dec.{eqb, ltb}
 use lib.ListN.{length}
 use borrow.Author.Tests.{eq-eqb, ne-eqb, lt-ltb, le-ltb}
-use Rattle.lists.specs.Choice.{pick, pick-yes, pick-no, or-neither}
+use Rattle.lists.specs.Choice.{pick-yes, pick-no, or-neither}
 use Rattle.lists.specs.Parts.{overwrite}
 use Rattle.formula.specs.Words.{tableOf}
 use Rattle.table_check.specs.declared.Verdict.{Verdict}
@@ -19,7 +19,7 @@ use Rattle.prenex_form.specs.Prefix.{writtenPrefix, writtenVariables}
 use Rattle.prenex_form.specs.Sizes.{sizes}
 use Rattle.prenex.specs.declared.Answer.{Answer}
 use Rattle.prenex.specs.Arrays.{Room, Written}
-use Rattle.prenex.specs.Outcome.{refusal, done, measured, Outcome, tooShort, after, lifted}
+use Rattle.prenex.specs.Outcome.{refusal, done, measured, tooShort, after, lifted}
 
 module _ (ws ls : List ℕ) (v : Verdict) (is : v ≡ verdict ws ls) where
   -- the checker's answer is no refusal

@@ -1,18 +1,18 @@
 -- Document 01's "Formulas to try" that are to be proved (marked ◆ there), as rows of one list with one claim about all of them:
 -- what a lift answers and leaves in its buffers, and the truth values that the document gives.
 -- Assumes nothing.
-use mathlib.Core.Path.{_≡_, refl, sym, _∙_, ap, ap₂}
-use mathlib.Core.Bool.{Bool, true, false, not, _&&_, Bool·beq}
+use mathlib.Core.Path.{_≡_, refl, sym, ap₂}
+use mathlib.Core.Bool.{Bool, true, false, _&&_, Bool·beq}
 use mathlib.Core.List.{List, [], _∷_, _++_, flatMap, List·Memᴰ, List·Memᴰ·head, List·Memᴰ·tail}
 use Prim.Native.Nat.{ℕ}
 use lib.Dec.{eqb}
-use lib.ListN.{take, replicate, length}
+use lib.ListN.{take, replicate}
 use borrow.Author.Tests.{eqb-true}
 use Rattle.lists.specs.Choice.{pick, and-left, and-right}
 use Rattle.lists.specs.Search.{lowest}
 use Rattle.lists.specs.Members.{mem, all, distinct, times, place}
 use Rattle.lists.specs.Parts.{upTo, numbers, sum, highest, overwrite}
-use Rattle.formula.specs.Node.{Node, dual, operands, isBlock, bound}
+use Rattle.formula.specs.Node.{dual, operands, isBlock, bound}
 use Rattle.formula.specs.Words.{width, field, range, nodeOf, nodeAt, tableOf}
 use Rattle.formula.specs.Valuation.{Valuation, update, join, quant}
 use Rattle.formula.specs.Truth.{bit, digit, operatorValue, nodeValue, value, truth}

@@ -1,15 +1,15 @@
 -- The form that a lift leaves in its buffers, and its measured sizes.
 -- Assumes nothing.
-use mathlib.Core.Path.{_≡_, refl, sym, _∙_, ap, subst}
-use mathlib.Core.Bool.{Bool, true, false}
-use mathlib.Core.List.{List, []}
-use Prim.Native.Nat.{ℕ, zero, suc, _+_, _*_, _≤_, _<_}
+use mathlib.Core.Path.{_≡_, sym, _∙_, ap}
+use mathlib.Core.Bool.{true}
+use mathlib.Core.List.{List}
+use Prim.Native.Nat.{ℕ, _*_}
 use native.Mathlib.Omega.{arith}
-use lib.Dec.{eqb, ltb}
+use lib.Dec.{eqb}
 use lib.ListN.{length, take}
 use lib.Seq.{take-at}
 use borrow.Author.Tests.{eqb-true, eqb-false}
-use Rattle.lists.specs.Choice.{pick, pick-yes, pick-no, Is, is-true, is-false, look}
+use Rattle.lists.specs.Choice.{pick-yes, pick-no, Is, is-true, is-false, look}
 use Rattle.lists.specs.Parts.{overwrite}
 use Rattle.formula.specs.Node.{Table}
 use Rattle.formula.specs.Words.{width, tableOf}

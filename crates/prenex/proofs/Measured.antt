@@ -1,15 +1,15 @@
 -- The sizes of an accepted table from its parts, and their limits.
 -- Assumes nothing.
-use mathlib.Core.Path.{_≡_, refl, sym, _∙_, ap}
+use mathlib.Core.Path.{_≡_, refl, sym, _∙_}
 use mathlib.Core.Bool.{Bool, true, false}
 use mathlib.Core.List.{List}
-use Prim.Native.Nat.{ℕ, zero, suc, _+_, _-_, _*_, _≤_, _<_}
+use Prim.Native.Nat.{ℕ, _+_, _-_, _≤_, _<_}
 use native.Mathlib.Omega.{arith}
 use lib.Dec.{eqb}
 use Rattle.lists.specs.Choice.{pick}
 use Rattle.lists.specs.Parts.{sum}
-use Rattle.formula.specs.Node.{Node, Table, isBlock}
-use Rattle.formula.specs.Words.{nodeCount, nodeAt, tableOf}
+use Rattle.formula.specs.Node.{Table, isBlock}
+use Rattle.formula.specs.Words.{nodeCount, tableOf}
 use Rattle.formula.specs.Tree.{Tree}
 use Rattle.table_check.specs.Verdict.{verdict, accepted}
 use Rattle.table_check.proofs.Accepted.{accepted-holds}

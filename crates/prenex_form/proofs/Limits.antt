@@ -1,16 +1,16 @@
 -- The limits of an accepted table, as its prenex form needs them.
 -- Assumes nothing.
 use mathlib.Core.Path.{_≡_, refl, sym, _∙_, ap, subst}
-use mathlib.Core.Bool.{Bool, true, false, _&&_}
+use mathlib.Core.Bool.{true}
 use mathlib.Core.List.{List, [], _∷_}
-use Prim.Native.Nat.{ℕ, zero, suc, _≤_, _<_}
+use Prim.Native.Nat.{ℕ, _≤_, _<_}
 use native.Mathlib.Omega.{arith}
 use lib.Dec.{leb}
 use borrow.Author.Tests.{leb-true}
 use Rattle.lists.specs.Choice.{and-left, and-right}
 use Rattle.lists.specs.Members.{all}
 use Rattle.lists.proofs.Parts.{highest-le}
-use Rattle.formula.specs.Node.{Node, constant, variable, negation, operator, block, Table, bound}
+use Rattle.formula.specs.Node.{Node, constant, variable, negation, operator, block, bound}
 use Rattle.formula.specs.Words.{nodeCount, field, nodeAt, tableOf}
 use Rattle.formula.proofs.Nodes.{node-constant, node-variable, node-negation, node-operator, node-exists, node-for-all}
 use Rattle.table_check.specs.Verdict.{isNumber}

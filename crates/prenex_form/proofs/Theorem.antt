@@ -1,13 +1,12 @@
 -- The theorem: the written form of every accepted table is a prenex form of it (specs/Promise.antt).
 -- Assumes nothing.
-use mathlib.Core.Path.{_≡_, refl, sym, _∙_, ap, subst}
+use mathlib.Core.Path.{_≡_, sym, _∙_}
 use mathlib.Core.Bool.{false}
 use mathlib.Core.List.{List, []}
-use Prim.Native.Nat.{ℕ, _*_, _/_, _≤_, _<_}
-use native.Mathlib.Omega.{arith}
-use lib.ListN.{length, getD}
+use Prim.Native.Nat.{ℕ}
+use lib.ListN.{getD}
 use Rattle.formula.specs.Node.{constant, Table}
-use Rattle.formula.specs.Words.{nodeCount, nodeAt, tableOf}
+use Rattle.formula.specs.Words.{nodeAt, tableOf}
 use Rattle.formula.specs.Tree.{Tree}
 use Rattle.table_check.specs.Verdict.{verdict, accepted}
 use Rattle.table_check.specs.Accepted.{Accepted}

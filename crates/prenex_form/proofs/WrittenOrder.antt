@@ -22,7 +22,7 @@ use Rattle.formula.specs.Tree.{Tree, count}
 use Rattle.formula.specs.Form.{matrixTruth}
 use Rattle.prenex_form.specs.Names.{definitionVariable}
 use Rattle.prenex_form.specs.Levels.{blocksAt, levels, levelQuantifier}
-use Rattle.prenex_form.specs.Matrix.{and, iff, kept, renamed, firstNodes, bodyOf, equation, constraint, further, constraints, wrap, levelNodes, nodesTo, prenexNodes, writtenNodes}
+use Rattle.prenex_form.specs.Matrix.{iff, kept, renamed, firstNodes, bodyOf, equation, constraint, further, constraints, wrap, levelNodes, nodesTo, prenexNodes, writtenNodes}
 use Rattle.prenex_form.proofs.Cut.{matrixAt}
 use Rattle.prenex_form.proofs.Paths.{blocksAt-lt, blocksAt-inner, kept-positive}
 use Rattle.prenex_form.proofs.NodeLists.{listTable, Plain, words-table}

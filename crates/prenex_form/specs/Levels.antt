@@ -1,12 +1,12 @@
 -- The levels of a table's inner blocks and their quantifiers (document 01, "Names", "The written form").
 -- Assumes nothing.
-use mathlib.Core.Bool.{Bool, true, false, not, _&&_}
-use mathlib.Core.List.{List, [], _∷_, _++_}
-use Prim.Native.Nat.{ℕ, zero, suc, _+_, _-_}
+use mathlib.Core.Bool.{_&&_}
+use mathlib.Core.List.{List, [], _∷_}
+use Prim.Native.Nat.{ℕ, zero, suc, _-_}
 use lib.Dec.{eqb}
 use Rattle.lists.specs.Choice.{pick}
 use Rattle.lists.specs.Parts.{upTo, highest}
-use Rattle.formula.specs.Node.{Quantifier, exists, for-all, dual, Node, constant, variable, negation, operator, block, Table, isBlock}
+use Rattle.formula.specs.Node.{Quantifier, for-all, dual, Node, constant, variable, negation, operator, block, Table}
 use Rattle.prenex_form.specs.Scope.{inner, level}
 
 -- "each block of that level in node order"

@@ -1,12 +1,11 @@
 -- The nodes of a prenex form (document 01, "The written form").
 -- Assumes nothing.
-use mathlib.Core.Bool.{Bool, true, false, not, _&&_}
-use mathlib.Core.List.{List, [], _∷_, _++_, map, flatMap}
+use mathlib.Core.List.{List, [], _∷_, _++_, flatMap}
 use Prim.Native.Nat.{ℕ, zero, suc, _+_, _-_, _*_}
 use lib.Dec.{eqb}
 use lib.ListN.{length, getD}
 use Rattle.lists.specs.Choice.{pick}
-use Rattle.lists.specs.Parts.{upTo, numbers}
+use Rattle.lists.specs.Parts.{upTo}
 use Rattle.formula.specs.Node.{Quantifier, exists, for-all, Node, constant, variable, negation, operator, block, Table, isBlock}
 use Rattle.formula.specs.Truth.{digit}
 use Rattle.formula.specs.Tree.{count}

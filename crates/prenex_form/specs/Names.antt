@@ -1,13 +1,12 @@
 -- The names of a prenex form (document 01, "Names").
 -- Assumes nothing.
-use mathlib.Core.Bool.{Bool, true, false, not, _&&_}
 use mathlib.Core.List.{List, [], _∷_}
-use Prim.Native.Nat.{ℕ, zero, suc, _+_, _-_, max}
-use lib.Dec.{eqb, ltb}
+use Prim.Native.Nat.{ℕ, _+_, max}
+use lib.Dec.{ltb}
 use Rattle.lists.specs.Choice.{pick}
-use Rattle.lists.specs.Members.{mem, place}
+use Rattle.lists.specs.Members.{place}
 use Rattle.lists.specs.Parts.{sum, highest, numbers}
-use Rattle.formula.specs.Node.{Node, constant, variable, negation, operator, block, Table, isBlock, bound}
+use Rattle.formula.specs.Node.{Node, constant, variable, negation, operator, block, Table, bound}
 use Rattle.formula.specs.Tree.{count, boundBelow}
 use Rattle.prenex_form.specs.Scope.{binder, inner}
 

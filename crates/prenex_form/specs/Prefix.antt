@@ -1,13 +1,12 @@
 -- The prefix of a prenex form (document 01, "The written form").
 -- Assumes nothing.
-use mathlib.Core.Bool.{Bool, true, false, not, _&&_}
-use mathlib.Core.List.{List, [], _∷_, _++_, map, flatMap}
+use mathlib.Core.List.{List, [], _∷_, _++_, flatMap}
 use Prim.Native.Nat.{ℕ, zero, suc, _+_, _-_}
 use lib.Dec.{eqb}
 use lib.ListN.{length}
 use Rattle.lists.specs.Choice.{pick}
 use Rattle.lists.specs.Parts.{sum, upTo}
-use Rattle.formula.specs.Node.{Quantifier, exists, for-all, Node, Table, isBlock}
+use Rattle.formula.specs.Node.{Quantifier, exists, for-all, Table, isBlock}
 use Rattle.formula.specs.Form.{Block}
 use Rattle.prenex_form.specs.Names.{newNames, copies, definitionVariable}
 use Rattle.prenex_form.specs.Levels.{blocksAt, levels, levelQuantifier}

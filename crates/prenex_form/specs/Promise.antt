@@ -2,14 +2,14 @@
 -- prenex form of the table t, with its truth value under every valuation and within the promised sizes. That the written form of
 -- every accepted table is one is the theorem `prenex` (proofs/Theorem.antt).
 -- Assumes nothing.
-use mathlib.Core.Bool.{Bool, true}
+use mathlib.Core.Bool.{true}
 use mathlib.Core.List.{List, []}
 use mathlib.Core.Path.{_≡_}
 use Prim.Native.Nat.{ℕ, _+_, _*_, _/_, _<_, _≤_}
 use lib.ListN.{length, getD}
 use Rattle.lists.specs.Members.{mem, distinct}
 use Rattle.lists.specs.Parts.{sum}
-use Rattle.formula.specs.Node.{Node, variable, Table, isBlock}
+use Rattle.formula.specs.Node.{variable, Table}
 use Rattle.formula.specs.Words.{width, nodeCount, field, nodeAt, tableOf}
 use Rattle.formula.specs.Valuation.{Valuation}
 use Rattle.formula.specs.Truth.{truth, free}

@@ -1,14 +1,14 @@
 -- Where the nodes of a table stand: parents, paths, the blocks above a node (document 01, "The formula table", "Names").
 -- Assumes nothing.
-use mathlib.Core.Bool.{Bool, true, false, not, _&&_}
+use mathlib.Core.Bool.{Bool, not, _&&_}
 use mathlib.Core.List.{List, [], _∷_}
-use Prim.Native.Nat.{ℕ, zero, suc, _+_, _-_, _≤_}
+use Prim.Native.Nat.{ℕ, zero, suc, _+_}
 use lib.Dec.{eqb, ltb}
 use Rattle.lists.specs.Choice.{pick}
 use Rattle.lists.specs.Search.{lowest}
 use Rattle.lists.specs.Members.{mem}
-use Rattle.lists.specs.Parts.{sum, highest}
-use Rattle.formula.specs.Node.{Node, Table, operands, isBlock, bound}
+use Rattle.lists.specs.Parts.{highest}
+use Rattle.formula.specs.Node.{Table, operands, isBlock, bound}
 
 -- The node that names node i, which a table has once for each node but the root; the table's size for the root.
 unfoldable pub parent : Table → ℕ → ℕ

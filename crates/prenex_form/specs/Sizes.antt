@@ -1,12 +1,11 @@
 -- What measuring gives (document 01, "When the lifter says no"): "n, b, q, depth, and the nodes, blocks and list entries
 -- that lifting writes".
 -- Assumes nothing.
-use mathlib.Core.Bool.{Bool, true, false}
-use Prim.Native.Nat.{ℕ, zero, suc, _+_, _-_, _*_}
+use Prim.Native.Nat.{ℕ, _+_, _-_, _*_}
 use lib.Dec.{eqb}
 use Rattle.lists.specs.Choice.{pick}
 use Rattle.lists.specs.Parts.{sum}
-use Rattle.formula.specs.Node.{Node, Table, isBlock}
+use Rattle.formula.specs.Node.{Table, isBlock}
 use Rattle.formula.specs.Tree.{count}
 use Rattle.prenex_form.specs.declared.Sizes.{Sizes}
 use Rattle.prenex_form.specs.Scope.{inner, depth}
