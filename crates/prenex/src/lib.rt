@@ -87,20 +87,18 @@ fn measure_accepted(words: &[u32], list: &[u32]) -> Sizes
 {
     let mut parents = [0u32; LIMIT];
     let mut levels = [0u32; LIMIT];
-    let deepest = scopes::fill_scopes(words, list, &mut parents, &mut levels);
-    sizes_of(words, list, deepest, scopes::count_blocks(words, list))
+    sizes_of(words, list, scopes::fill_scopes(words, list, &mut parents, &mut levels))
 }
 
-// The sizes of a table whose deepest level and counts are known.
-fn sizes_of(words: &[u32], list: &[u32], deepest: usize, counts: Counts) -> Sizes
+// The sizes of a table whose counts are known.
+fn sizes_of(words: &[u32], list: &[u32], counts: Counts) -> Sizes
     requires { ⌜ verdict (now words) (now list) ≡ accepted ⌝ }
-    requires { ⌜ deepest ≡ deepestLevel (tableOf (now words) (now list)) ⌝ }
     requires { ⌜ BlockCounts (tableOf (now words) (now list)) counts ⌝ }
     ensures { λ r. ⌜ r ≡ sizesOf (tableOf (now (words .entry)) (now (list .entry))) ⌝ }
 {
     let n = (words.len() / formula::WIDTH) as u32;
     let root = root_blocks(words, list);
-    let deepest = deepest as u32;
+    let deepest = counts.deepest;
     Sizes {
         n,
         b: counts.blocks,
@@ -148,9 +146,8 @@ fn lift_accepted(
 {
     let mut parents = [0u32; LIMIT];
     let mut levels = [0u32; LIMIT];
-    let deepest = scopes::fill_scopes(words, list, &mut parents, &mut levels);
-    let counts = scopes::count_blocks(words, list);
-    let sizes = sizes_of(words, list, deepest, counts);
+    let counts = scopes::fill_scopes(words, list, &mut parents, &mut levels);
+    let sizes = sizes_of(words, list, counts);
     if nodes.len() < formula::WIDTH * (sizes.nodes as usize) {
         return refusal(BUFFER_TOO_SHORT, 0);
     }
@@ -168,7 +165,6 @@ fn lift_accepted(
         variables,
         &parents,
         &levels,
-        deepest,
         counts,
     );
     done(sizes)
@@ -183,12 +179,10 @@ fn write_form(
     variables: &mut [u32],
     parents: &[u32],
     levels: &[u32],
-    deepest: usize,
     counts: Counts,
 )
     requires { ⌜ Placed (now words) (now list) (now parents) ⌝ }
     requires { ⌜ Levelled (now words) (now list) (now levels) ⌝ }
-    requires { ⌜ deepest ≡ deepestLevel (tableOf (now words) (now list)) ⌝ }
     requires { ⌜ BlockCounts (tableOf (now words) (now list)) counts ⌝ }
     requires { ⌜ Room (now words) (now list) (now nodes) (now prefix) (now variables) ⌝ }
     ensures { λ _. ⌜ Written (now (words .entry)) (now (list .entry)) (now (nodes .entry)) (now (prefix .entry)) (now (variables .entry)) (now (nodes .exit)) (now (prefix .exit)) (now (variables .exit)) ⌝ }
@@ -208,7 +202,6 @@ fn write_form(
         &firsts,
         &nexts,
         &starts,
-        deepest,
         counts,
     );
 }
@@ -224,13 +217,11 @@ fn write_named(
     firsts: &[u32],
     nexts: &[u32],
     starts: &[u32],
-    deepest: usize,
     counts: Counts,
 )
     requires { ⌜ Placed (now words) (now list) (now parents) ⌝ }
     requires { ⌜ Started (now words) (now list) (now starts) ⌝ }
     requires { ⌜ Chained (now words) (now list) (now firsts) (now nexts) ⌝ }
-    requires { ⌜ deepest ≡ deepestLevel (tableOf (now words) (now list)) ⌝ }
     requires { ⌜ BlockCounts (tableOf (now words) (now list)) counts ⌝ }
     requires { ⌜ Room (now words) (now list) (now nodes) (now prefix) (now variables) ⌝ }
     ensures { λ _. ⌜ Written (now (words .entry)) (now (list .entry)) (now (nodes .entry)) (now (prefix .entry)) (now (variables .entry)) (now (nodes .exit)) (now (prefix .exit)) (now (variables .exit)) ⌝ }
@@ -241,6 +232,7 @@ fn write_named(
     let counter = NameCounter {
         next: names::highest_number(words, list) + 1,
     };
+    let deepest = counts.deepest as usize;
     let bound = counts.bound as usize;
     let inner_bound = counts.inner_bound as usize;
     names::give_names(

@@ -1,29 +1,33 @@
--- The pass that counts blocks and bound variables, step by step, and how large the counts can be.
+-- What the pass from the root down counts, step by step, and how large the counts can be.
 -- Assumes nothing.
-use mathlib.Core.Path.{_≡_, refl, sym, _∙_}
+use mathlib.Core.Path.{_≡_, refl, sym, _∙_, subst}
 use mathlib.Core.Bool.{Bool, true, false, _||_}
 use mathlib.Core.List.{List}
-use Prim.Native.Nat.{ℕ, zero, suc, _+_, _*_, _<_, _≤_}
+use Prim.Native.Nat.{ℕ, zero, suc, _+_, _*_, _<_, _≤_, max}
 use native.Mathlib.Numerals.{add-one}
 use native.Mathlib.Omega.{arith}
 use lib.Dec.{eqb}
 use lib.ListN.{length}
+use borrow.Author.Tests.{eqb-true, eqb-false}
 use Rattle.lists.specs.Choice.{pick, pick-yes, pick-no, Is, is-true, is-false, look, clash}
 use Rattle.lists.specs.Parts.{sum}
-use Rattle.lists.proofs.Parts.{sum-grows, sum-mono}
+use Rattle.lists.proofs.Parts.{sum-mono, highest-ge, highest-le}
 use Rattle.formula.specs.Node.{Node, constant, variable, negation, operator, block, Table, isBlock, bound}
 use Rattle.formula.specs.declared.NodeWords.{NodeWords}
 use Rattle.formula.specs.Words.{nodeCount, field, nodeAt, tableOf}
-use Rattle.formula.specs.Tree.{count, boundBelow}
+use Rattle.formula.specs.Tree.{Tree, count, boundBelow}
 use Rattle.table_check.specs.Verdict.{limit, isBlockKind, countAt, verdict, accepted}
 use Rattle.table_check.proofs.Accepted.{accepted-holds, count-at}
-use Rattle.prenex_form.specs.Scope.{inner}
+use Rattle.prenex_form.specs.Scope.{parent, inner, level}
+use Rattle.prenex_form.specs.Levels.{levels}
 use Rattle.prenex_form.specs.Names.{boundCount, innerBoundBelow, innerBelow}
 use Rattle.prenex_form.specs.Prefix.{blockCount}
 use Rattle.prenex_form.specs.Sizes.{addedBy}
+use Rattle.prenex_form.proofs.Paths.{parent-lt, parent-higher, level-root, level-step}
 use Rattle.scopes.specs.declared.Counts.{Counts}
-use Rattle.scopes.specs.Passes.{CountsBelow, BlockCounts}
-use Rattle.scopes.proofs.Nodes.{nodes-few, ReadAt, block-read}
+use Rattle.scopes.specs.Passes.{withRoot, withInner, Small, CountsFrom, BlockCounts}
+use Rattle.scopes.proofs.Nodes.{accepted-tree, nodes-few, ReadAt, block-read}
+use Rattle.scopes.proofs.Scopes.{outer-plain, outer-root, inner-rest}
 
 -- only blocks bind variables
 bound-none : (n : Node) → isBlock n ≡ false → length (bound n) ≡ 0
@@ -49,25 +53,6 @@ unfolding pick
 pick-le true x y h = omega arith
 pick-le false x y h = h
 
--- The counts c, with a node that binds q variables; x says whether it is a block, y whether it is an inner block.
-abbrev pub counted : Bool → Bool → ℕ → Counts → Counts
-counted x y q c =
-    record {
-      blocks = c .blocks + pick x 1 0;
-      bound = c .bound + q;
-      inner = c .inner + pick y 1 0;
-      «inner_bound» = c .«inner_bound» + pick y q 0;
-      added = c .added + pick y (pick (eqb q 0) 3 (4 * q + 5)) 0;
-    }
-
--- How large the counts of an accepted table are.
-pub record Small (c : Counts) : Type 0 where
-  pub blocks-le : c .blocks ≤ limit
-  pub bound-le : c .bound ≤ limit
-  pub inner-le : c .inner ≤ limit
-  pub inner-bound-le : c .«inner_bound» ≤ limit
-  pub added-le : c .added ≤ 9 * limit
-
 module _ (t : Table) where
   added-by-le : (i : ℕ) → addedBy t i ≤ 4 * count t i + 5
   unfolding addedBy
@@ -87,58 +72,141 @@ module _ (t : Table) where
   unfolding innerBoundBelow boundBelow
   inner-bound-below n = sum-mono _ (count t) n (λ j h. pick-le (inner t j) (count t j) 0 (omega arith))
 
-  pub counts-none : (c : Counts) → c .blocks ≡ 0 → c .bound ≡ 0 → c .inner ≡ 0 → c .«inner_bound» ≡ 0 → c .added ≡ 0 → CountsBelow t 0 c
-  unfolding sum boundBelow innerBelow innerBoundBelow
-  counts-none c b q n m a = record { blocks-is = b; bound-is = q; inner-is = n; inner-bound-is = m; added-is = a }
+  level-le : (x : ℕ) → x < t .size → level t x ≤ levels t
+  unfolding levels
+  level-le x h = highest-ge (level t) (t .size) x h
 
-  counts-step : (i : ℕ) (c : Counts) → CountsBelow t i c
-      → CountsBelow t (suc i) (counted (isBlock (t .node i)) (inner t i) (count t i) c)
-  unfolding sum boundBelow innerBelow innerBoundBelow addedBy
-  counts-step i c s =
+  pub counts-none : (c : Counts) → c .blocks ≡ 0 → c .bound ≡ 0 → c .inner ≡ 0 → c .«inner_bound» ≡ 0 → c .added ≡ 0 → c .deepest ≡ 0
+      → CountsFrom t (t .size) c
+  unfolding blockCount boundCount
+  counts-none c b q n m a d =
       record {
-        blocks-is = omega (arith, s .blocks-is);
-        bound-is = omega (arith, s .bound-is);
-        inner-is = omega (arith, s .inner-is);
-        inner-bound-is = omega (arith, s .inner-bound-is);
-        added-is = omega (arith, s .added-is);
+        blocks-is = omega (arith, b);
+        bound-is = omega (arith, q);
+        inner-is = omega (arith, n);
+        inner-bound-is = omega (arith, m);
+        added-is = omega (arith, a);
+        deepest-le = omega (arith, d);
+        deepest-from = λ x k l. absurd (omega arith);
       }
 
   -- no count is large
-  counts-le : (i : ℕ) (c : Counts) → i ≤ t .size → t .size ≤ limit → boundBelow t (t .size) ≤ limit → CountsBelow t i c → Small c
-  unfolding boundBelow innerBelow
-  counts-le i c h k l s =
-      let g = sum-grows (count t) i (t .size) h in
+  counts-le : (i : ℕ) (c : Counts) → t .size ≤ limit → boundBelow t (t .size) ≤ limit → CountsFrom t i c → Small c
+  unfolding blockCount boundCount innerBelow
+  counts-le i c k l s =
       record {
-        blocks-le = omega (arith, s .blocks-is, ones-le (λ j. isBlock (t .node j)) i);
+        blocks-le = omega (arith, s .blocks-is, ones-le (λ j. isBlock (t .node j)) (t .size));
         bound-le = omega (arith, s .bound-is);
-        inner-le = omega (arith, s .inner-is, ones-le (inner t) i);
-        inner-bound-le = omega (arith, s .inner-bound-is, inner-bound-below i);
-        added-le = omega (arith, s .added-is, added-below i);
+        inner-le = omega (arith, s .inner-is, ones-le (inner t) (t .size));
+        inner-bound-le = omega (arith, s .inner-bound-is, inner-bound-below (t .size));
+        added-le = omega (arith, s .added-is, added-below (t .size));
       }
 
-  pub counts-end : (c : Counts) → CountsBelow t (t .size) c → BlockCounts t c
-  unfolding blockCount boundCount
-  counts-end c s = record { blocks-is = s .blocks-is; bound-is = s .bound-is; inner-is = s .inner-is; inner-bound-is = s .inner-bound-is; added-is = s .added-is }
+  -- once all nodes are passed
+  pub counts-end : (i : ℕ) (c : Counts) → i ≡ 0 → CountsFrom t i c → BlockCounts t c
+  unfolding sum boundBelow innerBelow innerBoundBelow levels
+  counts-end i c z s =
+      let s' : CountsFrom t 0 c = rw z at s in
+      let g = highest-le (level t) (t .size) (c .deepest) (λ x h. s' .deepest-from x (omega arith) h) in
+      record {
+        blocks-is = omega (arith, s' .blocks-is);
+        bound-is = omega (arith, s' .bound-is);
+        inner-is = omega (arith, s' .inner-is);
+        inner-bound-is = omega (arith, s' .inner-bound-is);
+        added-is = omega (arith, s' .added-is);
+        deepest-is = omega (arith, s' .deepest-le);
+      }
+
+  -- what holds of node i and of those above it
+  from-here : (P : ℕ → Type 0) (i : ℕ) → P i → ((x : ℕ) → suc i ≤ x → x < t .size → P x) → (x : ℕ) → i ≤ x → x < t .size → P x
+  from-here P i p q x k l = go (look (eqb x i))
+    where
+      go : Is (eqb x i) → P x
+      go (is-true e) = subst P (sym (eqb-true x i e)) p
+      go (is-false e) =
+          let d = eqb-false x i e in q x (omega arith) l
+
+  -- node i, which is no block, the root block or an inner block
+  module _ (tree : Tree t) (i : ℕ) (h : i < t .size) (c : Counts) (s : CountsFrom t (suc i) c) where
+    -- a node that is no inner block is no deeper than its parent
+    outer-level : inner t i ≡ false → level t i ≤ c .deepest
+    outer-level n = go (look (eqb (suc i) (t .size)))
+      where
+        go : Is (eqb (suc i) (t .size)) → level t i ≤ c .deepest
+        go (is-true e) = omega (arith, level-root t tree i (eqb-true _ _ e))
+        go (is-false e) =
+            let d = eqb-false (suc i) (t .size) e in
+            let l : suc i < t .size = omega arith in
+            let p = s .deepest-from (parent t i) (omega (arith, parent-higher t tree i l)) (parent-lt t tree i l) in
+            omega (arith, level-step t tree i l, pick-no {A = ℕ} (inner t i) 1 0 n)
+
+    counts-plain : isBlock (t .node i) ≡ false → CountsFrom t i c
+    unfolding sum boundBelow innerBelow innerBoundBelow addedBy count
+    counts-plain e =
+        let n = outer-plain t i e in
+        record {
+          blocks-is = omega (arith, s .blocks-is, pick-no {A = ℕ} (isBlock (t .node i)) 1 0 e);
+          bound-is = omega (arith, s .bound-is, bound-none (t .node i) e);
+          inner-is = omega (arith, s .inner-is, pick-no {A = ℕ} (inner t i) 1 0 n);
+          inner-bound-is = omega (arith, s .inner-bound-is, pick-no {A = ℕ} (inner t i) (count t i) 0 n);
+          added-is = omega (arith, s .added-is, pick-no {A = ℕ} (inner t i) (pick (eqb (count t i) 0) 3 (4 * count t i + 5)) 0 n);
+          deepest-le = s .deepest-le;
+          deepest-from = from-here (λ x. level t x ≤ c .deepest) i (outer-level n) (s .deepest-from);
+        }
+
+    counts-root : isBlock (t .node i) ≡ true → suc i ≡ t .size → CountsFrom t i (withRoot (count t i) c)
+    unfolding sum boundBelow innerBelow innerBoundBelow addedBy
+    counts-root e r =
+        let n = outer-root t i r in
+        record {
+          blocks-is = omega (arith, s .blocks-is, pick-yes {A = ℕ} (isBlock (t .node i)) 1 0 e);
+          bound-is = omega (arith, s .bound-is);
+          inner-is = omega (arith, s .inner-is, pick-no {A = ℕ} (inner t i) 1 0 n);
+          inner-bound-is = omega (arith, s .inner-bound-is, pick-no {A = ℕ} (inner t i) (count t i) 0 n);
+          added-is = omega (arith, s .added-is, pick-no {A = ℕ} (inner t i) (pick (eqb (count t i) 0) 3 (4 * count t i + 5)) 0 n);
+          deepest-le = s .deepest-le;
+          deepest-from = from-here (λ x. level t x ≤ c .deepest) i (outer-level n) (s .deepest-from);
+        }
+
+    counts-inner : isBlock (t .node i) ≡ true → inner t i ≡ true → CountsFrom t i (withInner (count t i) (level t i) c)
+    unfolding sum boundBelow innerBelow innerBoundBelow addedBy
+    counts-inner e n =
+        record {
+          blocks-is = omega (arith, s .blocks-is, pick-yes {A = ℕ} (isBlock (t .node i)) 1 0 e);
+          bound-is = omega (arith, s .bound-is);
+          inner-is = omega (arith, s .inner-is, pick-yes {A = ℕ} (inner t i) 1 0 n);
+          inner-bound-is = omega (arith, s .inner-bound-is, pick-yes {A = ℕ} (inner t i) (count t i) 0 n);
+          added-is = omega (arith, s .added-is, pick-yes {A = ℕ} (inner t i) (pick (eqb (count t i) 0) 3 (4 * count t i + 5)) 0 n);
+          deepest-le = omega (arith, s .deepest-le, level-le i h);
+          deepest-from = from-here (λ x. level t x ≤ max (c .deepest) (level t i)) i (omega arith) (λ x k l. omega (arith, s .deepest-from x k l));
+        }
 
 -- The same of an accepted table.
 module _ (ws ls : List ℕ) (ok : verdict ws ls ≡ accepted) (i : ℕ) (h : i < nodeCount ws) where
-  pub count-none : isBlock (nodeAt ws ls i) ≡ false → 0 ≡ count (tableOf ws ls) i
-  unfolding count tableOf
-  count-none e = sym (bound-none (nodeAt ws ls i) e)
-
-  pub count-read : (w : NodeWords) → ReadAt ws i w → isBlock (nodeAt ws ls i) ≡ true → w .b ≡ count (tableOf ws ls) i
+  count-read : (w : NodeWords) → ReadAt ws i w → isBlock (nodeAt ws ls i) ≡ true → w .b ≡ count (tableOf ws ls) i
   unfolding countAt isBlockKind
   count-read w r e =
       let k : (eqb (field ws i 0) 5 || eqb (field ws i 0) 6) ≡ true = rw (r .0) at (block-read ws ls i w r ∙ e) in
       r .2 ∙ sym (count-at ws ls i (λ b. accepted-holds ws ls ok .fits i h b) ∙ pick-yes _ _ _ k)
 
-  module _ (c : Counts) (s : CountsBelow (tableOf ws ls) i c) (x y : Bool) (q : ℕ)
-      (ex : x ≡ isBlock (nodeAt ws ls i)) (ey : y ≡ inner (tableOf ws ls) i) (eq : q ≡ count (tableOf ws ls) i) where
-    pub node-counted : CountsBelow (tableOf ws ls) (i + 1) (counted x y q c)
+  module _ (c : Counts) (s : CountsFrom (tableOf ws ls) (i + 1) c) where
+    pub plain-counted : isBlock (nodeAt ws ls i) ≡ false → CountsFrom (tableOf ws ls) i c
     unfolding tableOf
-    node-counted = rw (add-one i, ex, ey, eq) (counts-step (tableOf ws ls) i c s)
+    plain-counted e = counts-plain (tableOf ws ls) (accepted-tree ws ls ok) i h c (rw add-one at s) e
 
-    pub counted-small : Small (counted x y q c)
-    unfolding tableOf
-    counted-small =
-        counts-le (tableOf ws ls) (i + 1) _ (omega arith) (nodes-few ws ls ok) (accepted-holds ws ls ok .counts-limit) node-counted
+    module _ (w : NodeWords) (r : ReadAt ws i w) (e : isBlock (nodeAt ws ls i) ≡ true) where
+      pub root-counted : i + 1 ≡ nodeCount ws → CountsFrom (tableOf ws ls) i (withRoot (w .b) c)
+      unfolding tableOf
+      root-counted z =
+          rw (count-read w r e)
+          (counts-root (tableOf ws ls) (accepted-tree ws ls ok) i h c (rw add-one at s) e (rw add-one at z))
+
+      pub inner-counted : (v : ℕ) → (i + 1 ≡ nodeCount ws → ⊥) → v ≡ level (tableOf ws ls) i → CountsFrom (tableOf ws ls) i (withInner (w .b) v c)
+      unfolding tableOf
+      inner-counted v n q =
+          rw (q, count-read w r e)
+          (counts-inner (tableOf ws ls) (accepted-tree ws ls ok) i h c (rw add-one at s) e (inner-rest (tableOf ws ls) i e (rw add-one at n)))
+
+  pub counted-small : (c : Counts) → CountsFrom (tableOf ws ls) i c → Small c
+  unfolding tableOf
+  counted-small c s = counts-le (tableOf ws ls) i c (nodes-few ws ls ok) (accepted-holds ws ls ok .counts-limit) s

@@ -1,6 +1,6 @@
 -- Blocks and operands of a table, from the words of its nodes.
 -- Assumes nothing.
-use mathlib.Core.Path.{_≡_, sym, _∙_}
+use mathlib.Core.Path.{_≡_, sym, _∙_, ap}
 use mathlib.Core.Bool.{true, false, _||_}
 use mathlib.Core.List.{List, [], _∷_}
 use Prim.Native.Nat.{ℕ, _<_, _≤_}
@@ -55,6 +55,10 @@ module _ (ws ls : List ℕ) (i : ℕ) (n : NodeWords) (r : ReadAt ws i n) where
   pub block-read : (eqb (n .kind) 5 || eqb (n .kind) 6) ≡ isBlock (nodeAt ws ls i)
   unfolding nodeAt
   block-read = rw (r .0) (sym (block-by ls (field ws i 0) (field ws i 1) (field ws i 2) (field ws i 3) (kind-of (field ws i 0))))
+
+  -- a kind that is no block's
+  pub plain-read : (k : ℕ) → n .kind ≡ k → (eqb k 5 || eqb k 6) ≡ false → isBlock (nodeAt ws ls i) ≡ false
+  plain-read k e f = sym block-read ∙ ap (λ j. eqb j 5 || eqb j 6) e ∙ f
 
   pub negation-read : n .kind ≡ 3 → operands (nodeAt ws ls i) ≡ n .a ∷ []
   unfolding nodeAt nodeOf pick operands

@@ -1,17 +1,17 @@
 -- The pass that fills parent blocks and levels, step by step.
 -- Assumes nothing.
 use mathlib.Core.Path.{_≡_, refl, sym, _∙_, ap, subst}
-use mathlib.Core.Bool.{Bool, true, false}
-use mathlib.Core.List.{List}
-use Prim.Native.Nat.{ℕ, suc, _+_, _-_, _<_, _≤_, max}
+use mathlib.Core.Bool.{Bool, true, false, _&&_}
+use mathlib.Core.List.{List, [], _∷_}
+use Prim.Native.Nat.{ℕ, suc, _+_, _-_, _<_, _≤_}
+use native.Mathlib.Numerals.{add-one}
 use native.Mathlib.Omega.{arith}
 use lib.Dec.{eqb}
 use lib.ListN.{length, getD, set}
-use lib.Seq.{getD-set-same, getD-set-other}
-use borrow.Author.Tests.{eqb-true, eqb-false}
+use lib.Seq.{getD-set-same}
+use borrow.Author.Tests.{eqb-true, eqb-false, eq-eqb, ne-eqb}
 use Rattle.lists.specs.Choice.{pick, pick-yes, pick-no, Is, is-true, is-false, look}
 use Rattle.lists.specs.Members.{mem}
-use Rattle.lists.specs.Parts.{highest}
 use Rattle.lists.proofs.Search.{lowest-holds}
 use Rattle.lists.proofs.Parts.{highest-le}
 use Rattle.formula.specs.Node.{Table, operands, isBlock}
@@ -20,7 +20,7 @@ use Rattle.formula.specs.Tree.{Tree}
 use Rattle.table_check.specs.Verdict.{limit, verdict, accepted}
 use Rattle.prenex_form.specs.Scope.{parent, inner, level}
 use Rattle.prenex_form.specs.Levels.{levels}
-use Rattle.prenex_form.proofs.Paths.{parent-is, parent-lt, parent-higher, root-parent, climb, level-root, level-step, inner-lt}
+use Rattle.prenex_form.proofs.Paths.{parent-is, parent-lt, parent-higher, root-parent, climb, level-root, level-step}
 use Rattle.arrays.specs.Held.{enclosing, Parents, NodeLevels}
 use Rattle.arrays.proofs.Enclosing.{enclosing-root, enclosing-step}
 use Rattle.scopes.specs.Passes.{Stored, ScopesFrom}
@@ -35,6 +35,32 @@ one-at-most false = omega arith
 absent : (b : Bool) → (b ≡ true → ⊥) → b ≡ false
 absent true h = absurd (h refl)
 absent false h = refl
+
+and-off : (b : Bool) → (b && false) ≡ false
+and-off true = refl
+and-off false = refl
+
+-- which nodes are inner blocks
+module _ (t : Table) (i : ℕ) where
+  pub outer-plain : isBlock (t .node i) ≡ false → inner t i ≡ false
+  unfolding inner
+  outer-plain e = rw e
+
+  pub outer-root : suc i ≡ t .size → inner t i ≡ false
+  unfolding inner
+  outer-root h = rw (eq-eqb _ _ h) (and-off (isBlock (t .node i)))
+
+  pub inner-rest : isBlock (t .node i) ≡ true → (suc i ≡ t .size → ⊥) → inner t i ≡ true
+  unfolding inner
+  inner-rest e n = rw (e, ne-eqb _ _ n)
+
+-- the same list, at an index that holds the value already
+same-stored : (l : List ℕ) (i v : ℕ) → getD l i 0 ≡ v → (x : ℕ) → getD l x 0 ≡ pick (eqb x i) v (getD l x 0)
+same-stored l i v h x = go (look (eqb x i))
+  where
+    go : Is (eqb x i) → getD l x 0 ≡ pick (eqb x i) v (getD l x 0)
+    go (is-true e) = ap (λ y. getD l y 0) (eqb-true x i e) ∙ h ∙ sym (pick-yes _ _ _ e)
+    go (is-false e) = sym (pick-no _ _ _ e)
 
 module _ (t : Table) (tree : Tree t) where
   -- a node is below its parent, and the root below the table's size
@@ -65,17 +91,13 @@ module _ (t : Table) (tree : Tree t) where
   names-not i x h n = absent _ (λ m. n (parent-is t tree i x h m))
 
   -- each block above a node is at a higher index
-  pub level-bound : (i : ℕ) → i < t .size → level t i + i < t .size
+  level-bound : (i : ℕ) → i < t .size → level t i + i < t .size
   level-bound =
       climb t tree (λ i. level t i + i < t .size)
       (λ i h. omega (arith, level-root t tree i h))
       (λ i h r. omega (arith, level-step t tree i h, parent-higher t tree i h, one-at-most (inner t i)))
 
-  root-outer : (i : ℕ) → suc i ≡ t .size → inner t i ≡ false
-  root-outer i h =
-      absent _ (λ e. let l = inner-lt t tree i (omega arith) e in omega arith)
-
-  pub scopes-start : (r : ℕ) (ps ls : List ℕ) → suc r ≡ t .size → getD ps r 0 ≡ t .size → getD ls r 0 ≡ 0 → ScopesFrom t (t .size) ps ls
+  scopes-start : (r : ℕ) (ps ls : List ℕ) → suc r ≡ t .size → getD ps r 0 ≡ t .size → getD ls r 0 ≡ 0 → ScopesFrom t (t .size) ps ls
   scopes-start r ps ls h p l =
       record {
         parent-is = λ x k m.
@@ -84,19 +106,20 @@ module _ (t : Table) (tree : Tree t) where
         level-is = λ x k m. absurd (omega arith);
         inherited-is = λ x q k m.
             let e : r ≡ x = omega (arith, only-root x k m) in
-            subst (λ y. pick (inner t y) 1 0 + getD ls y 0 ≡ level t y) e (omega (arith, level-root t tree r h, pick-no {A = ℕ} (inner t r) 1 0 (root-outer r h)));
+            subst (λ y. pick (inner t y) 1 0 + getD ls y 0 ≡ level t y) e (omega (arith, level-root t tree r h, pick-no {A = ℕ} (inner t r) 1 0 (outer-root t r h)));
       }
 
   -- node i's level, given that its parent's is known
-  pub own-level-is : (i : ℕ) (ps ls : List ℕ) → i < t .size → ScopesFrom t (i + 1) ps ls → pick (inner t i) 1 0 + getD ls i 0 ≡ level t i
+  own-level-is : (i : ℕ) (ps ls : List ℕ) → i < t .size → ScopesFrom t (i + 1) ps ls → pick (inner t i) 1 0 + getD ls i 0 ≡ level t i
   own-level-is i ps ls h s = s .inherited-is i (omega arith) h (omega (arith, parent-above i h))
 
   -- node i hands its block and its level down to its operands
-  pub scopes-step : (i b : ℕ) (ps ls ps' ls' : List ℕ) → i < t .size → i < length ls → ScopesFrom t (i + 1) ps ls
+  scopes-step : (i b : ℕ) (ps ls ms ps' ls' : List ℕ) → i < t .size → ScopesFrom t (i + 1) ps ls
       → b ≡ pick (isBlock (t .node i)) i (getD ps i 0)
-      → Stored (operands (t .node i)) b ps ps' → Stored (operands (t .node i)) (level t i) (set ls i (level t i)) ls'
+      → ((x : ℕ) → getD ms x 0 ≡ pick (eqb x i) (level t i) (getD ls x 0))
+      → Stored (operands (t .node i)) b ps ps' → Stored (operands (t .node i)) (level t i) ms ls'
       → ScopesFrom t i ps' ls'
-  scopes-step i b ps ls ps' ls' h w s eb sp sl =
+  scopes-step i b ps ls ms ps' ls' h s eb own sp sl =
       record {
         parent-is = λ x k m. parent-at x k m (look (eqb (parent t x) i));
         level-is = λ x k l. level-at x k l (look (eqb x i));
@@ -115,7 +138,7 @@ module _ (t : Table) (tree : Tree t) where
       level-at : (x : ℕ) → i ≤ x → x < t .size → Is (eqb x i) → getD ls' x 0 ≡ level t x
       level-at x k l e =
           let n = names-not i x h (λ q. omega (arith, parent-above x l)) in
-          sl .element-is x ∙ pick-no _ _ _ n ∙ getD-set ls i (level t i) x w ∙ go e
+          sl .element-is x ∙ pick-no _ _ _ n ∙ own x ∙ go e
         where
           go : Is (eqb x i) → pick (eqb x i) (level t i) (getD ls x 0) ≡ level t x
           go (is-true e) = pick-yes _ _ _ e ∙ ap (level t) (sym (eqb-true x i e))
@@ -129,7 +152,7 @@ module _ (t : Table) (tree : Tree t) where
           omega (arith, g, level-step t tree x (omega arith), ap (level t) p)
       inherited-at x q k m (is-false e) =
           let d = eqb-false (parent t x) i e in
-          let g = sl .element-is x ∙ pick-no _ _ _ (names-not i x h d) ∙ getD-set-other ls i x (level t i) 0 (λ z. omega arith) in
+          let g = sl .element-is x ∙ pick-no _ _ _ (names-not i x h d) ∙ own x ∙ pick-no _ _ _ (ne-eqb x i (λ z. omega arith)) in
           omega (arith, g, s .inherited-is x (omega arith) k (omega arith))
 
   pub scopes-end : (i : ℕ) (ps ls : List ℕ) → i ≡ 0 → ScopesFrom t i ps ls → Parents t ps × NodeLevels t ls
@@ -137,20 +160,6 @@ module _ (t : Table) (tree : Tree t) where
     record { parent-is = λ x h. s .parent-is x h (omega arith) },
     record { level-is = λ x h. s .level-is x (omega arith) h },
   )
-
--- the highest so far and of what is left is the highest of all
-highest-last : (f : ℕ → ℕ) (k : ℕ) → highest f (suc k) ≡ max (highest f k) (f k)
-unfolding highest
-highest-last f k = refl
-
-pub deepest-step : (f : ℕ → ℕ) (i d v w : ℕ) → 0 < i → w ≡ f (i - 1) → v ≡ max d w → max v (highest f (i - 1)) ≡ max d (highest f i)
-deepest-step f i d v w h p q =
-    let e : suc (i - 1) ≡ i = omega arith in
-    omega (arith, highest-last f (i - 1), ap (highest f) e)
-
-pub deepest-end : (f : ℕ → ℕ) (i d n : ℕ) → i ≡ 0 → max d (highest f i) ≡ n → d ≡ n
-unfolding highest
-deepest-end f i d n e h = omega (arith, ap (highest f) e)
 
 -- The same of an accepted table.
 module _ (ws ls : List ℕ) (ok : verdict ws ls ≡ accepted) (i : ℕ) (h : i < nodeCount ws) where
@@ -162,15 +171,43 @@ module _ (ws ls : List ℕ) (ok : verdict ws ls ≡ accepted) (i : ℕ) (h : i <
   unfolding tableOf
   inherited-small ps vs s = omega (arith, own-level-is (tableOf ws ls) (accepted-tree ws ls ok) i ps vs h s, level-small)
 
-  pub node-filled : (b v : ℕ) (ps vs ps' vs' : List ℕ) → length vs ≡ limit → ScopesFrom (tableOf ws ls) (i + 1) ps vs
-      → b ≡ pick (isBlock (nodeAt ws ls i)) i (getD ps i 0) → v ≡ pick (inner (tableOf ws ls) i) 1 0 + getD vs i 0
-      → Stored (operands (nodeAt ws ls i)) b ps ps' → Stored (operands (nodeAt ws ls i)) v (set vs i v) vs'
-      → (v ≡ level (tableOf ws ls) i) × ScopesFrom (tableOf ws ls) i ps' vs'
-  unfolding tableOf
-  node-filled b v ps vs ps' vs' w s eb ev sp sv =
-      let tree = accepted-tree ws ls ok in
-      let e : v ≡ level (tableOf ws ls) i = ev ∙ own-level-is (tableOf ws ls) tree i ps vs h s in
-      (e, scopes-step (tableOf ws ls) tree i b ps vs ps' vs' h (omega (arith, nodes-few ws ls ok)) s eb sp (rw e at sv))
+  -- what node i hands down, by its kind
+  module _ (ps vs : List ℕ) (s : ScopesFrom (tableOf ws ls) (i + 1) ps vs) where
+    own : pick (inner (tableOf ws ls) i) 1 0 + getD vs i 0 ≡ level (tableOf ws ls) i
+    unfolding tableOf
+    own = own-level-is (tableOf ws ls) (accepted-tree ws ls ok) i ps vs h s
+
+    outer-own : inner (tableOf ws ls) i ≡ false → getD vs i 0 ≡ level (tableOf ws ls) i
+    outer-own n = omega (arith, own, pick-no {A = ℕ} (inner (tableOf ws ls) i) 1 0 n)
+
+    pub inner-own : isBlock (nodeAt ws ls i) ≡ true → (i + 1 ≡ nodeCount ws → ⊥) → getD vs i 0 + 1 ≡ level (tableOf ws ls) i
+    unfolding tableOf
+    inner-own e n =
+        let y = inner-rest (tableOf ws ls) i e (rw add-one at n) in
+        omega (arith, own, pick-yes {A = ℕ} (inner (tableOf ws ls) i) 1 0 y)
+
+    pub plain-filled : (xs ps' vs' : List ℕ) → operands (nodeAt ws ls i) ≡ xs → isBlock (nodeAt ws ls i) ≡ false
+        → Stored xs (getD ps i 0) ps ps' → Stored xs (getD vs i 0) vs vs' → ScopesFrom (tableOf ws ls) i ps' vs'
+    unfolding tableOf
+    plain-filled xs ps' vs' q e sp sv =
+        let l = outer-own (outer-plain (tableOf ws ls) i e) in
+        scopes-step (tableOf ws ls) (accepted-tree ws ls ok) i (getD ps i 0) ps vs vs ps' vs' h s (sym (pick-no _ _ _ e)) (same-stored vs i _ l) (rw q sp) (rw (q, ← l) sv)
+
+    pub root-filled : (x : ℕ) (ps' vs' : List ℕ) → operands (nodeAt ws ls i) ≡ x ∷ [] → isBlock (nodeAt ws ls i) ≡ true → i + 1 ≡ nodeCount ws
+        → Stored (x ∷ []) i ps ps' → Stored (x ∷ []) (getD vs i 0) vs vs' → ScopesFrom (tableOf ws ls) i ps' vs'
+    unfolding tableOf
+    root-filled x ps' vs' q e z sp sv =
+        let l = outer-own (outer-root (tableOf ws ls) i (rw add-one at z)) in
+        scopes-step (tableOf ws ls) (accepted-tree ws ls ok) i i ps vs vs ps' vs' h s (sym (pick-yes _ _ _ e)) (same-stored vs i _ l) (rw q sp) (rw (q, ← l) sv)
+
+    pub inner-filled : (x : ℕ) (ps' vs' : List ℕ) → operands (nodeAt ws ls i) ≡ x ∷ [] → isBlock (nodeAt ws ls i) ≡ true
+        → (i + 1 ≡ nodeCount ws → ⊥) → length vs ≡ limit
+        → Stored (x ∷ []) i ps ps' → Stored (x ∷ []) (getD vs i 0 + 1) (set vs i (getD vs i 0 + 1)) vs' → ScopesFrom (tableOf ws ls) i ps' vs'
+    unfolding tableOf
+    inner-filled x ps' vs' q e n w sp sv =
+        let l = inner-own e n in
+        scopes-step (tableOf ws ls) (accepted-tree ws ls ok) i i ps vs (set vs i (getD vs i 0 + 1)) ps' vs' h s (sym (pick-yes _ _ _ e))
+        (λ x. getD-set vs i (getD vs i 0 + 1) x (omega (arith, nodes-few ws ls ok)) ∙ ap (λ k. pick (eqb x i) k (getD vs x 0)) l) (rw q sp) (rw (q, ← l) sv)
 
 module _ (ws ls : List ℕ) (ok : verdict ws ls ≡ accepted) where
   pub levels-small : levels (tableOf ws ls) ≤ limit
@@ -178,10 +215,10 @@ module _ (ws ls : List ℕ) (ok : verdict ws ls ≡ accepted) where
   levels-small = highest-le (level (tableOf ws ls)) (nodeCount ws) limit (λ i h. omega (arith, level-small ws ls ok i h))
 
   -- the root has no parent block and is at level 0
-  pub root-filled : (ps vs : List ℕ) → length ps ≡ limit → length vs ≡ limit
+  pub scopes-begun : (ps vs : List ℕ) → length ps ≡ limit → length vs ≡ limit
       → ScopesFrom (tableOf ws ls) (nodeCount ws) (set ps (nodeCount ws - 1) (nodeCount ws)) (set vs (nodeCount ws - 1) 0)
   unfolding tableOf
-  root-filled ps vs p v =
+  scopes-begun ps vs p v =
       let n = nodes-few ws ls ok in
       let m = nodes-some ws ls ok in
       scopes-start (tableOf ws ls) (accepted-tree ws ls ok) (nodeCount ws - 1) _ _ (omega arith)

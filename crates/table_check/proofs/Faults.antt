@@ -1,24 +1,24 @@
 -- Laws of the verdict's steps: a node's fault by the tests of the code, and the verdict by its two passes.
 -- Assumes nothing.
 use mathlib.Core.Path.{_≡_, refl, sym, _∙_, ap}
-use mathlib.Core.Bool.{Bool, true, false, not}
+use mathlib.Core.Bool.{Bool, true, false, not, _&&_, _||_}
 use mathlib.Core.List.{List}
 use Prim.Native.Nat.{ℕ, _+_, _-_, _%_, _≤_, _<_}
 use native.Mathlib.Numerals.{add-one}
 use native.Mathlib.Omega.{arith}
-use lib.Dec.{eqb, ltb}
+use lib.Dec.{eqb, leb, ltb}
 use lib.ListN.{length}
 use borrow.Author.Count.{below-none, below-more}
-use borrow.Author.Tests.{eqb-true, eqb-false, eq-eqb, ne-eqb, ltb-true, ltb-false, lt-ltb, le-ltb, not-true, not-false}
+use borrow.Author.Tests.{eqb-true, eqb-false, eq-eqb, ne-eqb, ltb-true, ltb-false, lt-ltb, le-ltb, le-leb, lt-leb, not-true, not-false}
 use Rattle.lists.specs.Choice.{pick, pick-yes, pick-no, Is, is-true, is-false, look, or-neither-left, or-neither-right}
 use Rattle.lists.specs.Search.{lowest}
 use Rattle.lists.specs.Parts.{sum}
 use Rattle.lists.proofs.Search.{lowest-holds, lowest-before, lowest-is, lowest-none}
 use Rattle.formula.specs.Words.{width, nodeCount, field}
-use Rattle.table_check.specs.Verdict.{limit, isBlockKind, partialNode, tooLarge, wellFormed, forwardReference, rangePastEnd, countAt, tooManyVariables, badVariable, nodeFault, refusal, accepted, verdict}
-use Rattle.table_check.specs.Steps.{goodRange, blockFault, nodesVerdict, treeVerdict}
+use Rattle.table_check.specs.Verdict.{limit, isNumber, isBlockKind, partialNode, tooLarge, wellFormed, forwardReference, rangePastEnd, countAt, tooManyVariables, badVariable, nodeFault, refusal, accepted, verdict}
+use Rattle.table_check.specs.Steps.{goodRange, wordsFault, blockFault, blockNodeFault, nodesVerdict, treeVerdict}
 use Rattle.table_check.specs.declared.Verdict.{Verdict}
-use Rattle.table_check.proofs.Named.{and-off, not-once-is}
+use Rattle.table_check.proofs.Named.{block-elim, not-once-is}
 
 -- a choice between a refusal's number and what comes after, where neither applies
 clear : (t : Bool) (n rest : ℕ) → 0 < n → pick t n rest ≡ 0 → (t ≡ false) × (rest ≡ 0)
@@ -30,9 +30,13 @@ pub count-block : (ws : List ℕ) (i : ℕ) → isBlockKind (field ws i 0) ≡ t
 unfolding countAt
 count-block ws i k = pick-yes _ _ _ k
 
-pub count-none : (ws : List ℕ) (i : ℕ) → isBlockKind (field ws i 0) ≡ false → countAt ws i ≡ 0
+count-none : (ws : List ℕ) (i : ℕ) → isBlockKind (field ws i 0) ≡ false → countAt ws i ≡ 0
 unfolding countAt
 count-none ws i k = pick-no _ _ _ k
+
+-- a node that is no block binds nothing
+pub binds-none : (ws : List ℕ) (i before kind : ℕ) → field ws i 0 ≡ kind → isBlockKind kind ≡ false → before + countAt ws i ≡ before
+binds-none ws i before kind e k = omega (arith, count-none ws i (rw (← e) at k))
 
 -- A block above blocks that bind `before` variables.
 module _ (ls : List ℕ) (before first count : ℕ) where
@@ -52,58 +56,100 @@ module _ (ls : List ℕ) (before first count : ℕ) where
   unfolding blockFault
   block-none f m g = pick-no _ _ _ (le-ltb _ _ f) ∙ pick-no _ _ _ (le-ltb _ _ m) ∙ pick-no _ _ _ (ap not g)
 
--- the first two tests of node i
-abbrev pub formed : List ℕ → ℕ → Bool
-formed ws i = wellFormed (field ws i 0) (field ws i 1) (field ws i 2) (field ws i 3)
+-- The words of a node that is no block, by kind.
+module _ (i a b c : ℕ) where
+  pub variable-sound : (isNumber a && eqb b 0 && eqb c 0) ≡ true → wordsFault i 2 a b c ≡ 0
+  unfolding wordsFault wellFormed forwardReference isBlockKind pick
+  variable-sound h = rw h
 
-abbrev pub forward : List ℕ → ℕ → Bool
-forward ws i = forwardReference i (field ws i 0) (field ws i 1) (field ws i 2) (field ws i 3)
+  pub variable-malformed : (isNumber a && eqb b 0 && eqb c 0) ≡ false → wordsFault i 2 a b c ≡ 3
+  unfolding wordsFault wellFormed forwardReference isBlockKind pick
+  variable-malformed h = rw h
+
+  pub constant-sound : (leb a 1 && eqb b 0 && eqb c 0) ≡ true → wordsFault i 1 a b c ≡ 0
+  unfolding wordsFault wellFormed forwardReference isBlockKind pick
+  constant-sound h = rw h
+
+  pub constant-malformed : (leb a 1 && eqb b 0 && eqb c 0) ≡ false → wordsFault i 1 a b c ≡ 3
+  unfolding wordsFault wellFormed forwardReference isBlockKind pick
+  constant-malformed h = rw h
+
+  pub operator-malformed : 15 < a → wordsFault i 4 a b c ≡ 3
+  unfolding wordsFault wellFormed forwardReference isBlockKind pick
+  operator-malformed h = rw (lt-leb a 15 h)
+
+  pub operator-forward : a ≤ 15 → (leb i b || leb i c) ≡ true → wordsFault i 4 a b c ≡ 4
+  unfolding wordsFault wellFormed forwardReference isBlockKind pick
+  operator-forward h f = rw (le-leb a 15 h, f)
+
+  pub operator-sound : a ≤ 15 → (leb i b || leb i c) ≡ false → wordsFault i 4 a b c ≡ 0
+  unfolding wordsFault wellFormed forwardReference isBlockKind pick
+  operator-sound h f = rw (le-leb a 15 h, f)
+
+  pub negation-malformed : (eqb b 0 && eqb c 0) ≡ false → wordsFault i 3 a b c ≡ 3
+  unfolding wordsFault wellFormed forwardReference isBlockKind pick
+  negation-malformed h = rw h
+
+  pub negation-forward : (eqb b 0 && eqb c 0) ≡ true → i ≤ a → wordsFault i 3 a b c ≡ 4
+  unfolding wordsFault wellFormed forwardReference isBlockKind pick
+  negation-forward h f = rw (h, le-leb i a f)
+
+  pub negation-sound : (eqb b 0 && eqb c 0) ≡ true → a < i → wordsFault i 3 a b c ≡ 0
+  unfolding wordsFault wellFormed forwardReference isBlockKind pick
+  negation-sound h f = rw (h, lt-leb i a f)
+
+-- A block at node i, above blocks that bind `before` variables.
+module _ (ls : List ℕ) (i before first count body : ℕ) where
+  pub block-forward : i ≤ body → blockNodeFault ls i before first count body ≡ 4
+  unfolding blockNodeFault
+  block-forward h = pick-yes _ _ _ (le-leb i body h)
+
+  pub block-backward : body < i → blockNodeFault ls i before first count body ≡ blockFault ls before first count
+  unfolding blockNodeFault
+  block-backward h = pick-no _ _ _ (lt-leb i body h)
+
+-- A block's words are well formed, and it names its body.
+module _ (kind a b c : ℕ) (k : isBlockKind kind ≡ true) where
+  block-formed : wellFormed kind a b c ≡ true
+  unfolding wellFormed isBlockKind
+  block-formed = block-elim (λ n. wellFormed n a b c ≡ true) kind k refl refl
+
+  block-names : (i : ℕ) → forwardReference i kind a b c ≡ leb i c
+  unfolding forwardReference isBlockKind
+  block-names i = block-elim (λ n. forwardReference i n a b c ≡ leb i c) kind k refl refl
 
 -- Node i of a table.
 module _ (ws ls : List ℕ) (i : ℕ) where
-  pub fault-malformed : formed ws i ≡ false → nodeFault ws ls i ≡ 3
-  unfolding nodeFault
-  fault-malformed w = pick-yes _ _ _ (ap not w)
+  -- a node that is no block has only refusals 3 and 4
+  pub fault-words : (kind : ℕ) → field ws i 0 ≡ kind → isBlockKind kind ≡ false → nodeFault ws ls i ≡ wordsFault i kind (field ws i 1) (field ws i 2) (field ws i 3)
+  unfolding nodeFault wordsFault rangePastEnd tooManyVariables badVariable pick
+  fault-words kind e k = rw (e, k)
 
-  pub fault-forward : formed ws i ≡ true → forward ws i ≡ true → nodeFault ws ls i ≡ 4
-  unfolding nodeFault
-  fault-forward w f = pick-no _ _ _ (ap not w) ∙ pick-yes _ _ _ f
+  pub fault-block : isBlockKind (field ws i 0) ≡ true → nodeFault ws ls i ≡ blockNodeFault ls i (sum (countAt ws) i) (field ws i 1) (field ws i 2) (field ws i 3)
+  unfolding nodeFault rangePastEnd tooManyVariables badVariable blockNodeFault blockFault goodRange
+  fault-block k =
+      pick-no _ _ _ (ap not (block-formed (field ws i 0) (field ws i 1) (field ws i 2) (field ws i 3) k))
+      ∙ rw (block-names (field ws i 0) (field ws i 1) (field ws i 2) (field ws i 3) k i, k)
 
-  pub fault-none : formed ws i ≡ true → forward ws i ≡ false → isBlockKind (field ws i 0) ≡ false → nodeFault ws ls i ≡ 0
-  unfolding nodeFault rangePastEnd tooManyVariables badVariable pick
-  fault-none w f k = pick-no _ _ _ (ap not w) ∙ pick-no _ _ _ f ∙ rw k
-
-  pub fault-block : formed ws i ≡ true → forward ws i ≡ false → isBlockKind (field ws i 0) ≡ true → nodeFault ws ls i ≡ blockFault ls (sum (countAt ws) i) (field ws i 1) (field ws i 2)
-  unfolding nodeFault rangePastEnd tooManyVariables badVariable blockFault goodRange
-  fault-block w f k = pick-no _ _ _ (ap not w) ∙ pick-no _ _ _ f ∙ rw k
+  -- a word that is no kind
+  pub fault-no-kind : (field ws i 0 ≡ 1 → ⊥) → (field ws i 0 ≡ 2 → ⊥) → (field ws i 0 ≡ 3 → ⊥) → (field ws i 0 ≡ 4 → ⊥) → isBlockKind (field ws i 0) ≡ false
+      → nodeFault ws ls i ≡ 3
+  unfolding nodeFault wellFormed
+  fault-no-kind d1 d2 d3 d4 k =
+      pick-yes _ _ _ (rw (ne-eqb (field ws i 0) 1 d1, ne-eqb (field ws i 0) 2 d2, ne-eqb (field ws i 0) 3 d3, ne-eqb (field ws i 0) 4 d4, k) refl)
 
   module _ (none : nodeFault ws ls i ≡ 0) where
-    -- the tests after those two
-    afterForward : ℕ
-    afterForward =
-        pick (rangePastEnd ls (field ws i 0) (field ws i 1) (field ws i 2)) 5
-        (pick (tooManyVariables ws i) 6
-        (pick (badVariable ls (field ws i 0) (field ws i 1) (field ws i 2)) 7
-        0))
-
-    passed-forward : (forward ws i ≡ false) × (afterForward ≡ 0)
-    unfolding nodeFault afterForward
-    passed-forward = clear _ 4 _ (omega arith) (clear _ 3 _ (omega arith) none .1)
-
-    -- operands are lower
-    pub backward : forward ws i ≡ false
-    backward = passed-forward .0
-
     few : isBlockKind (field ws i 0) ≡ true → sum (countAt ws) i + field ws i 2 ≤ limit
-    unfolding afterForward tooManyVariables
-    few k = ltb-false _ _ (and-off _ _ k (clear _ 6 _ (omega arith) (clear _ 5 _ (omega arith) (passed-forward .1) .1) .0))
+    unfolding blockNodeFault blockFault
+    few k =
+        ltb-false _ _ (clear _ 6 _ (omega arith) (clear _ 5 _ (omega arith) (clear _ 4 _ (omega arith) (sym (fault-block k) ∙ none) .1) .1) .0)
 
     counted : Is (isBlockKind (field ws i 0)) → sum (countAt ws) i ≤ limit → sum (countAt ws) i + countAt ws i ≤ limit
     counted (is-true k) h = rw (count-block ws i k) (few k)
     counted (is-false k) h = rw (count-none ws i k) (omega arith)
 
     -- the counts stay within the limit
-    pub counts-fit : sum (countAt ws) i ≤ limit → sum (countAt ws) i + countAt ws i ≤ limit
+    counts-fit : sum (countAt ws) i ≤ limit → sum (countAt ws) i + countAt ws i ≤ limit
     counts-fit = counted (look (isBlockKind (field ws i 0)))
 
 counts-more : (ws : List ℕ) (i : ℕ) → sum (countAt ws) (i + 1) ≡ sum (countAt ws) i + countAt ws i
@@ -121,14 +167,11 @@ unfolding sum
 checked-none ws ls = record { counted = refl; few = omega arith; faultless = below-none (λ j. nodeFault ws ls j ≡ 0) }
 
 -- the count and what node i adds to it
-pub checked-few : (ws ls : List ℕ) (before i count : ℕ) → Checked ws ls before i → nodeFault ws ls i ≡ 0 → count ≡ countAt ws i → before + count ≤ limit
-checked-few ws ls before i count p f e = rw (p .counted, e) (counts-fit ws ls i f (rw (p .counted) at (p .few)))
-
-pub checked-more : (ws ls : List ℕ) (before i count : ℕ) → Checked ws ls before i → nodeFault ws ls i ≡ 0 → count ≡ countAt ws i → Checked ws ls (before + count) (i + 1)
-checked-more ws ls before i count p f e =
+pub checked-more : (ws ls : List ℕ) (before after i : ℕ) → Checked ws ls before i → nodeFault ws ls i ≡ 0 → after ≡ before + countAt ws i → Checked ws ls after (i + 1)
+checked-more ws ls before after i p f e =
     record {
-      counted = rw (p .counted, e) (sym (counts-more ws i));
-      few = checked-few ws ls before i count p f e;
+      counted = rw (e, p .counted) (sym (counts-more ws i));
+      few = rw (e, p .counted) (counts-fit ws ls i f (rw (p .counted) at (p .few)));
       faultless = below-more (λ j. nodeFault ws ls j ≡ 0) i (p .faultless) f;
     }
 
@@ -184,7 +227,7 @@ module _ (ws ls : List ℕ) where
   none-from (passed h e) z i l = eqb-true (nodeFault ws ls i) 0 (not-false _ (lowest-before faulty (nodeCount ws) i (omega arith)))
 
   -- no node has a fault where the first pass accepts
-  pub none-faulty : nodesVerdict ws ls .number ≡ 0 → (i : ℕ) → i < nodeCount ws → nodeFault ws ls i ≡ 0
+  none-faulty : nodesVerdict ws ls .number ≡ 0 → (i : ℕ) → i < nodeCount ws → nodeFault ws ls i ≡ 0
   none-faulty = none-from first-pass
 
   pub verdict-partial : partialNode ws ≡ true → verdict ws ls ≡ refusal 1 0

@@ -1,40 +1,39 @@
 -- Laws of the nodes that a node names, and of how often the nodes of a table name each other.
 -- Assumes nothing.
-use mathlib.Core.Path.{_≡_, refl, sym, _∙_, ap}
-use mathlib.Core.Bool.{Bool, true, false, not, _&&_, _||_}
+use mathlib.Core.Path.{_≡_, refl, sym, _∙_, ap, subst}
+use mathlib.Core.Bool.{Bool, true, false, not}
 use mathlib.Core.List.{List, [], _∷_}
 use Prim.Native.Nat.{ℕ, zero, suc, _+_, _-_, _≤_, _<_}
 use native.Mathlib.Numerals.{add-one}
 use native.Mathlib.Omega.{arith}
-use lib.Dec.{eqb, leb, ltb}
-use lib.ListN.{length, getD, set}
+use lib.Dec.{eqb, ltb}
+use lib.ListN.{length, getD, set, replicate, length-replicate}
 use lib.Seq.{getD-set-same, getD-set-other}
-use borrow.Author.Tests.{eqb-true, eqb-false, eq-eqb, ne-eqb, leb-false, lt-ltb, le-ltb}
-use Rattle.lists.specs.Choice.{pick, pick-yes, pick-no, Is, is-true, is-false, look, clash, or-neither-left, or-neither-right}
+use borrow.Author.Tests.{eqb-true, eqb-false, lt-ltb, le-ltb}
+use Rattle.lists.specs.Choice.{pick, pick-yes, pick-no, Is, is-true, is-false, look}
 use Rattle.lists.specs.Search.{lowest}
-use Rattle.lists.specs.Members.{mem, times}
+use Rattle.lists.specs.Members.{times}
 use Rattle.lists.specs.Parts.{sum}
 use Rattle.lists.proofs.Search.{lowest-cong}
-use Rattle.lists.proofs.Members.{mem-one}
 use Rattle.lists.proofs.Parts.{sum-cong}
 use Rattle.formula.specs.Node.{operands}
 use Rattle.formula.specs.Words.{nodeCount, field, nodeOf, nodeAt, tableOf}
 use Rattle.formula.specs.Tree.{timesNamed}
 use Rattle.formula.proofs.Nodes.{Kind, kind-of, kind-constant, kind-variable, kind-negation, kind-operator, kind-exists, kind-for-all, kind-none}
-use Rattle.table_check.specs.Verdict.{isBlockKind, forwardReference, notNamedOnce, refusal, accepted}
-use Rattle.table_check.specs.Steps.{namedBy, namedBelow, treeVerdict}
+use Rattle.table_check.specs.Verdict.{limit, isBlockKind, notNamedOnce, refusal, accepted}
+use Rattle.table_check.specs.Steps.{namedBy, namedBelow, Counted, Room, treeVerdict}
+use Rattle.table_check.proofs.Arrays.{getD-zeros}
 
--- what a test that is part of a conjunction is, where the other part passes
-pub and-off : (p q : Bool) → p ≡ true → (p && q) ≡ false → q ≡ false
-and-off true q e h = h
-and-off false q e h = clash e refl
+-- a block's kind is one of two
+pub block-elim : (P : ℕ → Type 0) (kind : ℕ) → isBlockKind kind ≡ true → P 5 → P 6 → P kind
+unfolding isBlockKind
+block-elim P kind k p q = go (look (eqb kind 5))
+  where
+    go : Is (eqb kind 5) → P kind
+    go (is-true e) = subst P (sym (eqb-true kind 5 e)) p
+    go (is-false e) = subst P (sym (eqb-true kind 6 (rw e at k))) q
 
-none-of : (p q r : Bool) → (p || q || r) ≡ false → (p ≡ false) × (q ≡ false) × (r ≡ false)
-none-of true q r h = clash refl h
-none-of false true r h = clash refl h
-none-of false false r h = (refl, refl, h)
-
-pub times-none : (x : ℕ) → times x [] ≡ 0
+times-none : (x : ℕ) → times x [] ≡ 0
 unfolding times
 times-none x = refl
 
@@ -50,23 +49,6 @@ pick-le false = omega arith
 pub times-one-le : (x a : ℕ) → times x (a ∷ []) ≤ 1
 unfolding times
 times-one-le x a = omega (arith, pick-le (eqb x a))
-
-mem-none : (x : ℕ) → mem x [] ≡ false
-unfolding mem
-mem-none x = refl
-
-below-one : (x a i : ℕ) → mem x (a ∷ []) ≡ true → leb i a ≡ false → x < i
-below-one x a i m l =
-    let e : x ≡ a = eqb-true x a (sym (mem-one x a) ∙ m) in omega (arith, leb-false i a l)
-
-below-two : (x a b i : ℕ) → mem x (a ∷ b ∷ []) ≡ true → (leb i a || leb i b) ≡ false → x < i
-unfolding mem
-below-two x a b i m l = go (look (eqb x a))
-  where
-    go : Is (eqb x a) → x < i
-    go (is-true e) =
-        let q : x ≡ a = eqb-true x a e in omega (arith, leb-false i a (or-neither-left (leb i a) (leb i b) l))
-    go (is-false e) = below-one x b i (rw e at m) (or-neither-right (leb i a) (leb i b) l)
 
 -- A node with the words kind, a, b, c.
 module _ (kind a b c : ℕ) where
@@ -84,74 +66,32 @@ module _ (kind a b c : ℕ) where
   operands-are : (ls : List ℕ) → operands (nodeOf ls kind a b c) ≡ namedBy kind a b c
   operands-are ls = operands-by-kind ls (kind-of kind)
 
-  pub names-negation : kind ≡ 3 → namedBy kind a b c ≡ a ∷ []
-  unfolding namedBy
-  names-negation e = pick-yes _ _ _ (eq-eqb kind 3 e)
+  pub names-block : isBlockKind kind ≡ true → namedBy kind a b c ≡ c ∷ []
+  unfolding namedBy pick isBlockKind
+  names-block k = block-elim (λ n. namedBy n a b c ≡ c ∷ []) kind k refl refl
 
-  pub names-operator : (kind ≡ 3 → ⊥) → kind ≡ 4 → namedBy kind a b c ≡ b ∷ c ∷ []
-  unfolding namedBy
-  names-operator d e = pick-no _ _ _ (ne-eqb kind 3 d) ∙ pick-yes _ _ _ (eq-eqb kind 4 e)
+  le-by-kind : Kind kind → (x : ℕ) → times x (namedBy kind a b c) ≤ 2
+  unfolding namedBy pick isBlockKind
+  le-by-kind (kind-constant e) x = rw (e, times-none) (omega arith)
+  le-by-kind (kind-variable e) x = rw (e, times-none) (omega arith)
+  le-by-kind (kind-negation e) x = rw e (omega (arith, times-one-le x a))
+  le-by-kind (kind-operator e) x = rw (e, times-two) (omega (arith, times-one-le x b, times-one-le x c))
+  le-by-kind (kind-exists e) x = rw e (omega (arith, times-one-le x c))
+  le-by-kind (kind-for-all e) x = rw e (omega (arith, times-one-le x c))
+  le-by-kind (kind-none e1 e2 e3 e4 e5 e6) x = rw (e3, e4, e5, e6, times-none) (omega arith)
 
-  pub names-block : (kind ≡ 3 → ⊥) → (kind ≡ 4 → ⊥) → isBlockKind kind ≡ true → namedBy kind a b c ≡ c ∷ []
-  unfolding namedBy
-  names-block d e f = pick-no _ _ _ (ne-eqb kind 3 d) ∙ pick-no _ _ _ (ne-eqb kind 4 e) ∙ pick-yes _ _ _ f
+  names-le : (x : ℕ) → times x (namedBy kind a b c) ≤ 2
+  names-le = le-by-kind (kind-of kind)
 
-  pub names-none : (kind ≡ 3 → ⊥) → (kind ≡ 4 → ⊥) → isBlockKind kind ≡ false → namedBy kind a b c ≡ []
-  unfolding namedBy
-  names-none d e f = pick-no _ _ _ (ne-eqb kind 3 d) ∙ pick-no _ _ _ (ne-eqb kind 4 e) ∙ pick-no _ _ _ f
-
-  -- the four cases, with the test that leads to each
-  data Names : Type 0 where
-    negation : eqb kind 3 ≡ true → namedBy kind a b c ≡ a ∷ [] → Names
-    operator : eqb kind 4 ≡ true → namedBy kind a b c ≡ b ∷ c ∷ [] → Names
-    block : isBlockKind kind ≡ true → namedBy kind a b c ≡ c ∷ [] → Names
-    none : namedBy kind a b c ≡ [] → Names
-
-  names-from : Is (eqb kind 3) → Is (eqb kind 4) → Is (isBlockKind kind) → Names
-  names-from (is-true d) e f = negation d (names-negation (eqb-true kind 3 d))
-  names-from (is-false d) (is-true e) f = operator e (names-operator (eqb-false kind 3 d) (eqb-true kind 4 e))
-  names-from (is-false d) (is-false e) (is-true f) =
-      block f (names-block (eqb-false kind 3 d) (eqb-false kind 4 e) f)
-  names-from (is-false d) (is-false e) (is-false f) =
-      none (names-none (eqb-false kind 3 d) (eqb-false kind 4 e) f)
-
-  names : Names
-  names = names-from (look (eqb kind 3)) (look (eqb kind 4)) (look (isBlockKind kind))
-
-  le-by-names : Names → (x : ℕ) → times x (namedBy kind a b c) ≤ 2
-  le-by-names (negation d e) x = rw e (omega (arith, times-one-le x a))
-  le-by-names (operator d e) x = rw (e, times-two) (omega (arith, times-one-le x b, times-one-le x c))
-  le-by-names (block d e) x = rw e (omega (arith, times-one-le x c))
-  le-by-names (none e) x = rw (e, times-none) (omega arith)
-
-  pub names-le : (x : ℕ) → times x (namedBy kind a b c) ≤ 2
-  names-le = le-by-names names
-
-  module _ (i : ℕ) (backward : forwardReference i kind a b c ≡ false) where
-    tests : ((eqb kind 3 && leb i a) ≡ false) × ((eqb kind 4 && (leb i b || leb i c)) ≡ false) × ((isBlockKind kind && leb i c) ≡ false)
-    unfolding forwardReference
-    tests = none-of (eqb kind 3 && leb i a) (eqb kind 4 && (leb i b || leb i c)) (isBlockKind kind && leb i c) backward
-
-    lower-by-names : Names → (x : ℕ) → mem x (namedBy kind a b c) ≡ true → x < i
-    lower-by-names (negation d e) x m = below-one x a i (rw e at m) (and-off (eqb kind 3) (leb i a) d (tests .0))
-    lower-by-names (operator d e) x m =
-        below-two x b c i (rw e at m) (and-off (eqb kind 4) (leb i b || leb i c) d (tests .1))
-    lower-by-names (block d e) x m = below-one x c i (rw e at m) (and-off (isBlockKind kind) (leb i c) d (tests .2))
-    lower-by-names (none e) x m = clash (rw e at m) (mem-none x)
-
-    -- operands and bodies are lower where refusal 4 does not apply
-    pub names-lower : (x : ℕ) → mem x (namedBy kind a b c) ≡ true → x < i
-    names-lower = lower-by-names names
-
-pub named-none : (ws : List ℕ) (x : ℕ) → namedBelow ws x 0 ≡ 0
+named-none : (ws : List ℕ) (x : ℕ) → namedBelow ws x 0 ≡ 0
 unfolding namedBelow sum
 named-none ws x = refl
 
-pub named-more : (ws : List ℕ) (x i : ℕ) → namedBelow ws x (i + 1) ≡ namedBelow ws x i + times x (namedBy (field ws i 0) (field ws i 1) (field ws i 2) (field ws i 3))
+named-more : (ws : List ℕ) (x i : ℕ) → namedBelow ws x (i + 1) ≡ namedBelow ws x i + times x (namedBy (field ws i 0) (field ws i 1) (field ws i 2) (field ws i 3))
 unfolding namedBelow sum
 named-more ws x i = rw add-one
 
-pub named-le : (ws : List ℕ) (x i : ℕ) → namedBelow ws x i ≤ i + i
+named-le : (ws : List ℕ) (x i : ℕ) → namedBelow ws x i ≤ i + i
 unfolding namedBelow sum
 named-le ws x zero = omega arith
 named-le ws x (suc i) =
@@ -169,6 +109,27 @@ name-more named x h y = go (look (eqb y x))
     go (is-false e) =
         rw (pick-no {A = ℕ} (eqb y x) 1 0 e, getD-set-other named x y (getD named x 0 + 1) 0 (eqb-false y x e)) (omega arith)
 
+pub counted-new : (ws : List ℕ) → Counted ws (replicate {A = ℕ} limit 0) 0
+counted-new ws =
+    record { wide = length-replicate {A = ℕ} limit 0; counts = λ x. getD-zeros limit x ∙ sym (named-none ws x) }
+
+-- no node is named more than twice by each node
+pub counted-room : (ws named : List ℕ) (i : ℕ) → i ≤ limit → Counted ws named i → Room named i
+counted-room ws named i l p =
+    record { wide = omega (arith, p .wide); room = λ x. omega (arith, p .counts x, named-le ws x i) }
+
+-- the counts after node i, whose names are added
+pub counted-more : (ws named after : List ℕ) (i kind : ℕ) → field ws i 0 ≡ kind → length after ≡ length named → Counted ws named i
+    → ((x : ℕ) → getD after x 0 ≡ getD named x 0 + times x (namedBy kind (field ws i 1) (field ws i 2) (field ws i 3))) → Counted ws after (i + 1)
+counted-more ws named after i kind k l p h =
+    record { wide = l ∙ p .wide; counts = λ x. rw (← k, p .counts x) at (h x) ∙ sym (named-more ws x i) }
+
+-- the counts after node i, which names none
+pub counted-still : (ws named : List ℕ) (i kind : ℕ) → field ws i 0 ≡ kind → namedBy kind (field ws i 1) (field ws i 2) (field ws i 3) ≡ [] → Counted ws named i
+    → Counted ws named (i + 1)
+counted-still ws named i kind k n p =
+    counted-more ws named named i kind k refl p (λ x. rw (n, times-none) (omega arith))
+
 times-named-is : (ws ls : List ℕ) (x : ℕ) → timesNamed (tableOf ws ls) x ≡ namedBelow ws x (nodeCount ws)
 unfolding timesNamed tableOf nodeAt namedBelow
 times-named-is ws ls x =
@@ -180,9 +141,9 @@ unfolding notNamedOnce
 not-once-is ws ls k = lowest-cong _ _ k (λ j h. ap (λ v. not (eqb v 1)) (times-named-is ws ls j))
 
 -- What an array of the counts says of the table, where j is the lowest node below the last that it does not hold 1 for.
-module _ (ws named : List ℕ) (counted : (x : ℕ) → getD named x 0 ≡ namedBelow ws x (nodeCount ws)) (j : ℕ) (found : j ≡ lowest (λ k. not (eqb (getD named k 0) 1)) (nodeCount ws - 1)) where
+module _ (ws named : List ℕ) (counted : Counted ws named (nodeCount ws)) (j : ℕ) (found : j ≡ lowest (λ k. not (eqb (getD named k 0) 1)) (nodeCount ws - 1)) where
   place : lowest (λ k. not (eqb (namedBelow ws k (nodeCount ws)) 1)) (nodeCount ws - 1) ≡ j
-  place = sym (found ∙ lowest-cong _ _ (nodeCount ws - 1) (λ k h. ap (λ v. not (eqb v 1)) (counted k)))
+  place = sym (found ∙ lowest-cong _ _ (nodeCount ws - 1) (λ k h. ap (λ v. not (eqb v 1)) (counted .counts k)))
 
   verdict-at : treeVerdict ws ≡ pick (ltb j (nodeCount ws - 1)) (refusal 8 j) accepted
   unfolding treeVerdict

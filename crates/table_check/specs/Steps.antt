@@ -1,22 +1,29 @@
 -- The verdict in steps: what the functions of the checker decide, one definition each. The public contract cites none of them.
 -- Assumes nothing.
-use mathlib.Core.Bool.{Bool, false, not, _&&_}
+use mathlib.Core.Bool.{Bool, not, _&&_}
 use mathlib.Core.List.{List, [], _∷_}
 use mathlib.Core.Path.{_≡_}
 use Prim.Native.Nat.{ℕ, _+_, _-_, _%_, _≤_, _<_}
-use lib.Dec.{eqb, ltb}
+use lib.Dec.{eqb, leb, ltb}
 use lib.ListN.{length, getD}
 use Rattle.lists.specs.Choice.{pick}
 use Rattle.lists.specs.Search.{lowest}
 use Rattle.lists.specs.Members.{mem, all, distinct, times}
 use Rattle.lists.specs.Parts.{sum}
 use Rattle.formula.specs.Words.{nodeCount, field, range}
-use Rattle.table_check.specs.Verdict.{limit, isNumber, isBlockKind, forwardReference, nodeFault, refusal, accepted}
+use Rattle.table_check.specs.Verdict.{limit, isNumber, isBlockKind, wellFormed, forwardReference, nodeFault, refusal, accepted}
 use Rattle.table_check.specs.declared.Verdict.{Verdict}
 
 -- The entries of a range are variable numbers, none of them twice: refusal 7 does not apply.
 unfoldable pub goodRange : List ℕ → ℕ → ℕ → Bool
 goodRange ls first count = all isNumber (range ls first count) && distinct (range ls first count)
+
+-- The first of refusals 3 and 4 that applies to node i with these words, 0 if neither does.
+unfoldable pub wordsFault : ℕ → ℕ → ℕ → ℕ → ℕ → ℕ
+wordsFault i kind a b c =
+    pick (not (wellFormed kind a b c)) 3
+    (pick (forwardReference i kind a b c) 4
+    0)
 
 -- The first of refusals 5 to 7 that applies to a block, 0 if none does. The blocks below it bind `before` variables.
 unfoldable pub blockFault : List ℕ → ℕ → ℕ → ℕ → ℕ
@@ -25,6 +32,10 @@ blockFault ls before first count =
     (pick (ltb limit (before + count)) 6
     (pick (not (goodRange ls first count)) 7
     0))
+
+-- The first of refusals 4 to 7 that applies to a block at node i.
+unfoldable pub blockNodeFault : List ℕ → ℕ → ℕ → ℕ → ℕ → ℕ → ℕ
+blockNodeFault ls i before first count body = pick (leb i body) 4 (blockFault ls before first count)
 
 -- c is one more than the latest entry below entry e whose number leaves the remainder h, 0 if there is none.
 pub record Latest (numbers : List ℕ) (h e c : ℕ) : Type 0 where
@@ -78,9 +89,15 @@ namedBy kind a b c =
 unfoldable pub namedBelow : List ℕ → ℕ → ℕ → ℕ
 namedBelow ws x i = sum (λ j. times x (namedBy (field ws j 0) (field ws j 1) (field ws j 2) (field ws j 3))) i
 
--- Refusal 4 applies to no node.
-abbrev pub NoForward : List ℕ → Type 0
-NoForward ws = (i : ℕ) → i < nodeCount ws → forwardReference i (field ws i 0) (field ws i 1) (field ws i 2) (field ws i 3) ≡ false
+-- The array holds how often the nodes below node i name each node.
+pub record Counted (ws named : List ℕ) (i : ℕ) : Type 0 where
+  pub wide : length named ≡ limit
+  pub counts : (x : ℕ) → getD named x 0 ≡ namedBelow ws x i
+
+-- The array has a place for each node below node i, and each of them has room for two names more.
+pub record Room (named : List ℕ) (i : ℕ) : Type 0 where
+  pub wide : i ≤ length named
+  pub room : (x : ℕ) → getD named x 0 + 2 ≤ 65535
 
 -- Refusal 8: of the lowest node below the last that is not named exactly once.
 unfoldable pub treeVerdict : List ℕ → Verdict

@@ -6,7 +6,7 @@ ghost use Prim.Native.Nat.{ℕ, _+_, _≤_, _<_};
 ghost use lib.Dec.{eqb};
 ghost use lib.ListN.{length, getD, set};
 ghost use Rattle.lists.specs.Search.{lowest};
-ghost use Rattle.lists.specs.Members.{mem, times};
+ghost use Rattle.lists.specs.Members.{times};
 ghost use Rattle.lists.specs.Parts.{sum};
 ghost use Rattle.formula.specs.Words.{nodeCount};
 ghost use Rattle.table_check.specs.Verdict.{
@@ -15,8 +15,6 @@ ghost use Rattle.table_check.specs.Verdict.{
   isBlockKind,
   partialNode,
   tooLarge,
-  wellFormed,
-  forwardReference,
   countAt,
   nodeFault,
   refusal,
@@ -24,15 +22,17 @@ ghost use Rattle.table_check.specs.Verdict.{
 };
 ghost use Rattle.table_check.specs.Steps.{
   goodRange,
+  wordsFault,
   blockFault,
+  blockNodeFault,
   Chains,
   Chain,
   stands,
   isNew,
   nodesVerdict,
   namedBy,
-  namedBelow,
-  NoForward,
+  Counted,
+  Room,
   treeVerdict,
 };
 
@@ -41,19 +41,6 @@ const LIMIT: usize = 4096;
 
 // Variables are numbered from 1 to this.
 const HIGHEST_VARIABLE: u32 = 65535;
-
-// The kinds of nodes.
-const CONSTANT: u32 = 1;
-
-const VARIABLE: u32 = 2;
-
-const NEGATION: u32 = 3;
-
-const OPERATOR: u32 = 4;
-
-const EXISTS_BLOCK: u32 = 5;
-
-const FOR_ALL_BLOCK: u32 = 6;
 
 // The number of a table that is not refused.
 const ACCEPTED: u32 = 0;
@@ -95,11 +82,12 @@ pub fn check(words: &[u32], list: &[u32]) -> Verdict
     if too_large(words, list) {
         return answer(TOO_LARGE, 0);
     }
-    let nodes = check_nodes(words, list);
+    let mut named = [0u16; LIMIT];
+    let nodes = check_nodes(words, list, &mut named);
     if nodes.number != ACCEPTED {
         return nodes;
     }
-    check_tree(words)
+    check_tree(words, &named)
 }
 
 fn answer(number: u32, position: u32) -> Verdict
@@ -120,21 +108,23 @@ fn too_large(words: &[u32], list: &[u32]) -> bool
     (LIMIT < words.len() / formula::WIDTH) | (LIMIT < list.len())
 }
 
-// Refusals 3 to 7.
+// Refusals 3 to 7. Where none applies, `named` holds how often each node is named.
 //
 // The entries that blocks cover are numbered in the order in which they are read, and those whose variables leave the
 // same remainder by 4,096 are chained, the latest first: `heads` holds one more than the latest entry of each remainder
 // (0: none), `prevs` one more than the next entry on each entry's chain. A variable stands twice in a block exactly if a
 // walk down its chain meets it among the block's own entries. At most 16 variables share a remainder, so that no walk
 // within a block takes more steps, and nothing is ever cleared.
-fn check_nodes(words: &[u32], list: &[u32]) -> Verdict
+fn check_nodes(words: &[u32], list: &[u32], named: &mut [u16]) -> Verdict
     requires { ⌜ nodeCount (now words) ≤ limit ⌝ }
+    requires { ⌜ Counted (now words) (now named) 0 ⌝ }
     ensures { λ r. ⌜ r ≡ nodesVerdict (now (words .entry)) (now (list .entry)) ⌝ }
+    ensures { λ r. ⌜ (r .number ≡ 0 → Counted (now (words .entry)) (now (named .exit)) (nodeCount (now (words .entry)))) ⌝ }
 {
     let mut numbers = [0u16; LIMIT];
     let mut heads = [0u16; LIMIT];
     let mut prevs = [0u16; LIMIT];
-    check_each_node(words, list, &mut numbers, &mut heads, &mut prevs)
+    check_each_node(words, list, &mut numbers, &mut heads, &mut prevs, named)
 }
 
 fn check_each_node(
@@ -143,61 +133,141 @@ fn check_each_node(
     numbers: &mut [u16],
     heads: &mut [u16],
     prevs: &mut [u16],
+    named: &mut [u16],
 ) -> Verdict
     requires { ⌜ nodeCount (now words) ≤ limit ⌝ }
     requires { ⌜ Chains (now numbers) (now heads) (now prevs) 0 ⌝ }
+    requires { ⌜ Counted (now words) (now named) 0 ⌝ }
     ensures { λ r. ⌜ r ≡ nodesVerdict (now (words .entry)) (now (list .entry)) ⌝ }
+    ensures { λ r. ⌜ (r .number ≡ 0 → Counted (now (words .entry)) (now (named .exit)) (nodeCount (now (words .entry)))) ⌝ }
 {
+    let n = words.len() / formula::WIDTH;
     let mut before: usize = 0;
     let mut i: usize = 0;
-    while i < words.len() / formula::WIDTH {
-        let fault = node_fault(words, list, numbers, heads, prevs, i, before);
+    while i < n {
+        let fault = node_fault(words, list, numbers, heads, prevs, named, &mut before, i);
         if fault != ACCEPTED {
             return answer(fault, i as u32);
         }
-        before += count_at(words, i);
         i += 1;
     }
     answer(ACCEPTED, 0)
 }
 
-// The first of refusals 3 to 7 that applies to node i. The nodes below it bind `before` variables.
+// The first of refusals 3 to 7 that applies to node i. The nodes below it bind `before` variables, and `named` holds how
+// often they name each node. The most frequent kinds are tested first.
 fn node_fault(
     words: &[u32],
     list: &[u32],
     numbers: &mut [u16],
     heads: &mut [u16],
     prevs: &mut [u16],
+    named: &mut [u16],
+    before: &mut usize,
     i: usize,
-    before: usize,
 ) -> u32
-    requires { ⌜ i < nodeCount (now words) ⌝ }
-    requires { ⌜ (before ≡ sum (countAt (now words)) i) × (before ≤ limit) ⌝ }
-    requires { ⌜ Chains (now numbers) (now heads) (now prevs) before ⌝ }
+    requires { ⌜ (i < nodeCount (now words)) × (nodeCount (now words) ≤ limit) ⌝ }
+    requires { ⌜ (now before ≡ sum (countAt (now words)) i) × (now before ≤ limit) ⌝ }
+    requires { ⌜ Chains (now numbers) (now heads) (now prevs) (now before) ⌝ }
+    requires { ⌜ Counted (now words) (now named) i ⌝ }
     ensures { λ r. ⌜ r ≡ nodeFault (now (words .entry)) (now (list .entry)) i ⌝ }
-    ensures { λ r. ⌜ (r ≡ 0 → Chains (now (numbers .exit)) (now (heads .exit)) (now (prevs .exit)) (before + countAt (now (words .entry)) i)) ⌝ }
+    ensures { λ r. ⌜ (r ≡ 0 → now (before .exit) ≡ now (before .entry) + countAt (now (words .entry)) i) ⌝ }
+    ensures { λ r. ⌜ (r ≡ 0 → Chains (now (numbers .exit)) (now (heads .exit)) (now (prevs .exit)) (now (before .exit))) ⌝ }
+    ensures { λ r. ⌜ (r ≡ 0 → Counted (now (words .entry)) (now (named .exit)) (i + 1)) ⌝ }
 {
     let node = formula::node_at(words, i);
-    if !well_formed(node) {
-        return MALFORMED_NODE;
+    if node.kind == formula::VARIABLE {
+        return variable_fault(node.a, node.b, node.c);
     }
-    if forward_reference(i, node) {
-        return FORWARD_REFERENCE;
+    if node.kind == formula::OPERATOR {
+        return operator_fault(i, node.a, node.b, node.c, named);
     }
-    if !is_block_kind(node.kind) {
-        return ACCEPTED;
+    if is_block_kind(node.kind) {
+        let fault = block_node_fault(list, numbers, heads, prevs, named, i, *before, node);
+        *before += node.b as usize;
+        return fault;
     }
-    block_fault(list, numbers, heads, prevs, before, node.a, node.b)
+    if node.kind == formula::NEGATION {
+        return negation_fault(i, node.a, node.b, node.c, named);
+    }
+    if node.kind == formula::CONSTANT {
+        return constant_fault(node.a, node.b, node.c);
+    }
+    MALFORMED_NODE
 }
 
-fn well_formed(node: formula::NodeWords) -> bool
-    ensures { λ r. ⌜ r ≡ wellFormed (node .kind) (node .a) (node .b) (node .c) ⌝ }
+fn variable_fault(a: u32, b: u32, c: u32) -> u32
+    ensures { λ r. ⌜ ((i : ℕ) → r ≡ wordsFault i 2 a b c) ⌝ }
 {
-    let constant = (node.kind == CONSTANT) & (node.a <= 1) & (node.b == 0) & (node.c == 0);
-    let variable = (node.kind == VARIABLE) & is_number(node.a) & (node.b == 0) & (node.c == 0);
-    let negation = (node.kind == NEGATION) & (node.b == 0) & (node.c == 0);
-    let operator = (node.kind == OPERATOR) & (node.a <= 15);
-    constant | variable | negation | operator | is_block_kind(node.kind)
+    if is_number(a) & (b == 0) & (c == 0) {
+        return ACCEPTED;
+    }
+    MALFORMED_NODE
+}
+
+fn constant_fault(a: u32, b: u32, c: u32) -> u32
+    ensures { λ r. ⌜ ((i : ℕ) → r ≡ wordsFault i 1 a b c) ⌝ }
+{
+    if (a <= 1) & (b == 0) & (c == 0) {
+        return ACCEPTED;
+    }
+    MALFORMED_NODE
+}
+
+fn operator_fault(i: usize, a: u32, b: u32, c: u32, named: &mut [u16]) -> u32
+    requires { ⌜ Room (now named) i ⌝ }
+    ensures { λ r. ⌜ r ≡ wordsFault i 4 a b c ⌝ }
+    ensures { λ r. ⌜ (r ≡ 0 → (x : ℕ) → getD (now (named .exit)) x 0 ≡ getD (now (named .entry)) x 0 + times x (namedBy 4 a b c)) ⌝ }
+{
+    if 15 < a {
+        return MALFORMED_NODE;
+    }
+    if (i <= b as usize) | (i <= c as usize) {
+        return FORWARD_REFERENCE;
+    }
+    count_name(b, named);
+    count_name(c, named);
+    ACCEPTED
+}
+
+fn negation_fault(i: usize, a: u32, b: u32, c: u32, named: &mut [u16]) -> u32
+    requires { ⌜ Room (now named) i ⌝ }
+    ensures { λ r. ⌜ r ≡ wordsFault i 3 a b c ⌝ }
+    ensures { λ r. ⌜ (r ≡ 0 → (x : ℕ) → getD (now (named .exit)) x 0 ≡ getD (now (named .entry)) x 0 + times x (namedBy 3 a b c)) ⌝ }
+{
+    if !((b == 0) & (c == 0)) {
+        return MALFORMED_NODE;
+    }
+    if i <= a as usize {
+        return FORWARD_REFERENCE;
+    }
+    count_name(a, named);
+    ACCEPTED
+}
+
+// Refusals 4 to 7 of a block, which has no refusal 3.
+fn block_node_fault(
+    list: &[u32],
+    numbers: &mut [u16],
+    heads: &mut [u16],
+    prevs: &mut [u16],
+    named: &mut [u16],
+    i: usize,
+    before: usize,
+    node: formula::NodeWords,
+) -> u32
+    requires { ⌜ before ≤ limit ⌝ }
+    requires { ⌜ Chains (now numbers) (now heads) (now prevs) before ⌝ }
+    requires { ⌜ Room (now named) i ⌝ }
+    ensures { λ r. ⌜ r ≡ blockNodeFault (now (list .entry)) i before (node .a) (node .b) (node .c) ⌝ }
+    ensures { λ r. ⌜ (r ≡ 0 → Chains (now (numbers .exit)) (now (heads .exit)) (now (prevs .exit)) (before + node .b)) ⌝ }
+    ensures { λ r. ⌜ (r ≡ 0 → (x : ℕ) → getD (now (named .exit)) x 0 ≡ getD (now (named .entry)) x 0 + times x (node .c ∷ [])) ⌝ }
+{
+    if i <= node.c as usize {
+        return FORWARD_REFERENCE;
+    }
+    count_name(node.c, named);
+    block_fault(list, numbers, heads, prevs, before, node.a, node.b)
 }
 
 fn is_number(x: u32) -> bool
@@ -209,19 +279,7 @@ fn is_number(x: u32) -> bool
 fn is_block_kind(kind: u32) -> bool
     ensures { λ r. ⌜ r ≡ isBlockKind kind ⌝ }
 {
-    (kind == EXISTS_BLOCK) | (kind == FOR_ALL_BLOCK)
-}
-
-fn forward_reference(i: usize, node: formula::NodeWords) -> bool
-    ensures { λ r. ⌜ r ≡ forwardReference i (node .kind) (node .a) (node .b) (node .c) ⌝ }
-{
-    let a = node.a as usize;
-    let b = node.b as usize;
-    let c = node.c as usize;
-    let negation = (node.kind == NEGATION) & (i <= a);
-    let operator = (node.kind == OPERATOR) & ((i <= b) | (i <= c));
-    let block = is_block_kind(node.kind) & (i <= c);
-    negation | operator | block
+    (kind == formula::EXISTS_BLOCK) | (kind == formula::FOR_ALL_BLOCK)
 }
 
 // The first of refusals 5 to 7 that applies to a block. The nodes below it bind `before` variables. No entry of a range
@@ -336,65 +394,18 @@ fn push(numbers: &mut [u16], heads: &mut [u16], prevs: &mut [u16], e: usize, x: 
     heads[h] = (e + 1) as u16;
 }
 
-// How many variables node i binds.
-fn count_at(words: &[u32], i: usize) -> usize
-    requires { ⌜ i < nodeCount (now words) ⌝ }
-    ensures { λ r. ⌜ r ≡ countAt (now (words .entry)) i ⌝ }
-{
-    let node = formula::node_at(words, i);
-    if is_block_kind(node.kind) {
-        return node.b as usize;
-    }
-    0
-}
-
-// Refusal 8, of a table whose operands and bodies are lower.
-fn check_tree(words: &[u32]) -> Verdict
+// Refusal 8, of a table whose nodes are named as often as `named` says.
+fn check_tree(words: &[u32], named: &[u16]) -> Verdict
     requires { ⌜ (0 < nodeCount (now words)) × (nodeCount (now words) ≤ limit) ⌝ }
-    requires { ⌜ NoForward (now words) ⌝ }
+    requires { ⌜ Counted (now words) (now named) (nodeCount (now words)) ⌝ }
     ensures { λ r. ⌜ r ≡ treeVerdict (now (words .entry)) ⌝ }
 {
-    let mut named = [0u16; LIMIT];
-    count_names(words, &mut named);
     let last = words.len() / formula::WIDTH - 1;
-    let j = lowest_not_once(&named, last);
+    let j = lowest_not_once(named, last);
     if j < last {
         return answer(NOT_A_TREE, j as u32);
     }
     answer(ACCEPTED, 0)
-}
-
-// Counts how often each node is named.
-fn count_names(words: &[u32], named: &mut [u16])
-    requires { ⌜ (nodeCount (now words) ≤ limit) × (length (now named) ≡ limit) ⌝ }
-    requires { ⌜ NoForward (now words) ⌝ }
-    requires { ⌜ ((x : ℕ) → getD (now named) x 0 ≡ 0) ⌝ }
-    ensures { λ r. ⌜ ((x : ℕ) → getD (now (named .exit)) x 0 ≡ namedBelow (now (words .entry)) x (nodeCount (now (words .entry)))) ⌝ }
-{
-    let mut i = 0;
-    while i < words.len() / formula::WIDTH {
-        count_operands(formula::node_at(words, i), named);
-        i += 1;
-    }
-}
-
-fn count_operands(node: formula::NodeWords, named: &mut [u16])
-    requires { ⌜ ((x : ℕ) → mem x (namedBy (node .kind) (node .a) (node .b) (node .c)) ≡ true → x < length (now named)) ⌝ }
-    requires { ⌜ ((x : ℕ) → getD (now named) x 0 + 2 ≤ 65535) ⌝ }
-    ensures { λ r. ⌜ ((x : ℕ) → getD (now (named .exit)) x 0 ≡ getD (now (named .entry)) x 0 + times x (namedBy (node .kind) (node .a) (node .b) (node .c))) ⌝ }
-{
-    if node.kind == NEGATION {
-        count_name(node.a, named);
-        return;
-    }
-    if node.kind == OPERATOR {
-        count_name(node.b, named);
-        count_name(node.c, named);
-        return;
-    }
-    if is_block_kind(node.kind) {
-        count_name(node.c, named);
-    }
 }
 
 fn count_name(x: u32, named: &mut [u16])

@@ -21,9 +21,6 @@ slice-aggregate-fill-scopes-2 c = search needs
 fill-scopes-requires : tie.Need-fill-scopes-requires
 fill-scopes-requires c κs = search needs
 
-count-blocks-requires : tie.Need-count-blocks-requires
-count-blocks-requires c κs = search needs
-
 sizes-of-requires : tie.Need-sizes-of-requires
 sizes-of-requires c κs = search needs
 
@@ -38,7 +35,7 @@ refusal-requires c κs = search needs
 
 returns : tie.Need-returns
 returns c =
-    let s = c .before .before .before .before .before .before .before .before .before .before .before .before .before .before .before in
+    let s = c .before .before .before .before .before .before .before .before .before .before .before .before .before .before in
     let t = tableOf (s .args .words .now) (s .args .list .now) in
     let tree = accepted-holds (s .args .words .now) (s .args .list .now) (s .pre) .proper .tree in
     let e = ap (λ (z : Sizes). z .nodes) (c .before .before .before .sizes-of .ensures) in
@@ -55,7 +52,7 @@ refusal-requires-2 c κs = search needs
 
 returns-2 : tie.Need-returns-2
 returns-2 c =
-    let s = c .before .before .before .before .before .before .before .before .before .before .before .before .before .before .before .before .before in
+    let s = c .before .before .before .before .before .before .before .before .before .before .before .before .before .before .before .before in
     let t = tableOf (s .args .words .now) (s .args .list .now) in
     let tree = accepted-holds (s .args .words .now) (s .args .list .now) (s .pre) .proper .tree in
     let e = ap (λ (z : Sizes). z .blocks) (c .before .before .before .before .before .sizes-of .ensures) in
@@ -69,7 +66,7 @@ refusal-requires-3 c κs = search needs
 
 returns-3 : tie.Need-returns-3
 returns-3 c =
-    let s = c .before .before .before .before .before .before .before .before .before .before .before .before .before .before .before .before .before .before .before in
+    let s = c .before .before .before .before .before .before .before .before .before .before .before .before .before .before .before .before .before .before in
     let t = tableOf (s .args .words .now) (s .args .list .now) in
     let tree = accepted-holds (s .args .words .now) (s .args .list .now) (s .pre) .proper .tree in
     let e = ap (λ (z : Sizes). z .entries) (c .before .before .before .before .before .before .before .sizes-of .ensures) in
@@ -83,20 +80,20 @@ slice-aggregate-write-form-2 c = search needs
 
 write-form-requires : tie.Need-write-form-requires
 write-form-requires c κs =
-    let s = c .before .before .before .before .before .before .before .before .before .before .before .before .before .before .before .before .before .before .before .before .before .before .before in
+    let s = c .before .before .before .before .before .before .before .before .before .before .before .before .before .before .before .before .before .before .before .before .before .before in
     let t = tableOf (s .args .words .now) (s .args .list .now) in
     let tree = accepted-holds (s .args .words .now) (s .args .list .now) (s .pre) .proper .tree in
     let z = c .before .before .before .before .before .before .before .before .before .before .before .sizes-of .ensures in
     let room : Room (s .args .words .now) (s .args .list .now) (s .args .nodes .now) (s .args .prefix .now) (s .args .variables .now) =
-    record {
-      nodes-fit = omega (arith, nodes-size t tree, ap (λ (z : Sizes). z .nodes) z, c .before .before .before .before .before .before .before .before .before .if1 .left);
-      prefix-fits = omega (arith, prefix-size t tree, ap (λ (z : Sizes). z .blocks) z, c .before .before .before .before .before .before .before .if2 .left);
-      variables-fit = omega (arith, variables-size t tree, ap (λ (z : Sizes). z .entries) z, c .before .before .before .before .before .if3 .left);
-    } in
-    let f = c .before .before .before .before .before .before .before .before .before .before .before .before .before .before .before .fill-scopes in
+        record {
+          nodes-fit = omega (arith, nodes-size t tree, ap (λ (z : Sizes). z .nodes) z, c .before .before .before .before .before .before .before .before .before .if1 .left);
+          prefix-fits = omega (arith, prefix-size t tree, ap (λ (z : Sizes). z .blocks) z, c .before .before .before .before .before .before .before .if2 .left);
+          variables-fit = omega (arith, variables-size t tree, ap (λ (z : Sizes). z .entries) z, c .before .before .before .before .before .if3 .left)
+        } in
+    let f = c .before .before .before .before .before .before .before .before .before .before .before .before .before .before .fill-scopes in
     let a : Placed (s .args .words .now) (s .args .list .now) _ = record { checked = s .pre; placed = f .ensures .0; parents-long = f .kept .1 .1 .0 } in
     let l : Levelled (s .args .words .now) (s .args .list .now) _ = record { levelled = f .ensures .1 .0; levels-long = f .kept .1 .1 .1 .0 } in
-    (a, (l, (f .ensures .1 .1, (c .before .before .before .before .before .before .before .before .before .before .before .before .count-blocks .ensures, room))))
+    (a, (l, (f .ensures .1 .1, room)))
 
 done-requires : tie.Need-done-requires
 done-requires c κs = search needs
@@ -112,16 +109,16 @@ same-length-3 c = search needs
 
 returns-4 : tie.Need-returns-4
 returns-4 c =
-    let s = c .before .before .before .before .before .before .before .before .before .before .before .before .before .before .before .before .before .before .before .before .before .before .before .before .before .before .before .before .before .before .before in
+    let s = c .before .before .before .before .before .before .before .before .before .before .before .before .before .before .before .before .before .before .before .before .before .before .before .before .before .before .before .before .before .before in
     let t = tableOf (s .args .words .now) (s .args .list .now) in
     let tree = accepted-holds (s .args .words .now) (s .args .list .now) (s .pre) .proper .tree in
     let z = c .before .before .before .before .before .before .before .before .before .before .before .before .before .before .before .before .before .before .before .sizes-of .ensures in
     let room : Room (s .args .words .now) (s .args .list .now) (s .args .nodes .now) (s .args .prefix .now) (s .args .variables .now) =
-    record {
-      nodes-fit = omega (arith, nodes-size t tree, ap (λ (z : Sizes). z .nodes) z, c .before .before .before .before .before .before .before .before .before .before .before .before .before .before .before .before .before .if1 .left);
-      prefix-fits = omega (arith, prefix-size t tree, ap (λ (z : Sizes). z .blocks) z, c .before .before .before .before .before .before .before .before .before .before .before .before .before .before .before .if2 .left);
-      variables-fit = omega (arith, variables-size t tree, ap (λ (z : Sizes). z .entries) z, c .before .before .before .before .before .before .before .before .before .before .before .before .before .if3 .left);
-    } in
+        record {
+          nodes-fit = omega (arith, nodes-size t tree, ap (λ (z : Sizes). z .nodes) z, c .before .before .before .before .before .before .before .before .before .before .before .before .before .before .before .before .before .if1 .left);
+          prefix-fits = omega (arith, prefix-size t tree, ap (λ (z : Sizes). z .blocks) z, c .before .before .before .before .before .before .before .before .before .before .before .before .before .before .before .if2 .left);
+          variables-fit = omega (arith, variables-size t tree, ap (λ (z : Sizes). z .entries) z, c .before .before .before .before .before .before .before .before .before .before .before .before .before .if3 .left)
+        } in
     lifted-done (s .args .words .now) (s .args .list .now) (s .args .nodes .now) (s .args .prefix .now) (s .args .variables .now) (s .pre) room _ _ (c .done .ensures) z _ _ _ (c .before .before .before .before .before .before .before .write-form .ensures)
 
 pub lift-accepted-spec : {M : Type 1} → statement M
@@ -131,7 +128,6 @@ lift-accepted-spec =
     slice-aggregate-fill-scopes
     slice-aggregate-fill-scopes-2
     fill-scopes-requires
-    count-blocks-requires
     sizes-of-requires
     cast-if1
     mul-if1

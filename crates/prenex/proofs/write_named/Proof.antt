@@ -14,6 +14,9 @@ highest-number-requires c κs = search needs
 add-t20 : tie.Need-add-t20
 add-t20 c = search needs
 
+cast-deepest : tie.Need-cast-deepest
+cast-deepest c = search needs
+
 cast-bound : tie.Need-cast-bound
 cast-bound c = search needs
 
@@ -32,9 +35,9 @@ slice-aggregate-give-names-3 c = search needs
 give-names-requires : tie.Need-give-names-requires
 unfolding tableOf
 give-names-requires c κs =
-    let s = c .before .before .before .before .before .before .before .before .before .before .before .before .before .before .before in
-    let n = s .pre .1 .1 .1 .1 .0 in
-    (s .pre .0 .checked, (omega (arith, c .before .before .before .before .before .highest-number .ensures .0), ((refl, refl, refl), (n .bound-is, n .inner-bound-is))))
+    let s = c .before .before .before .before .before .before .before .before .before .before .before .before .before .before .before .before in
+    let n = s .pre .1 .1 .1 .0 in
+    (s .pre .0 .checked, (omega (arith, c .before .before .before .before .before .before .highest-number .ensures .0), ((refl, refl, refl), (n .bound-is, n .inner-bound-is))))
 
 slice-aggregate-write-matrix : tie.Need-slice-aggregate-write-matrix
 slice-aggregate-write-matrix c = search needs
@@ -47,16 +50,16 @@ slice-aggregate-write-matrix-3 c = search needs
 
 write-matrix-requires : tie.Need-write-matrix-requires
 write-matrix-requires c κs =
-    let s = c .before .before .before .before .before .before .before .before .before .before .before .before .before .before .before .before .before .before .before .before .before .before .before in
+    let s = c .before .before .before .before .before .before .before .before .before .before .before .before .before .before .before .before .before .before .before .before .before .before .before .before in
     let g = c .before .before .before .before .before .before .before in
     let p = s .pre in
     let n : Named (s .args .words .now) (s .args .list .now) _ _ _ = record {
       named = g .give-names .ensures .0;
       names-long = g .give-names .kept .1 .1 .1 .0;
       copies-long = g .give-names .kept .1 .1 .1 .1 .0;
-      marks-long = g .give-names .kept .1 .1 .1 .1 .1 .0;
+      marks-long = g .give-names .kept .1 .1 .1 .1 .1 .0
     } in
-    (p .0, (p .1 .0, (p .1 .1 .0, (n, (p .1 .1 .1 .0, p .1 .1 .1 .1 .1 .nodes-fit)))))
+    (p .0, (p .1 .0, (p .1 .1 .0, (n, (p .1 .1 .1 .0 .deepest-is, p .1 .1 .1 .1 .nodes-fit)))))
 
 cast-blocks : tie.Need-cast-blocks
 cast-blocks c = search needs
@@ -72,25 +75,15 @@ slice-aggregate-write-prefix-3 c = search needs
 
 write-prefix-requires : tie.Need-write-prefix-requires
 write-prefix-requires c κs =
-    let s = c .before .before .before .before .before .before .before .before .before .before .before .before .before .before .before .before .before .before .before .before .before .before .before .before .before .before .before .before .before .before .before .before in
+    let s = c .before .before .before .before .before .before .before .before .before .before .before .before .before .before .before .before .before .before .before .before .before .before .before .before .before .before .before .before .before .before .before .before .before in
     let g = c .before .before .before .before .before .before .before .before .before .before .before .before .before .before .before .before in
     let p = s .pre in
     let h = p .1 .1 .0 in
-    let r = p .1 .1 .1 .1 .1 in
+    let n = p .1 .1 .1 .0 in
+    let r = p .1 .1 .1 .1 in
     let k = g .give-names .kept .1 .1 .1 in
-    let n = p .1 .1 .1 .1 .0 in (
-      p .0 .checked,
-      (
-        p .1 .0 .started,
-        (
-          g .give-names .ensures .0,
-          (
-            h .chained,
-            ((p .1 .0 .starts-long, k .0, k .1 .0, k .1 .1 .0, h .firsts-long, h .nexts-long), ((n .blocks-is, p .1 .1 .1 .0), (r .prefix-fits, r .variables-fit))),
-          ),
-        ),
-      ),
-    )
+    (p .0 .checked, (p .1 .0 .started, (g .give-names .ensures .0, (h .chained,
+    ((p .1 .0 .starts-long, k .0, k .1 .0, k .1 .1 .0, h .firsts-long, h .nexts-long), ((n .blocks-is, n .deepest-is), (r .prefix-fits, r .variables-fit)))))))
 
 same-length : tie.Need-same-length
 same-length c = search needs
@@ -110,6 +103,7 @@ write-named-spec =
     (tie.spec
     highest-number-requires
     add-t20
+    cast-deepest
     cast-bound
     cast-inner-bound
     slice-aggregate-give-names

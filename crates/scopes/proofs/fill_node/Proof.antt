@@ -1,80 +1,130 @@
--- `scopes::fill_node` meets its contract. One step of the pass is the law `node-filled`.
+-- `scopes::fill_node` meets its contract. A node that is no block is the laws `plain-filled` and `plain-counted`.
 -- Assumes nothing.
+use mathlib.Core.Path.{refl, sym, _∙_}
 use native.Mathlib.Omega.{arith}
-use lib.ListN.{length-set}
 use borrow.Author.Needs.{needs}
-use Rattle.scopes.proofs.Nodes.{nodes-few}
-use Rattle.scopes.proofs.Scopes.{inherited-small, node-filled}
+use Rattle.lists.proofs.Members.{mem-head, mem-tail}
+use Rattle.scopes.proofs.Nodes.{nodes-few, operand-lt, plain-read, negation-read, operator-read, none-read}
+use Rattle.scopes.proofs.Stores.{stored-none, stored-both}
+use Rattle.scopes.proofs.Scopes.{plain-filled}
+use Rattle.scopes.proofs.Counting.{plain-counted}
 use Rattle.scopes.proofs.fill_node.Statement.{statement}
 use Rattle.scopes.proofs.fill_node.Tie as tie
 
-mul-block-for-operands : tie.Need-mul-block-for-operands
-mul-block-for-operands c = search needs
+node-at-requires : tie.Need-node-at-requires
+node-at-requires c κs = search needs
 
-slice-read-block-for-operands : tie.Need-slice-read-block-for-operands
-slice-read-block-for-operands c =
-    let s = c .before .before .before .before .before in
+mul-block : tie.Need-mul-block
+mul-block c = search needs
+
+slice-read-block : tie.Need-slice-read-block
+slice-read-block c =
+    let s = c .before .before .before .before .before .before in
     omega (arith, nodes-few (s .args .words .now) (s .args .list .now) (s .pre .0))
 
-block-for-operands-requires : tie.Need-block-for-operands-requires
-block-for-operands-requires c κs =
-    let s = c .before .before .before .before .before in
-    omega (arith, nodes-few (s .args .words .now) (s .args .list .now) (s .pre .0))
+mul-level : tie.Need-mul-level
+mul-level c = search needs
 
-mul-own-level : tie.Need-mul-own-level
-mul-own-level c = search needs
-
-slice-read-own-level : tie.Need-slice-read-own-level
-slice-read-own-level c =
+slice-read-level : tie.Need-slice-read-level
+slice-read-level c =
     let s = c .before .before .before .before .before .before .before in
     omega (arith, nodes-few (s .args .words .now) (s .args .list .now) (s .pre .0))
 
-own-level-requires : tie.Need-own-level-requires
-own-level-requires c κs =
-    let s = c .before .before .before .before .before .before .before in
-    omega (arith, inherited-small (s .args .words .now) (s .args .list .now) (s .pre .0) (s .args .i) (s .pre .1 .0) _ _ (s .pre .1 .1 .1))
+hand-down-requires : tie.Need-hand-down-requires
+hand-down-requires c κs =
+    let s = c .before .before .before .before .before .before .before .before .before .before .before in
+    (operand-lt (s .args .words .now) (s .args .list .now) (s .pre .0) (s .args .i) _ _ (s .pre .1 .0) (operator-read _ _ _ _ (c .before .before .before .before .before .before .node-at .ensures) (c .before .before .if1 .taken)) (mem-head _ _), s .pre .1 .1 .0 .0, s .pre .1 .1 .0 .1)
 
-mul-levels : tie.Need-mul-levels
-mul-levels c = search needs
-
-slice-write-levels : tie.Need-slice-write-levels
-slice-write-levels c =
-    let s = c .before .before .before .before .before .before .before .before in
-    omega (arith, nodes-few (s .args .words .now) (s .args .list .now) (s .pre .0))
-
-store-operands-requires : tie.Need-store-operands-requires
-store-operands-requires c κs = search needs
-
-store-operands-requires-2 : tie.Need-store-operands-requires-2
-store-operands-requires-2 c κs = search needs
+hand-down-requires-2 : tie.Need-hand-down-requires-2
+hand-down-requires-2 c κs =
+    let s = c .before .before .before .before .before .before .before .before .before .before .before .before .before .before .before .before .before .before in
+    let d = c .before .before .before .before .before .before .hand-down in
+    (operand-lt (s .args .words .now) (s .args .list .now) (s .pre .0) (s .args .i) _ _ (s .pre .1 .0) (operator-read _ _ _ _ (c .before .before .before .before .before .before .before .before .before .before .before .before .before .node-at .ensures) (c .before .before .before .before .before .before .before .before .before .if1 .taken)) (mem-tail _ _ _ (mem-head _ _)), d .kept .0 ∙ s .pre .1 .1 .0 .0, d .kept .1 .0 ∙ s .pre .1 .1 .0 .1)
 
 same-length : tie.Need-same-length
 same-length c = search needs
 
 same-length-2 : tie.Need-same-length-2
-same-length-2 c = simp length-set at (c .before .before .store-operands2 .kept .1 .1 .0)
+same-length-2 c = search needs
 
 returns : tie.Need-returns
 returns c =
-    let s = c .before .before .before .before .before .before .before .before .before .before .before .before .before .before .before .before in
-    let b = c .before .before .before .before .before .before .before .before .before .before .block-for-operands .ensures in
-    let l = c .before .before .before .before .before .before .before .before .own-level .ensures in
-    node-filled (s .args .words .now) (s .args .list .now) (s .pre .0) (s .args .i) (s .pre .1 .0) _ _ _ _ _ _ (s .pre .1 .1 .0 .1) (s .pre .1 .1 .1) b l (c .before .before .before .before .before .before .store-operands .ensures) (c .before .before .store-operands2 .ensures)
+    let s = c .before .before .before .before .before .before .before .before .before .before .before .before .before .before .before .before .before .before .before .before .before .before .before in
+    let d = c .before .before .before .before .before .before .before .before .before .before .before .hand-down .ensures in
+    let d2 = c .before .before .before .before .hand-down2 .ensures in
+    let r = c .before .before .before .before .before .before .before .before .before .before .before .before .before .before .before .before .before .before .node-at .ensures in
+    let k = c .before .before .before .before .before .before .before .before .before .before .before .before .before .before .if1 .taken in
+    let p = plain-read (s .args .words .now) (s .args .list .now) (s .args .i) _ r 4 k refl in (
+      plain-filled (s .args .words .now) (s .args .list .now) (s .pre .0) (s .args .i) (s .pre .1 .0) _ _ (s .pre .1 .1 .1 .0) _ _ _ (operator-read _ _ _ _ r k) p (stored-both _ _ _ _ _ _ (d .0) (d2 .0)) (stored-both _ _ _ _ _ _ (d .1) (d2 .1)),
+      plain-counted (s .args .words .now) (s .args .list .now) (s .pre .0) (s .args .i) (s .pre .1 .0) _ (s .pre .1 .1 .1 .1) p,
+    )
+
+hand-down-requires-3 : tie.Need-hand-down-requires-3
+hand-down-requires-3 c κs =
+    let s = c .before .before .before .before .before .before .before .before .before .before .before .before .before in
+    (operand-lt (s .args .words .now) (s .args .list .now) (s .pre .0) (s .args .i) _ _ (s .pre .1 .0) (negation-read _ _ _ _ (c .before .before .before .before .before .before .before .before .node-at .ensures) (c .before .before .if2 .taken)) (mem-head _ _), s .pre .1 .1 .0 .0, s .pre .1 .1 .0 .1)
+
+same-length-3 : tie.Need-same-length-3
+same-length-3 c = search needs
+
+same-length-4 : tie.Need-same-length-4
+same-length-4 c = search needs
+
+returns-2 : tie.Need-returns-2
+returns-2 c =
+    let s = c .before .before .before .before .before .before .before .before .before .before .before .before .before .before .before .before .before .before in
+    let d = c .before .before .before .before .hand-down3 .ensures in
+    let r = c .before .before .before .before .before .before .before .before .before .before .before .before .before .node-at .ensures in
+    let k = c .before .before .before .before .before .before .before .if2 .taken in
+    let p = plain-read (s .args .words .now) (s .args .list .now) (s .args .i) _ r 3 k refl in
+    (plain-filled (s .args .words .now) (s .args .list .now) (s .pre .0) (s .args .i) (s .pre .1 .0) _ _ (s .pre .1 .1 .1 .0) _ _ _ (negation-read _ _ _ _ r k) p (d .0) (d .1), plain-counted (s .args .words .now) (s .args .list .now) (s .pre .0) (s .args .i) (s .pre .1 .0) _ (s .pre .1 .1 .1 .1) p)
+
+is-block-requires : tie.Need-is-block-requires
+is-block-requires c κs = search needs
+
+fill-block-requires : tie.Need-fill-block-requires
+fill-block-requires c κs =
+    let s = c .before .before .before .before .before .before .before .before .before .before .before .before .before .before .before in
+    let e = sym (c .before .before .before .is-block .ensures) ∙ c .before .before .if3 .taken in
+    (s .pre .0, ((s .pre .1 .0, e), (s .pre .1 .1 .0, (s .pre .1 .1 .1 .0, s .pre .1 .1 .1 .1))))
+
+same-length-5 : tie.Need-same-length-5
+same-length-5 c = search needs
+
+same-length-6 : tie.Need-same-length-6
+same-length-6 c = search needs
+
+returns-3 : tie.Need-returns-3
+returns-3 c = search needs
+
+returns-4 : tie.Need-returns-4
+returns-4 c =
+    let s = c .before .before .before .before .before .before .before .before .before .before .before .before .before in
+    let r = c .before .before .before .before .before .before .before .before .node-at .ensures in
+    let p = sym (c .before .is-block .ensures) ∙ c .if3 .left in
+    (plain-filled (s .args .words .now) (s .args .list .now) (s .pre .0) (s .args .i) (s .pre .1 .0) _ _ (s .pre .1 .1 .1 .0) _ _ _ (none-read _ _ _ _ r (c .before .before .if2 .left) (c .before .before .before .before .if1 .left) p) p (stored-none _ _) (stored-none _ _), plain-counted (s .args .words .now) (s .args .list .now) (s .pre .0) (s .args .i) (s .pre .1 .0) _ (s .pre .1 .1 .1 .1) p)
 
 pub fill-node-spec : {M : Type 1} → statement M
 fill-node-spec =
     tie.close
     (tie.spec
-    mul-block-for-operands
-    slice-read-block-for-operands
-    block-for-operands-requires
-    mul-own-level
-    slice-read-own-level
-    own-level-requires
-    mul-levels
-    slice-write-levels
-    store-operands-requires
-    store-operands-requires-2
+    node-at-requires
+    mul-block
+    slice-read-block
+    mul-level
+    slice-read-level
+    hand-down-requires
+    hand-down-requires-2
     same-length
     same-length-2
-    returns)
+    returns
+    hand-down-requires-3
+    same-length-3
+    same-length-4
+    returns-2
+    is-block-requires
+    fill-block-requires
+    same-length-5
+    same-length-6
+    returns-3
+    returns-4)

@@ -1,11 +1,11 @@
--- `table_check::check` meets its contract: each return is one of the answers of `verdict`, and what the second pass requires follows from the first.
+-- `table_check::check` meets its contract: each return is one of the answers of `verdict`, and what the scan of the counts requires follows from the pass over the nodes.
 -- Assumes nothing.
 use mathlib.Core.Bool.{false}
 use mathlib.Core.Path.{_≡_, sym, _∙_}
-use borrow.Author.Needs.{needs}
-use Rattle.table_check.specs.Steps.{nodesVerdict}
 use Rattle.table_check.specs.Verdict.{partialNode, tooLarge}
-use Rattle.table_check.proofs.Faults.{backward, none-faulty, some-node, few-nodes, verdict-partial, verdict-large, verdict-nodes, verdict-tree}
+use Rattle.table_check.proofs.Faults.{some-node, few-nodes, verdict-partial, verdict-large, verdict-nodes, verdict-tree}
+use Rattle.table_check.proofs.Named.{counted-new}
+use borrow.Author.Needs.{needs}
 use Rattle.table_check.proofs.check.Statement.{statement}
 use Rattle.table_check.proofs.check.Tie as tie
 
@@ -33,29 +33,32 @@ returns-2 : tie.Need-returns-2
 returns-2 c =
     c .answer2 .ensures ∙ sym (verdict-large _ _ (whole (c .before .before .before)) (sym (c .before .before .too-large .ensures) ∙ c .before .if2 .taken))
 
--- .. nor does refusal 2, ..
+-- .. nor does refusal 2.
 within : (c : tie.Else2) → tooLarge (c .before .before .before .before .before .before .args .words .now) (c .before .before .before .before .before .before .args .list .now) ≡ false
 within c = sym (c .before .too-large .ensures) ∙ c .if2 .left
 
+slice-aggregate-check-nodes : tie.Need-slice-aggregate-check-nodes
+slice-aggregate-check-nodes c = search needs
+
 check-nodes-requires : tie.Need-check-nodes-requires
-check-nodes-requires c κs = few-nodes _ _ (within c)
+check-nodes-requires c κs = (few-nodes _ _ (within (c .before)), counted-new _)
 
 returns-3 : tie.Need-returns-3
 returns-3 c =
-    let n = c .before .before .check-nodes .ensures in
-    n ∙ sym (verdict-nodes _ _ (whole (c .before .before .before .before .before)) (within (c .before .before .before)) (rw n at (c .if3 .taken)))
+    let n = c .before .before .before .check-nodes .ensures .0 in
+    n ∙ sym (verdict-nodes _ _ (whole (c .before .before .before .before .before .before .before)) (within (c .before .before .before .before .before)) (rw n at (c .if3 .taken)))
 
--- .. nor any of refusals 3 to 7.
-sound : (c : tie.Else3) → nodesVerdict (c .before .before .before .before .before .before .before .before .before .args .words .now) (c .before .before .before .before .before .before .before .before .before .args .list .now) .number ≡ 0
-sound c = rw (c .before .before .check-nodes .ensures) at (c .if3 .left)
+slice-aggregate-check-tree : tie.Need-slice-aggregate-check-tree
+slice-aggregate-check-tree c = search needs
 
 check-tree-requires : tie.Need-check-tree-requires
 check-tree-requires c κs =
-    ((some-node _ (whole (c .before .before .before .before .before)), few-nodes _ _ (within (c .before .before .before))), λ i h. backward _ _ i (none-faulty _ _ (sound c) i h))
+    ((some-node _ (whole (c .before .before .before .before .before .before .before .before)), few-nodes _ _ (within (c .before .before .before .before .before .before))), c .before .before .before .before .check-nodes .ensures .1 (c .before .if3 .left))
 
 returns-4 : tie.Need-returns-4
 returns-4 c =
-    c .check-tree .ensures ∙ sym (verdict-tree _ _ (whole (c .before .before .before .before .before .before)) (within (c .before .before .before .before)) (sound (c .before)))
+    let sound = rw (c .before .before .before .before .before .check-nodes .ensures .0) at (c .before .before .if3 .left) in
+    c .check-tree .ensures ∙ sym (verdict-tree _ _ (whole (c .before .before .before .before .before .before .before .before .before)) (within (c .before .before .before .before .before .before .before)) sound)
 
 pub check-spec : {M : Type 1} → statement M
 check-spec =
@@ -67,7 +70,9 @@ check-spec =
     too-large-requires
     answer-requires-2
     returns-2
+    slice-aggregate-check-nodes
     check-nodes-requires
     returns-3
+    slice-aggregate-check-tree
     check-tree-requires
     returns-4)

@@ -1,7 +1,7 @@
 -- `table_check::check_nodes` meets its contract: three new arrays chain no entry.
 -- Assumes nothing.
-use borrow.Author.Needs.{needs}
 use Rattle.table_check.proofs.Chains.{chains-new}
+use borrow.Author.Needs.{needs}
 use Rattle.table_check.proofs.check_nodes.Statement.{statement}
 use Rattle.table_check.proofs.check_nodes.Tie as tie
 
@@ -15,7 +15,10 @@ slice-aggregate-check-each-node-3 : tie.Need-slice-aggregate-check-each-node-3
 slice-aggregate-check-each-node-3 c = search needs
 
 check-each-node-requires : tie.Need-check-each-node-requires
-check-each-node-requires c κs = (c .before .before .before .before .before .pre, chains-new)
+check-each-node-requires c κs = (c .before .before .before .before .before .before .before .pre .0, (chains-new, c .before .before .before .before .before .before .before .pre .1))
+
+same-length : tie.Need-same-length
+same-length c = search needs
 
 returns : tie.Need-returns
 returns c = search needs
@@ -28,4 +31,5 @@ check-nodes-spec =
     slice-aggregate-check-each-node-2
     slice-aggregate-check-each-node-3
     check-each-node-requires
+    same-length
     returns)

@@ -1,24 +1,13 @@
 -- `table_check::check_tree` meets its contract: the lowest node that the array does not hold 1 for is the one that refusal 8 is given at.
 -- Assumes nothing.
-use mathlib.Core.Path.{refl, sym, _∙_}
-use borrow.Author.Needs.{needs}
-use Rattle.table_check.proofs.Arrays.{getD-zeros}
+use mathlib.Core.Path.{sym, _∙_}
 use Rattle.table_check.proofs.Named.{tree-refused, tree-passed}
+use borrow.Author.Needs.{needs}
 use Rattle.table_check.proofs.check_tree.Statement.{statement}
 use Rattle.table_check.proofs.check_tree.Tie as tie
 
-slice-aggregate-count-names : tie.Need-slice-aggregate-count-names
-slice-aggregate-count-names c = search needs
-
-count-names-requires : tie.Need-count-names-requires
-count-names-requires c κs =
-    ((c .before .before .pre .0 .1, refl), (c .before .before .pre .1, getD-zeros 4096))
-
 sub-last : tie.Need-sub-last
 sub-last c = search needs
-
-slice-aggregate-lowest-not-once : tie.Need-slice-aggregate-lowest-not-once
-slice-aggregate-lowest-not-once c = search needs
 
 lowest-not-once-requires : tie.Need-lowest-not-once-requires
 lowest-not-once-requires c κs = search needs
@@ -30,26 +19,19 @@ answer-requires : tie.Need-answer-requires
 answer-requires c κs = search needs
 
 returns : tie.Need-returns
-returns c =
-    let counts = c .before .before .before .before .before .count-names in
-    c .answer .ensures ∙ sym (tree-refused _ (counts .last .1 .0) (counts .ensures) _ (c .before .before .lowest-not-once .ensures) (c .before .if1 .taken))
+returns c = c .answer .ensures ∙ sym (tree-refused _ _ (c .before .before .before .before .before .pre .1) _ (c .before .before .lowest-not-once .ensures) (c .before .if1 .taken))
 
 answer-requires-2 : tie.Need-answer-requires-2
 answer-requires-2 c κs = search needs
 
 returns-2 : tie.Need-returns-2
-returns-2 c =
-    let counts = c .before .before .before .before .before .count-names in
-    c .answer2 .ensures ∙ sym (tree-passed _ (counts .last .1 .0) (counts .ensures) _ (c .before .before .lowest-not-once .ensures) (c .before .if1 .left))
+returns-2 c = c .answer2 .ensures ∙ sym (tree-passed _ _ (c .before .before .before .before .before .pre .1) _ (c .before .before .lowest-not-once .ensures) (c .before .if1 .left))
 
 pub check-tree-spec : {M : Type 1} → statement M
 check-tree-spec =
     tie.close
     (tie.spec
-    slice-aggregate-count-names
-    count-names-requires
     sub-last
-    slice-aggregate-lowest-not-once
     lowest-not-once-requires
     cast-answer
     answer-requires

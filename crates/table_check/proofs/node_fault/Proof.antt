@@ -1,65 +1,60 @@
--- `table_check::node_fault` meets its contract: each return is one of the answers of `nodeFault`, once the node's words are read as the table's fields.
+-- `table_check::node_fault` meets its contract: at each kind the answer is that of `nodeFault`, and the names counted are the node's, once its words are read as the
+-- table's fields.
 -- Assumes nothing.
-use mathlib.Core.Bool.{true, false}
-use mathlib.Core.Path.{_≡_, sym, _∙_}
+use mathlib.Core.Path.{refl, sym, _∙_, ap}
 use Prim.Native.Nat.{_+_}
+use Rattle.formula.specs.Words.{field}
+use Rattle.lists.specs.Choice.{pick}
+use Rattle.table_check.specs.Verdict.{isBlockKind}
+use Rattle.table_check.specs.Steps.{namedBy}
+use Rattle.table_check.proofs.Faults.{count-block, fault-words, fault-block, fault-no-kind, binds-none}
+use Rattle.table_check.proofs.Named.{names-block, counted-room, counted-more, counted-still}
 use native.Mathlib.Omega.{arith}
 use borrow.Author.Needs.{needs}
-use borrow.Author.Tests.{not-true, not-false}
-use Rattle.table_check.specs.Verdict.{countAt}
-use Rattle.table_check.proofs.Faults.{count-block, count-none, formed, forward, fault-malformed, fault-forward, fault-none, fault-block}
 use Rattle.table_check.proofs.node_fault.Statement.{statement}
 use Rattle.table_check.proofs.node_fault.Tie as tie
 
 node-at-requires : tie.Need-node-at-requires
 node-at-requires c κs = search needs
 
-well-formed-requires : tie.Need-well-formed-requires
-well-formed-requires c κs = search needs
+variable-fault-requires : tie.Need-variable-fault-requires
+variable-fault-requires c κs = search needs
 
 returns : tie.Need-returns
+unfolding isBlockKind namedBy pick
 returns c =
-    let e = c .before .before .node-at .ensures in
-    let w = sym (c .before .well-formed .ensures) ∙ not-true _ (c .if1 .taken) in
-    (sym (fault-malformed _ _ _ (rw (e .0, e .1, e .2, e .3) at w)), λ z. absurd (omega arith))
+    let a = c .before .before .before .before .before .before .before .before .before .before .args in
+    let e = c .before .before .before .node-at .ensures in
+    let k = sym (e .0) ∙ c .before .if1 .taken in
+    let r = rw (e .1, e .2, e .3) at (c .variable-fault .ensures (a .i)) in
+    (r ∙ sym (fault-words _ _ _ 2 k refl), (λ z. sym (binds-none (a .words .now) (a .i) (a .before .now) 2 k refl), (λ z. c .before .before .before .before .before .before .before .before .before .before .pre .1 .1 .0, λ z. counted-still _ _ _ 2 k refl (c .before .before .before .before .before .before .before .before .before .before .pre .1 .1 .1))))
 
--- The node is well formed, ..
-is-formed : (c : tie.Else1) → formed (c .before .before .before .before .before .before .before .before .args .words .now) (c .before .before .before .before .before .before .before .before .args .i) ≡ true
-is-formed c =
-    let e = c .before .before .node-at .ensures in
-    let w = sym (c .before .well-formed .ensures) ∙ not-false _ (c .if1 .left) in rw (e .0, e .1, e .2, e .3) at w
+operator-fault-requires : tie.Need-operator-fault-requires
+operator-fault-requires c κs = counted-room _ _ _ (omega (arith, c .before .before .before .before .before .before .before .before .before .before .before .before .pre .0)) (c .before .before .before .before .before .before .before .before .before .before .before .before .pre .1 .1 .1)
 
-forward-reference-requires : tie.Need-forward-reference-requires
-forward-reference-requires c κs = search needs
+same-length : tie.Need-same-length
+same-length c = search needs
 
 returns-2 : tie.Need-returns-2
+unfolding isBlockKind
 returns-2 c =
-    let e = c .before .before .before .before .node-at .ensures in
-    let f = sym (c .before .forward-reference .ensures) ∙ c .if2 .taken in
-    (sym (fault-forward _ _ _ (is-formed (c .before .before)) (rw (e .0, e .1, e .2, e .3) at f)), λ z. absurd (omega arith))
-
--- .. and names no node at or above its own.
-is-backward : (c : tie.Else2) → forward (c .before .before .before .before .before .before .before .before .before .before .args .words .now) (c .before .before .before .before .before .before .before .before .before .before .args .i) ≡ false
-is-backward c =
-    let e = c .before .before .before .before .node-at .ensures in
-    let f = sym (c .before .forward-reference .ensures) ∙ c .if2 .left in rw (e .0, e .1, e .2, e .3) at f
+    let a = c .before .before .before .before .before .before .before .before .before .before .before .before .before .before .before .args in
+    let e = c .before .before .before .before .before .before .before .before .node-at .ensures in
+    let k = sym (e .0) ∙ c .before .before .before .before .if2 .taken in
+    let r = rw (e .1, e .2, e .3) at (c .before .before .operator-fault .ensures) in
+    (r .0 ∙ sym (fault-words _ _ _ 4 k refl), (λ z. sym (binds-none (a .words .now) (a .i) (a .before .now) 4 k refl), (λ z. c .before .before .before .before .before .before .before .before .before .before .before .before .before .before .before .pre .1 .1 .0, λ z. counted-more _ _ _ _ 4 k (c .before .before .operator-fault .kept .1 .1 .1 .1 .0) (c .before .before .before .before .before .before .before .before .before .before .before .before .before .before .before .pre .1 .1 .1) (r .1 z))))
 
 is-block-kind-requires : tie.Need-is-block-kind-requires
 is-block-kind-requires c κs = search needs
 
-returns-3 : tie.Need-returns-3
-returns-3 c =
-    let e = c .before .before .before .before .before .before .node-at .ensures in
-    let k = rw (e .0) at (sym (c .before .is-block-kind .ensures) ∙ not-true _ (c .if3 .taken)) in
-    let a = c .before .before .before .before .before .before .before .before .before .before .before .before .args in
-    let none : a .before + countAt (a .words .now) (a .i) ≡ a .before = omega (arith, count-none (a .words .now) (a .i) k) in
-    (sym (fault-none _ _ _ (is-formed (c .before .before .before .before)) (is-backward (c .before .before)) k), λ z. rw none (c .before .before .before .before .before .before .before .before .before .before .before .before .pre .1 .1))
+block-node-fault-requires : tie.Need-block-node-fault-requires
+block-node-fault-requires c κs = (c .before .before .before .before .before .before .before .before .before .before .before .before .before .before .before .before .before .before .pre .1 .0 .1, (c .before .before .before .before .before .before .before .before .before .before .before .before .before .before .before .before .before .before .pre .1 .1 .0, counted-room _ _ _ (omega (arith, c .before .before .before .before .before .before .before .before .before .before .before .before .before .before .before .before .before .before .pre .0)) (c .before .before .before .before .before .before .before .before .before .before .before .before .before .before .before .before .before .before .pre .1 .1 .1)))
 
-block-fault-requires : tie.Need-block-fault-requires
-block-fault-requires c κs = search needs
+cast-before : tie.Need-cast-before
+cast-before c = search needs
 
-same-length : tie.Need-same-length
-same-length c = search needs
+add-before : tie.Need-add-before
+add-before c = omega (arith, c .before .before .before .before .before .before .before .before .before .before .before .before .before .before .before .before .before .before .before .before .before .before .before .before .before .before .before .before .pre .1 .0 .1, c .struct-known3)
 
 same-length-2 : tie.Need-same-length-2
 same-length-2 c = search needs
@@ -67,27 +62,81 @@ same-length-2 c = search needs
 same-length-3 : tie.Need-same-length-3
 same-length-3 c = search needs
 
+same-length-4 : tie.Need-same-length-4
+same-length-4 c = search needs
+
+same-length-5 : tie.Need-same-length-5
+same-length-5 c = search needs
+
+returns-3 : tie.Need-returns-3
+returns-3 c =
+    let a = c .before .before .before .before .before .before .before .before .before .before .before .before .before .before .before .before .before .before .before .before .before .before .before .before .before .before .before .before .args in
+    let e = c .before .before .before .before .before .before .before .before .before .before .before .before .before .before .before .before .before .before .before .before .before .node-at .ensures in
+    let k = rw (e .0) at (sym (c .before .before .before .before .before .before .before .before .before .before .before .before .before .before .before .before .is-block-kind .ensures) ∙ c .before .before .before .before .before .before .before .before .before .before .before .before .before .before .before .if3 .taken) in
+    let r = c .before .before .before .before .before .before .before .before .before .block-node-fault in
+    let f = rw (e .1, e .2, e .3, c .before .before .before .before .before .before .before .before .before .before .before .before .before .before .before .before .before .before .before .before .before .before .before .before .before .before .before .before .pre .1 .0 .0) at (r .ensures .0) in
+    let named = rw (e .3, ← names-block (field (a .words .now) (a .i) 0) (field (a .words .now) (a .i) 1) (field (a .words .now) (a .i) 2) (field (a .words .now) (a .i) 3) k) at (r .ensures .1 .1) in
+    (f ∙ sym (fault-block _ _ _ k), (λ z. ap (λ n. a .before .now + n) (e .2 ∙ sym (count-block _ _ k)), (r .ensures .1 .0, λ z. counted-more _ _ _ _ _ refl (r .kept .1 .1 .1 .1 .0) (c .before .before .before .before .before .before .before .before .before .before .before .before .before .before .before .before .before .before .before .before .before .before .before .before .before .before .before .before .pre .1 .1 .1) (named z))))
+
+negation-fault-requires : tie.Need-negation-fault-requires
+negation-fault-requires c κs = counted-room _ _ _ (omega (arith, c .before .before .before .before .before .before .before .before .before .before .before .before .before .before .before .before .pre .0)) (c .before .before .before .before .before .before .before .before .before .before .before .before .before .before .before .before .pre .1 .1 .1)
+
+same-length-6 : tie.Need-same-length-6
+same-length-6 c = search needs
+
 returns-4 : tie.Need-returns-4
+unfolding isBlockKind
 returns-4 c =
-    let e = c .before .before .before .before .before .before .before .before .before .before .before .before .before .before .before .before .node-at .ensures in
-    let k = rw (e .0) at (sym (c .before .before .before .before .before .before .before .before .before .before .before .is-block-kind .ensures) ∙ not-false _ (c .before .before .before .before .before .before .before .before .before .before .if3 .left)) in
-    let r = c .before .before .before .before .before .before .block-fault .ensures in
-    let sum-is = c .before .before .before .before .before .before .before .before .before .before .before .before .before .before .before .before .before .before .before .before .before .before .pre .1 .0 .0 in
-    (rw (e .1, e .2, sum-is) at (r .0) ∙ sym (fault-block _ _ _ (is-formed (c .before .before .before .before .before .before .before .before .before .before .before .before .before .before)) (is-backward (c .before .before .before .before .before .before .before .before .before .before .before .before)) k), λ z. rw (count-block _ _ k, ← e .2) (r .1 z))
+    let a = c .before .before .before .before .before .before .before .before .before .before .before .before .before .before .before .before .before .before .before .args in
+    let e = c .before .before .before .before .before .before .before .before .before .before .before .before .node-at .ensures in
+    let k = sym (e .0) ∙ c .before .before .before .before .if4 .taken in
+    let r = rw (e .1, e .2, e .3) at (c .before .before .negation-fault .ensures) in
+    (r .0 ∙ sym (fault-words _ _ _ 3 k refl), (λ z. sym (binds-none (a .words .now) (a .i) (a .before .now) 3 k refl), (λ z. c .before .before .before .before .before .before .before .before .before .before .before .before .before .before .before .before .before .before .before .pre .1 .1 .0, λ z. counted-more _ _ _ _ 3 k (c .before .before .negation-fault .kept .1 .1 .1 .1 .0) (c .before .before .before .before .before .before .before .before .before .before .before .before .before .before .before .before .before .before .before .pre .1 .1 .1) (r .1 z))))
+
+constant-fault-requires : tie.Need-constant-fault-requires
+constant-fault-requires c κs = search needs
+
+returns-5 : tie.Need-returns-5
+unfolding isBlockKind namedBy pick
+returns-5 c =
+    let a = c .before .before .before .before .before .before .before .before .before .before .before .before .before .before .before .before .before .before .args in
+    let e = c .before .before .before .before .before .before .before .before .before .before .before .node-at .ensures in
+    let k = sym (e .0) ∙ c .before .if5 .taken in
+    let r = rw (e .1, e .2, e .3) at (c .constant-fault .ensures (a .i)) in
+    (r ∙ sym (fault-words _ _ _ 1 k refl), (λ z. sym (binds-none (a .words .now) (a .i) (a .before .now) 1 k refl), (λ z. c .before .before .before .before .before .before .before .before .before .before .before .before .before .before .before .before .before .before .pre .1 .1 .0, λ z. counted-still _ _ _ 1 k refl (c .before .before .before .before .before .before .before .before .before .before .before .before .before .before .before .before .before .before .pre .1 .1 .1))))
+
+returns-6 : tie.Need-returns-6
+returns-6 c =
+    let e = c .before .before .before .before .before .before .before .before .before .before .node-at .ensures in
+    let d1 = rw (e .0) at (c .if5 .left) in
+    let d2 = rw (e .0) at (c .before .before .before .before .before .before .before .before .if1 .left) in
+    let d3 = rw (e .0) at (c .before .before .if4 .left) in
+    let d4 = rw (e .0) at (c .before .before .before .before .before .before .if2 .left) in
+    let k = rw (e .0) at (sym (c .before .before .before .before .before .is-block-kind .ensures) ∙ c .before .before .before .before .if3 .left) in
+    (sym (fault-no-kind _ _ _ d1 d2 d3 d4 k), (λ z. absurd (omega arith), (λ z. absurd (omega arith), λ z. absurd (omega arith))))
 
 pub node-fault-spec : {M : Type 1} → statement M
 node-fault-spec =
     tie.close
     (tie.spec
     node-at-requires
-    well-formed-requires
+    variable-fault-requires
     returns
-    forward-reference-requires
+    operator-fault-requires
+    same-length
     returns-2
     is-block-kind-requires
-    returns-3
-    block-fault-requires
-    same-length
+    block-node-fault-requires
+    cast-before
+    add-before
     same-length-2
     same-length-3
-    returns-4)
+    same-length-4
+    same-length-5
+    returns-3
+    negation-fault-requires
+    same-length-6
+    returns-4
+    constant-fault-requires
+    returns-5
+    returns-6)
