@@ -15,16 +15,12 @@ use Rattle.prenex_form.specs.Scope.{inner, level}
 use Rattle.prenex_form.specs.Levels.{blocksAt}
 use Rattle.arrays.specs.Link.{link}
 use Rattle.arrays.specs.Held.{atLevel, LevelChains}
+use Rattle.arrays.specs.Chains.{partsFrom, between, blocksFrom}
 use Rattle.arrays.proofs.Link.{link-some, link-none, link-le}
 
 -- Lists put together from parts, from the front.
 
 module _ {ℓ} {A : Type ℓ} where
-  -- the k parts from part i on
-  unfoldable pub partsFrom : (ℕ → List A) → ℕ → ℕ → List A
-  partsFrom g i zero = []
-  partsFrom g i (suc k) = g i ++ partsFrom g (suc i) k
-
   parts-last : (g : ℕ → List A) (i k : ℕ) → partsFrom g i (suc k) ≡ partsFrom g i k ++ g (i + k)
   unfolding partsFrom
   parts-last g i zero = let e : i ≡ i + 0 = omega arith in ap (λ (j : ℕ). g j ++ []) e ∙ append-nil (g (i + 0))
@@ -32,10 +28,6 @@ module _ {ℓ} {A : Type ℓ} where
       let e : suc i + k ≡ i + suc k = omega arith in
       ap (λ (l : List A). g i ++ l) (parts-last g (suc i) k ∙ ap (λ (j : ℕ). partsFrom g (suc i) k ++ g j) e)
       ∙ sym (append-assoc (g i) (partsFrom g (suc i) k) (g (i + suc k)))
-
-  -- parts i, .. n - 1
-  unfoldable pub between : (ℕ → List A) → ℕ → ℕ → List A
-  between g i n = partsFrom g i (n - i)
 
   all-parts : (g : ℕ → List A) (n : ℕ) → upTo g n ≡ partsFrom g 0 n
   unfolding upTo partsFrom
@@ -97,10 +89,6 @@ module _ (p : ℕ → Bool) where
       passing-from i (b - i) n (omega (arith, r .below)) (λ j x y. r .between j x (omega arith))
       ∙ ap (λ (j : ℕ). passing j n) s ∙ passing-here b n (r .below) (r .passes)
 
--- the blocks of level l from node i on
-unfoldable pub blocksFrom : Table → ℕ → ℕ → List ℕ
-blocksFrom t l i = between (λ j. pick (atLevel t l j) (j ∷ []) []) i (t .size)
-
 -- the blocks of level l from that on which a link names: 0 names none, suc b the block b
 unfoldable pub linked : Table → ℕ → ℕ → List ℕ
 linked t l zero = []
@@ -124,12 +112,19 @@ module _ (t : Table) (l : ℕ) where
   unfolding blocksFrom
   blocksFrom-some i b e = passing-some (atLevel t l) i (t .size) b e
 
-  linked-is : (i k : ℕ) → link (atLevel t l) i (t .size) ≡ k → linked t l k ≡ blocksFrom t l i
+  -- a link names the level's blocks from where it was looked for
+  pub linked-is : (i k : ℕ) → link (atLevel t l) i (t .size) ≡ k → linked t l k ≡ blocksFrom t l i
   unfolding linked
   linked-is i zero e = sym (blocksFrom-none i e)
   linked-is i (suc b) e = sym (blocksFrom-some i b e)
 
-  on-chain : (i k : ℕ) → k ≡ link (atLevel t l) i (t .size) → OnChain t l k
+  -- a block, and then what its next link names
+  pub linked-next : (b k : ℕ) → k ≡ link (atLevel t l) (suc b) (t .size) → linked t l (suc b) ≡ b ∷ linked t l k
+  unfolding linked
+  linked-next b k e = ap (λ (bs : List ℕ). b ∷ bs) (sym (linked-is (suc b) k (sym e)))
+
+  -- every link of the level's test is one of its chain
+  pub on-chain : (i k : ℕ) → k ≡ link (atLevel t l) i (t .size) → OnChain t l k
   on-chain i k e =
       record {
         within = omega (arith, link-le (atLevel t l) i (t .size));
@@ -168,10 +163,7 @@ module _ (t : Table) (l : ℕ) where
       next-on = on-chain (suc (k - 1)) (getD nexts (k - 1) 0) next-is
 
       pub next-linked : linked t l k ≡ (k - 1) ∷ linked t l (getD nexts (k - 1) 0)
-      unfolding linked
-      next-linked =
-          ap (linked t l) (named k on some)
-          ∙ ap (λ (bs : List ℕ). (k - 1) ∷ bs) (sym (linked-is (suc (k - 1)) (getD nexts (k - 1) 0) (sym next-is)))
+      next-linked = ap (linked t l) (named k on some) ∙ linked-next (k - 1) (getD nexts (k - 1) 0) next-is
 
   pub linked-end : linked t l 0 ≡ []
   unfolding linked

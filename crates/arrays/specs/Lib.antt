@@ -1,2 +1,3 @@
 pub mod Link
 pub mod Held
+pub mod Chains

@@ -2,7 +2,7 @@
 -- Assumes nothing.
 use mathlib.Core.Path.{_≡_, refl, sym, _∙_, ap, subst}
 use mathlib.Core.Bool.{true}
-use mathlib.Core.List.{List, [], _∷_, _++_, flatMap, append-assoc, append-nil}
+use mathlib.Core.List.{List, [], _∷_, _++_, flatMap, append-nil}
 use Prim.Native.Nat.{ℕ, zero, suc, _+_, _-_, _*_, _≤_, _<_}
 use native.Mathlib.Omega.{arith}
 use native.Mathlib.Numerals.{add-one}
@@ -11,7 +11,7 @@ use lib.ListN.{length, getD, length-append}
 use borrow.Author.Tests.{ltb-true, ltb-false, eqb-true, eqb-false}
 use Rattle.lists.specs.Choice.{pick-yes, pick-no, Is, is-true, is-false, look, clash}
 use Rattle.lists.specs.Parts.{upTo, overwrite}
-use Rattle.lists.proofs.Parts.{length-each}
+use Rattle.lists.proofs.Parts.{flatMap-append, length-each}
 use Rattle.lists.proofs.Overwrite.{overwrite-nil, overwrite-append}
 use Rattle.formula.specs.Node.{Node, constant, variable, negation, operator, block, Table, isBlock}
 use Rattle.formula.specs.Words.{width, nodeCount, field, nodeAt, tableOf}
@@ -152,11 +152,6 @@ module _ (ws ls : List ℕ) (accepts : Accepted ws ls) (i : ℕ) (h : i < kept (
     pub copy-written : (kind ≡ 2 → ⊥) → kind < 5 → (out last : List ℕ)
         → last ≡ overwrite out (width * i) (kind ∷ x ∷ y ∷ z ∷ []) → last ≡ overwrite out (width * i) form
     copy-written v l out last w = w ∙ ap (λ words. overwrite out (width * i) words) (copied v l)
-
-flatMap-append : (f : Node → List ℕ) (a b : List Node) → flatMap f (a ++ b) ≡ flatMap f a ++ flatMap f b
-unfolding flatMap
-flatMap-append f [] b = refl
-flatMap-append f (n ∷ a) b = rw (flatMap-append f a b) (sym (append-assoc (f n) (flatMap f a) (flatMap f b)))
 
 -- The words of the first n nodes of the form.
 unfoldable pub firstWords : Table → ℕ → List ℕ

@@ -9,20 +9,12 @@ use native.Mathlib.Nat.{le-of-suc-le-suc, not-suc-le-zero}
 use lib.Dec.{eqb}
 use lib.ListN.{length, getD}
 use borrow.Author.Tests.{eqb-true, eq-eqb, ne-eqb}
-use Rattle.lists.specs.Choice.{pick-yes, pick-no, Is, is-true, is-false, look, clash, and-left, and-right, and-both, or-neither-left, or-neither-right, or-neither}
+use Rattle.lists.specs.Choice.{pick-yes, pick-no, Is, is-true, is-false, look, clash, and-left, and-right, and-both, or-left, or-right, or-neither-left, or-neither-right, or-neither}
 use Rattle.lists.specs.Members.{mem, all, distinct, times, place}
 
 or-group : (a b c d : Bool) → b ≡ (c || d) → (a || b) ≡ ((a || c) || d)
 or-group true b c d h = refl
 or-group false b c d h = h
-
-or-left : (a b : Bool) → a ≡ true → (a || b) ≡ true
-or-left true b h = refl
-or-left false b h = absurd (true≢false (sym h))
-
-or-right : (a b : Bool) → b ≡ true → (a || b) ≡ true
-or-right true b h = refl
-or-right false b h = h
 
 or-second : (a b : Bool) → (a || b) ≡ true → a ≡ false → b ≡ true
 or-second true b h e = absurd (true≢false e)

@@ -1,8 +1,8 @@
 -- Laws of lists put together from parts, of sums and of highest numbers.
 -- Assumes nothing.
-use mathlib.Core.Path.{_≡_, refl, _∙_, ap, subst}
+use mathlib.Core.Path.{_≡_, refl, sym, _∙_, ap, subst}
 use mathlib.Core.Bool.{Bool, true, false, not, _||_}
-use mathlib.Core.List.{List, [], _∷_, _++_}
+use mathlib.Core.List.{List, [], _∷_, _++_, flatMap, append-assoc}
 use Prim.Native.Nat.{ℕ, zero, suc, _+_, _≤_, _<_}
 use native.Mathlib.Omega.{arith}
 use native.Mathlib.Nat.{le-of-suc-le-suc, not-suc-le-zero}
@@ -10,9 +10,15 @@ use lib.Dec.{ltb, eqb}
 use lib.ListN.{length, getD, length-append, List·getD-append}
 use lib.Seq.{getD-at}
 use borrow.Author.Tests.{ltb-true, ltb-false, eqb-true, eqb-false, eq-eqb, ne-eqb}
-use Rattle.lists.specs.Choice.{pick-yes, pick-no, Is, is-true, is-false, look, clash, and-both}
+use Rattle.lists.specs.Choice.{pick-yes, pick-no, Is, is-true, is-false, look, clash, and-both, or-right}
 use Rattle.lists.specs.Members.{mem, distinct, place}
 use Rattle.lists.specs.Parts.{upTo, numbers, sum, highest}
+
+pub flatMap-append : {A B : Type 0} (g : A → List B) (xs ys : List A) → flatMap g (xs ++ ys) ≡ flatMap g xs ++ flatMap g ys
+unfolding flatMap
+flatMap-append g [] ys = refl
+flatMap-append {A} {B} g (x ∷ xs) ys =
+    ap (λ (l : List B). g x ++ l) (flatMap-append g xs ys) ∙ sym (append-assoc (g x) (flatMap g xs) (flatMap g ys))
 
 pub length-numbers : (s c : ℕ) → length (numbers s c) ≡ c
 unfolding numbers
@@ -28,11 +34,7 @@ getD-numbers s (suc c) (suc k) d h = getD-numbers (suc s) c k d (le-of-suc-le-su
 -- membership in a longer list
 mem-cons : (x y : ℕ) (ys : List ℕ) → mem x ys ≡ true → mem x (y ∷ ys) ≡ true
 unfolding mem
-mem-cons x y ys h = go (eqb x y) (mem x ys) h
-  where
-    go : (a b : Bool) → b ≡ true → (a || b) ≡ true
-    go true b h = refl
-    go false b h = h
+mem-cons x y ys h = or-right (eqb x y) (mem x ys) h
 
 mem-first : (x y : ℕ) (ys : List ℕ) → x ≡ y → mem x (y ∷ ys) ≡ true
 unfolding mem

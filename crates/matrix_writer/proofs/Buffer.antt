@@ -1,11 +1,12 @@
 -- Laws of nodes in a lent buffer.
 -- Assumes nothing.
-use mathlib.Core.Path.{_≡_, refl, sym, _∙_}
-use mathlib.Core.List.{List, [], _∷_, _++_, flatMap, append-assoc, append-nil}
+use mathlib.Core.Path.{_≡_, refl, _∙_}
+use mathlib.Core.List.{List, [], _∷_, _++_, flatMap, append-nil}
 use Prim.Native.Nat.{ℕ, _+_, _*_, _≤_}
 use native.Mathlib.Omega.{arith}
 use lib.ListN.{length, length-append}
 use Rattle.lists.specs.Parts.{overwrite}
+use Rattle.lists.proofs.Parts.{flatMap-append}
 use Rattle.lists.proofs.Overwrite.{overwrite-nil, overwrite-append}
 use Rattle.formula.specs.Node.{Node, constant, variable, negation, operator, block}
 use Rattle.formula.specs.Words.{width}
@@ -20,13 +21,6 @@ length-words (variable x ∷ ns) = omega (arith, length-words ns)
 length-words (negation a ∷ ns) = omega (arith, length-words ns)
 length-words (operator f a b ∷ ns) = omega (arith, length-words ns)
 length-words (block q xs a ∷ ns) = omega (arith, length-words ns)
-
-words-append : (a b : List Node) → flatMap nodeWords (a ++ b) ≡ flatMap nodeWords a ++ flatMap nodeWords b
-unfolding flatMap
-words-append [] b = refl
-words-append (n ∷ a) b =
-    let e : flatMap nodeWords (a ++ b) ≡ flatMap nodeWords a ++ flatMap nodeWords b = words-append a b in
-    rw e (sym (append-assoc (nodeWords n) (flatMap nodeWords a) (flatMap nodeWords b)))
 
 -- one node
 pub with-one : (out : List ℕ) (at : ℕ) (n : Node) → overwrite out (width * at) (nodeWords n) ≡ withNodes out at (n ∷ [])
@@ -45,7 +39,7 @@ with-append out at a b fits =
     let la : length (flatMap nodeWords a) ≡ width * length a = length-words a in
     let lb : length (flatMap nodeWords b) ≡ width * length b = length-words b in
     let e : width * (at + length a) ≡ width * at + length (flatMap nodeWords a) = omega arith in
-    rw (e, words-append) (overwrite-append out (width * at) (flatMap nodeWords a) (flatMap nodeWords b) (omega arith))
+    rw (e, flatMap-append) (overwrite-append out (width * at) (flatMap nodeWords a) (flatMap nodeWords b) (omega arith))
 
 -- the same of a writer's steps
 pub with-then : (out mid last : List ℕ) (at next : ℕ) (a b : List Node) → mid ≡ withNodes out at a → last ≡ withNodes mid next b

@@ -20,14 +20,16 @@ use Rattle.prenex_form.specs.Levels.{blocksAt, levels, levelQuantifier}
 use Rattle.prenex_form.specs.Matrix.{and, implies, kept, constraint, further, constraints, wrap, levelNodes, nodeWords}
 use Rattle.arrays.specs.Link.{link}
 use Rattle.arrays.specs.Held.{atLevel}
+use Rattle.arrays.specs.Chains.{blocksFrom}
+use Rattle.arrays.proofs.Chains.{linked, linked-is, linked-next, blocksFrom-all, blocksFrom-some, on-chain}
 use Rattle.matrix_writer.specs.Added.{addedNodes}
 use Rattle.matrix_writer.specs.Buffer.{longestForm, withNodes, Room, Wrote}
-use Rattle.matrix_writer.specs.Chain.{blocksFrom, nodesAfter, LevelKind}
+use Rattle.matrix_writer.specs.Chain.{nodesAfter, LevelKind}
 use Rattle.matrix_writer.specs.Arrays.{ChainArrays}
 use Rattle.matrix_writer.proofs.Added.{length-added, added-grows}
 use Rattle.matrix_writer.proofs.Buffer.{with-none, with-append, with-then, wrote, wrote-then}
 use Rattle.matrix_writer.proofs.Blocks.{quantifier-is}
-use Rattle.matrix_writer.proofs.Chain.{chain, BlockOf, chain-is, blocks-all, leads, link-small, chain-next, first-linked, first-link, getD-within}
+use Rattle.matrix_writer.proofs.Chain.{BlockOf, leads, first-positive, first-link, getD-within}
 
 -- The first j levels are written, and the next one's quantifier is the kind's.
 pub record Levelled (t : Table) (out nodes : List ℕ) (kind next j : ℕ) : Type 0 where
@@ -132,9 +134,9 @@ module _ (t : Table) where
   -- a level in parts: the first block's constraint, those after it, and the wrap
   level-parts : (j b s : ℕ) → link (atLevel t (suc j)) 0 (t .size) ≡ suc b → level t b ≡ suc j
       → levelNodes t j s ≡ levelConstraints b s ++ (wrap (levelQuantifier t j) (s - 1) (s + length (levelConstraints b s) - 1) ∷ [])
-  unfolding levelNodes constraints chain
+  unfolding levelNodes constraints
   level-parts j b s e f =
-      let all : blocksAt t (suc j) ≡ b ∷ blocksFrom t (suc j) (suc b) = sym (blocks-all t (suc j)) ∙ sym (chain-is t (suc j) 0) ∙ ap (chain t (suc j)) e in
+      let all : blocksAt t (suc j) ≡ b ∷ blocksFrom t (suc j) (suc b) = sym (blocksFrom-all t (suc j)) ∙ blocksFrom-some t (suc j) 0 b e in
       rw (all, f)
 
   length-level : (j b s : ℕ) → link (atLevel t (suc j)) 0 (t .size) ≡ suc b → level t b ≡ suc j
@@ -157,7 +159,7 @@ module _ (t : Table) where
 -- what is known of level j + 1 and of its first block, which the array gives
 pub record LevelFacts (ws ls firsts : List ℕ) (j at : ℕ) : Type 0 where
   pub within : j + 1 < length firsts
-  pub linked : link (atLevel (tableOf ws ls) (suc j)) 0 (tableOf ws ls .size) ≡ suc (getD firsts (j + 1) 0 - 1)
+  pub link-is : link (atLevel (tableOf ws ls) (suc j)) 0 (tableOf ws ls .size) ≡ suc (getD firsts (j + 1) 0 - 1)
   pub positive : 0 < getD firsts (j + 1) 0
   pub block : BlockOf (tableOf ws ls) (suc j) (getD firsts (j + 1) 0 - 1)
   pub long : length (levelNodes (tableOf ws ls) j at)
@@ -170,12 +172,12 @@ level-facts {ws} {ls} {firsts} {nexts} {j} at ok held k =
     let t = tableOf ws ls in
     let v = getD firsts (j + 1) 0 in
     let e : v ≡ link (atLevel t (suc j)) 0 (t .size) = first-link j held (k .below) in
-    let p : 0 < v = omega (arith, first-linked t (suc j) (accepted-holds ws ls ok .proper .tree) (omega arith) (k .below)) in
+    let p : 0 < v = omega (arith, first-positive t (suc j) (accepted-holds ws ls ok .proper .tree) (omega arith) (k .below)) in
     let f : v ≡ suc (v - 1) = omega arith in
     let b = leads t (suc j) 0 v (v - 1) e f in
     record {
       within = getD-within firsts (j + 1) p;
-      linked = sym e ∙ f;
+      link-is = sym e ∙ f;
       positive = p;
       block = b;
       long = length-level t j (v - 1) at (sym e ∙ f) (b .level-is);
@@ -185,18 +187,18 @@ level-facts {ws} {ls} {firsts} {nexts} {j} at ok held k =
 pub record Rest (t : Table) (l : ℕ) (bs out : List ℕ) (at : ℕ) (nodes : List ℕ) (next v : ℕ) : Type 0 where
   pub block-at : (b : ℕ) → v ≡ suc b → BlockOf t l b
   pub small : v ≤ t .size
-  pub nodes-are : withNodes nodes next (further t (chain t l v) next) ≡ withNodes out at (further t bs at)
-  pub next-is : next + length (further t (chain t l v) next) ≡ at + length (further t bs at)
+  pub nodes-are : withNodes nodes next (further t (linked t l v) next) ≡ withNodes out at (further t bs at)
+  pub next-is : next + length (further t (linked t l v) next) ≡ at + length (further t bs at)
   pub long : length nodes ≡ length out
   pub later : at ≤ next
 
 module _ (t : Table) (l : ℕ) where
   pub rest-all : (out : List ℕ) (at i v : ℕ) → v ≡ link (atLevel t l) (suc i) (t .size) → Rest t l (blocksFrom t l (suc i)) out at out at v
   rest-all out at i v e =
-      let c : chain t l v ≡ blocksFrom t l (suc i) = ap (chain t l) e ∙ chain-is t l (suc i) in
+      let c = linked-is t l (suc i) v (sym e) in
       record {
         block-at = λ b f. leads t l (suc i) v b e f;
-        small = link-small t l (suc i) v e;
+        small = on-chain t l (suc i) v e .within;
         nodes-are = rw c;
         next-is = rw c;
         long = refl;
@@ -204,7 +206,7 @@ module _ (t : Table) (l : ℕ) where
       }
 
   pub rest-none : {bs out nodes : List ℕ} {at next v : ℕ} → Rest t l bs out at nodes next v → v ≡ 0 → Wrote out at (further t bs at) nodes next
-  unfolding chain further
+  unfolding linked further
   rest-none {bs} {out} {nodes} {at} {next} {v} r e =
       record {
         nodes-are = sym (with-none nodes next) ∙ (rw e at (r .nodes-are));
@@ -213,22 +215,22 @@ module _ (t : Table) (l : ℕ) where
 
   -- the block that the link leads to has room, and what is left after it is what its own link leads to
   module _ {bs out nodes : List ℕ} {at next v : ℕ} (b w : ℕ) (r : Rest t l bs out at nodes next v) (e : v ≡ suc b) (f : w ≡ link (atLevel t l) (suc b) (t .size)) where
-    left : further t (chain t l v) next ≡ further t (b ∷ []) next ++ further t (chain t l w) (next + length (further t (b ∷ []) next))
-    left = ap (λ (bs : List ℕ). further t bs next) (ap (chain t l) e ∙ chain-next t l b w f) ∙ further-cons t b (chain t l w) next
+    left : further t (linked t l v) next ≡ further t (b ∷ []) next ++ further t (linked t l w) (next + length (further t (b ∷ []) next))
+    left = ap (λ (bs : List ℕ). further t bs next) (ap (linked t l) e ∙ linked-next t l b w f) ∙ further-cons t b (linked t l w) next
 
-    length-left : length (further t (chain t l v) next) ≡ length (further t (b ∷ []) next) + length (further t (chain t l w) (next + length (further t (b ∷ []) next)))
+    length-left : length (further t (linked t l v) next) ≡ length (further t (b ∷ []) next) + length (further t (linked t l w) (next + length (further t (b ∷ []) next)))
     length-left = ap (λ (ns : List Node). length ns) left ∙ length-append (further t (b ∷ []) next) _
 
     pub rest-next : (last : List ℕ) (after : ℕ) → Wrote nodes next (further t (b ∷ []) next) last after → length last ≡ length nodes
         → width * (at + length (further t bs at)) ≤ length out → Rest t l bs out at last after w
     rest-next last after p k fits =
         let head = further t (b ∷ []) next in
-        let tail = further t (chain t l w) (next + length head) in
+        let tail = further t (linked t l w) (next + length head) in
         let n : after ≡ next + length head = p .next-is in
         let m : next + length head + length tail ≡ at + length (further t bs at) = omega (arith, length-left, r .next-is) in
         record {
           block-at = λ d g. leads t l (suc b) w d f g;
-          small = link-small t l (suc b) w f;
+          small = on-chain t l (suc b) w f .within;
           nodes-are =
               rw (p .nodes-are, n)
               (with-append nodes next head tail (omega (arith, r .long)) ∙ ap (withNodes nodes next) (sym left) ∙ r .nodes-are);
@@ -237,8 +239,8 @@ module _ (t : Table) (l : ℕ) where
           later = omega (arith, r .later);
         }
 
-    pub rest-shorter : length (chain t l w) < length (chain t l v)
-    rest-shorter = omega (arith, ap (λ (bs : List ℕ). length bs) (ap (chain t l) e ∙ chain-next t l b w f))
+    pub rest-shorter : length (linked t l w) < length (linked t l v)
+    rest-shorter = omega (arith, ap (λ (bs : List ℕ). length bs) (ap (linked t l) e ∙ linked-next t l b w f))
 
     pub rest-room : Room out at (length (further t bs at)) → Room nodes next (length (further t (b ∷ []) next))
     rest-room room = record { fits = omega (arith, room .fits, length-left, r .next-is, r .long); small = omega (arith, room .small, length-left, r .next-is) }

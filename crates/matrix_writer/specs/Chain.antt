@@ -1,22 +1,15 @@
 -- The blocks of a level as a chain through the working arrays.
 -- Assumes nothing.
-use mathlib.Core.Bool.{true, _&&_}
-use mathlib.Core.List.{List, [], _∷_}
+use mathlib.Core.Bool.{true}
+use mathlib.Core.List.{List}
 use mathlib.Core.Path.{_≡_}
 use Prim.Native.Nat.{ℕ, suc, _<_}
-use lib.Dec.{leb}
-use Rattle.lists.specs.Choice.{pick}
-use Rattle.lists.specs.Parts.{upTo}
 use Rattle.formula.specs.Node.{Node, Table}
 use Rattle.formula.specs.Form.{quantifierOf}
 use Rattle.prenex_form.specs.Scope.{inner, level}
 use Rattle.prenex_form.specs.Levels.{levels, levelQuantifier}
 use Rattle.prenex_form.specs.Matrix.{further}
-use Rattle.arrays.specs.Held.{atLevel}
-
--- the blocks of level l from node i on, in node order
-unfoldable pub blocksFrom : Table → ℕ → ℕ → List ℕ
-blocksFrom t l i = upTo (λ j. pick (leb i j && atLevel t l j) (j ∷ []) []) (t .size)
+use Rattle.arrays.specs.Chains.{blocksFrom}
 
 -- node i is an inner block of the table
 pub record InnerBlock (t : Table) (i : ℕ) : Type 0 where

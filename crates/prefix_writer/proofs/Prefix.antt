@@ -14,7 +14,8 @@ use Rattle.formula.specs.Node.{Quantifier, dual, Table}
 use Rattle.formula.specs.Form.{Block, prefixWidth}
 use Rattle.prenex_form.specs.Levels.{levels, levelQuantifier}
 use Rattle.prenex_form.specs.Prefix.{blockCount, prefixBlock, prefixBlocks, kindOf, prefixWords, writtenPrefix, writtenVariables}
-use Rattle.arrays.proofs.Chains.{between, between-all, between-on, between-end}
+use Rattle.arrays.specs.Chains.{between}
+use Rattle.arrays.proofs.Chains.{between-all, between-on, between-end}
 use Rattle.prefix_writer.proofs.Writing.{Left, left-start, left-room, left-step, left-end, flatMap-next}
 
 -- prefix blocks j and after

@@ -87,7 +87,11 @@ fn measure_accepted(words: &[u32], list: &[u32]) -> Sizes
 {
     let mut parents = [0u32; LIMIT];
     let mut levels = [0u32; LIMIT];
-    sizes_of(words, list, scopes::fill_scopes(words, list, &mut parents, &mut levels))
+    sizes_of(
+        words,
+        list,
+        scopes::fill_scopes(words, list, &mut parents, &mut levels),
+    )
 }
 
 // The sizes of a table whose counts are known.

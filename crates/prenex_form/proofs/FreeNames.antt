@@ -9,7 +9,7 @@ use native.Mathlib.Nat.{not-suc-le-zero}
 use lib.Dec.{eqb, ltb}
 use lib.ListN.{length, getD, length-append, List·getD-append}
 use borrow.Author.Tests.{eqb-true, eqb-false, eq-eqb, ne-eqb, ltb-true, ltb-false, not-true}
-use Rattle.lists.specs.Choice.{pick, pick-yes, pick-no, Is, is-true, is-false, look, clash, and-left, and-right, and-both}
+use Rattle.lists.specs.Choice.{pick, pick-yes, pick-no, Is, is-true, is-false, look, clash, and-left, and-right, and-both, or-left, or-right, or-cases}
 use Rattle.lists.specs.Members.{mem}
 use Rattle.lists.specs.Parts.{upTo}
 use Rattle.lists.proofs.Search.{lowest-le, lowest-none}
@@ -25,7 +25,7 @@ use Rattle.prenex_form.specs.Names.{highestNumber, newNames, newName, co
 use Rattle.prenex_form.specs.Levels.{blocksAt, levels, levelQuantifier}
 use Rattle.prenex_form.specs.Matrix.{kept, renamed, firstNodes, equation, constraint, further, constraints, wrap, levelNodes, nodesTo, prenexNodes, writtenNodes}
 use Rattle.prenex_form.specs.Prefix.{blockCount, leading, prefixBlock, prefixBlocks, writtenPrefix, writtenVariables}
-use Rattle.prenex_form.proofs.Paths.{or-right, or-cases, climb, parent-lt, parent-names, binder-root, binder-step, binder-block, inner-level, level-le-levels, mem-blocksAt, blocksAt-lt, blocksAt-inner}
+use Rattle.prenex_form.proofs.Paths.{climb, parent-lt, parent-names, binder-root, binder-step, binder-block, inner-level, level-le-levels, mem-blocksAt, blocksAt-lt, blocksAt-inner}
 use Rattle.prenex_form.proofs.NameLaws.{variable-le, length-newNames, length-copies, newNames-above, copies-above, definition-above, newName-free, newName-bound}
 use Rattle.prenex_form.proofs.Seen.{inner-block}
 use Rattle.prenex_form.proofs.NodeLists.{listTable, Plain}
@@ -38,9 +38,6 @@ use Rattle.prenex_form.proofs.PrefixNames.{prefix-read}
 absent : (a : Bool) → (a ≡ true → ⊥) → a ≡ false
 absent true h = absurd (h refl)
 absent false h = refl
-
-or-left : (a b : Bool) → a ≡ true → (a || b) ≡ true
-or-left a b h = rw h
 
 and-not : (a b : Bool) → (a && not b) ≡ true → b ≡ false
 and-not true true h = sym h

@@ -7,7 +7,7 @@ use Prim.Native.Nat.{ℕ, zero, suc, _+_, _-_, _≤_, _<_}
 use native.Mathlib.Omega.{arith}
 use lib.Dec.{eqb, ltb}
 use borrow.Author.Tests.{ltb-true, ltb-false, eqb-true, eqb-false, eq-eqb, ne-eqb, lt-ltb, le-ltb, not-true}
-use Rattle.lists.specs.Choice.{pick, pick-yes, pick-no, Is, is-true, is-false, look, clash, and-left, and-right, and-both}
+use Rattle.lists.specs.Choice.{pick, pick-yes, pick-no, Is, is-true, is-false, look, clash, and-left, and-right, and-both, or-right, or-cases}
 use Rattle.lists.specs.Search.{lowest}
 use Rattle.lists.specs.Members.{mem, times, place}
 use Rattle.lists.specs.Parts.{highest}
@@ -37,14 +37,6 @@ and-false false = refl
 and-off : (a b : Bool) → b ≡ false → (a && b) ≡ false
 and-off true b h = h
 and-off false b h = refl
-
-pub or-right : (a b : Bool) → b ≡ true → (a || b) ≡ true
-or-right true b h = refl
-or-right false b h = h
-
-pub or-cases : {P : Type 0} (a b : Bool) → (a || b) ≡ true → (a ≡ true → P) → (b ≡ true → P) → P
-or-cases true b h f g = f refl
-or-cases false b h f g = g h
 
 -- a test, and the same test without e
 or-without : (e m : Bool) → (e ≡ true → m ≡ false) → ((e || m) && not e) ≡ m

@@ -15,7 +15,7 @@ use Rattle.lists.specs.Choice.{pick, pick-yes, pick-no, Is, is-true, is-false, 
 use Rattle.lists.specs.Members.{mem, distinct}
 use Rattle.lists.specs.Parts.{sum, upTo}
 use Rattle.lists.proofs.Members.{mem-head, mem-tail, mem-one, mem-neither, mem-flatMap-from, mem-getD, distinct-append}
-use Rattle.lists.proofs.Parts.{upTo-cong, length-upTo, length-each, mem-upTo-from, sum-cong, sum-mono, sum-add, term-le}
+use Rattle.lists.proofs.Parts.{flatMap-append, upTo-cong, length-upTo, length-each, mem-upTo-from, sum-cong, sum-mono, sum-add, term-le}
 use Rattle.formula.specs.Node.{Quantifier, exists, for-all, Node, constant, variable, negation, operator, block, Table, isBlock, bound}
 use Rattle.formula.specs.Tree.{Tree, count, boundBelow}
 use Rattle.formula.specs.Words.{range}
@@ -89,12 +89,6 @@ module _ (t : Table) where
 -- lists and sums
 
 module _ {A B : Type 0} where
-  flatMap-append : (g : A → List B) (xs ys : List A) → flatMap g (xs ++ ys) ≡ flatMap g xs ++ flatMap g ys
-  unfolding flatMap
-  flatMap-append g [] ys = refl
-  flatMap-append g (x ∷ xs) ys =
-      ap (λ (l : List B). g x ++ l) (flatMap-append g xs ys) ∙ sym (append-assoc (g x) (flatMap g xs) (flatMap g ys))
-
   flatMap-upTo : (g : A → List B) (f : ℕ → List A) (n : ℕ) → flatMap g (upTo f n) ≡ upTo (λ i. flatMap g (f i)) n
   unfolding flatMap upTo
   flatMap-upTo g f zero = refl

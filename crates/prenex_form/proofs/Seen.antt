@@ -7,7 +7,7 @@ use Prim.Native.Nat.{ℕ, zero, suc, _-_, _≤_, _<_}
 use native.Mathlib.Omega.{arith}
 use lib.Dec.{eqb, ltb, leb}
 use borrow.Author.Tests.{ltb-true, ltb-false, eqb-true, eq-eqb, leb-true, le-leb}
-use Rattle.lists.specs.Choice.{pick, pick-yes, pick-no, Is, is-true, is-false, look, clash, and-left, and-right, and-both}
+use Rattle.lists.specs.Choice.{pick, pick-yes, pick-no, Is, is-true, is-false, look, clash, and-left, and-right, and-both, or-right, or-cases}
 use Rattle.lists.specs.Members.{mem, all}
 use Rattle.lists.proofs.Search.{lowest-le}
 use Rattle.lists.proofs.Members.{mem-one, mem-head, mem-tail}
@@ -22,7 +22,7 @@ use Rattle.prenex_form.specs.Names.{highestNumber, newName, newNames, co
 use Rattle.prenex_form.specs.Levels.{blocksAt, quantifierAt, levelQuantifier}
 use Rattle.prenex_form.specs.Matrix.{kept, bodyOf}
 use Rattle.prenex_form.proofs.Cut.{cutNode, cut, valueAt, agree, guarded, holds, blockHolds, joined, matrixAt}
-use Rattle.prenex_form.proofs.Paths.{or-right, or-cases, body-named, parent-is, climb, path-root, path-step, path-self, above-root, above-step, above-cases, binder-block, binder-above, level-root, above-level, above-level-le, blocksAt-lt, blocksAt-inner, blocksAt-level, root-body}
+use Rattle.prenex_form.proofs.Paths.{body-named, parent-is, climb, path-root, path-step, path-self, above-root, above-step, above-cases, binder-block, binder-above, level-root, above-level, above-level-le, blocksAt-lt, blocksAt-inner, blocksAt-level, root-body}
 use Rattle.prenex_form.proofs.NameLaws.{variable-le, newName-free, newName-bound, newNames-above, newNames-le, copies-above, copies-le, definition-above, newNames-apart, copies-apart}
 
 -- the nodes of a cut: nothing but blocks is changed, a block to a definition variable or to a block with its new names

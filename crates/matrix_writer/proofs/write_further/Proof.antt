@@ -7,8 +7,9 @@ use lib.ListN.{length}
 use borrow.Author.Needs.{needs}
 use Rattle.formula.specs.Words.{tableOf}
 use Rattle.prenex_form.specs.Scope.{level}
-use Rattle.matrix_writer.specs.Chain.{blocksFrom}
-use Rattle.matrix_writer.proofs.Chain.{BlockOf, chain, next-linked}
+use Rattle.arrays.specs.Chains.{blocksFrom}
+use Rattle.arrays.proofs.Chains.{linked}
+use Rattle.matrix_writer.proofs.Chain.{BlockOf, next-link}
 use Rattle.matrix_writer.proofs.Blocks.{table-few}
 use Rattle.matrix_writer.proofs.Levels.{Rest, rest-all, rest-none, rest-next, rest-shorter, rest-room}
 use Rattle.matrix_writer.proofs.write_further.Statement.{statement}
@@ -18,18 +19,18 @@ abbrev Inv-loop : tie.InvT-loop
 Inv-loop words list nodes₀ nexts starts names copies marks i at next₀ link₀ nodes next link = Rest (tableOf words list) (level (tableOf words list) i) (blocksFrom (tableOf words list) (level (tableOf words list) i) (suc i)) nodes₀ at nodes next link
 
 abbrev μ-loop : tie.MeasureT-loop
-μ-loop words list nodes₀ nexts starts names copies marks i at next₀ link₀ nodes next link = length (chain (tableOf words list) (level (tableOf words list) i) link)
+μ-loop words list nodes₀ nexts starts names copies marks i at next₀ link₀ nodes next link = length (linked (tableOf words list) (level (tableOf words list) i) link)
 
 -- the function's entry
 abbrev entry : tie.In-loop Inv-loop μ-loop → tie.Start Inv-loop μ-loop
 entry c = c .before .before .before .before .before .before .before .before .before .before .before
 
 -- the link that the loop has come to, and its block
-linked : (c : tie.In-loop Inv-loop μ-loop) → c .before .loop .link ≡ suc (c .before .loop .link - 1)
-linked c = let n : c .before .loop .link ≡ 0 → ⊥ = c .loop-test .taken in omega arith
+at-block : (c : tie.In-loop Inv-loop μ-loop) → c .before .loop .link ≡ suc (c .before .loop .link - 1)
+at-block c = let n : c .before .loop .link ≡ 0 → ⊥ = c .loop-test .taken in omega arith
 
 here : (c : tie.In-loop Inv-loop μ-loop) → BlockOf (tableOf (entry c .args .words .now) (entry c .args .list .now)) (level (tableOf (entry c .args .words .now) (entry c .args .list .now)) (entry c .args .i)) (c .before .loop .link - 1)
-here c = c .before .loop .inv .block-at _ (linked c)
+here c = c .before .loop .inv .block-at _ (at-block c)
 
 mul-link : tie.Need-mul-link Inv-loop μ-loop
 mul-link c = let s = c .before .before .before .before .before .before .before .before in omega (arith, table-few _ _ (s .pre .0 .is-accepted), s .pre)
@@ -51,7 +52,7 @@ write-next-requires c κs =
     let t = c .before in
     let s = entry t in
     let r = t .before .loop .inv in
-    let fits = rest-room _ _ _ _ r (linked t) refl (s .pre .1 .1 .1 .1) in
+    let fits = rest-room _ _ _ _ r (at-block t) refl (s .pre .1 .1 .1 .1) in
     (s .pre .0, (here t .block, (omega (arith, r .later, s .pre .1 .1 .1 .0), fits)))
 
 mul-link-2 : tie.Need-mul-link-2 Inv-loop μ-loop
@@ -61,18 +62,18 @@ mul-link-2 c =
 shared-slice-read-link-2 : tie.Need-shared-slice-read-link-2 Inv-loop μ-loop
 shared-slice-read-link-2 c =
     let t = c .before .before .before .before .before in
-    omega (arith, table-few _ _ (entry t .pre .0 .is-accepted), t .before .loop .inv .small, linked t, entry t .pre .1 .0)
+    omega (arith, table-few _ _ (entry t .pre .0 .is-accepted), t .before .loop .inv .small, at-block t, entry t .pre .1 .0)
 
 loop-less : tie.Need-loop-less Inv-loop μ-loop
 loop-less c =
-    let t = c .before .before .before .before .before in rest-shorter _ _ _ _ (t .before .loop .inv) (linked t) (next-linked (entry t .pre .1 .0) (here t))
+    let t = c .before .before .before .before .before in rest-shorter _ _ _ _ (t .before .loop .inv) (at-block t) (next-link (entry t .pre .1 .0) (here t))
 
 loop-again : tie.Need-loop-again Inv-loop μ-loop
 loop-again c =
     let w = c .before .before .before .write-next in
     let t = c .before .before .before .before .before in
     let s = entry t in
-    rest-next _ _ _ _ (t .before .loop .inv) (linked t) (next-linked (s .pre .1 .0) (here t)) _ _ (w .ensures) (w .kept .1 .1 .0) (s .pre .1 .1 .1 .1 .fits)
+    rest-next _ _ _ _ (t .before .loop .inv) (at-block t) (next-link (s .pre .1 .0) (here t)) _ _ (w .ensures) (w .kept .1 .1 .0) (s .pre .1 .1 .1 .1 .fits)
 
 same-length : tie.Need-same-length Inv-loop μ-loop
 same-length c = c .before .loop .inv .long

@@ -76,7 +76,7 @@ returns : tie.Need-returns
 returns c =
     let f = c .before .before .before .before .before .before in
     let s = entry (written f) in
-    wrote-level _ _ _ _ _ _ _ _ _ _ _ (known s .linked) (known s .block .level-is) (written f .write-constraint .ensures) (f .write-further .ensures)
+    wrote-level _ _ _ _ _ _ _ _ _ _ _ (known s .link-is) (known s .block .level-is) (written f .write-constraint .ensures) (f .write-further .ensures)
     (c .before .before .write-wrap .ensures) (s .pre .1 .1 .0 .quantifier-is) (s .pre .1 .1 .1 .1 .fits)
 
 pub write-level-spec : {M : Type 1} → statement M

@@ -85,11 +85,11 @@ write-form-requires c κs =
     let tree = accepted-holds (s .args .words .now) (s .args .list .now) (s .pre) .proper .tree in
     let z = c .before .before .before .before .before .before .before .before .before .before .before .sizes-of .ensures in
     let room : Room (s .args .words .now) (s .args .list .now) (s .args .nodes .now) (s .args .prefix .now) (s .args .variables .now) =
-        record {
-          nodes-fit = omega (arith, nodes-size t tree, ap (λ (z : Sizes). z .nodes) z, c .before .before .before .before .before .before .before .before .before .if1 .left);
-          prefix-fits = omega (arith, prefix-size t tree, ap (λ (z : Sizes). z .blocks) z, c .before .before .before .before .before .before .before .if2 .left);
-          variables-fit = omega (arith, variables-size t tree, ap (λ (z : Sizes). z .entries) z, c .before .before .before .before .before .if3 .left)
-        } in
+    record {
+      nodes-fit = omega (arith, nodes-size t tree, ap (λ (z : Sizes). z .nodes) z, c .before .before .before .before .before .before .before .before .before .if1 .left);
+      prefix-fits = omega (arith, prefix-size t tree, ap (λ (z : Sizes). z .blocks) z, c .before .before .before .before .before .before .before .if2 .left);
+      variables-fit = omega (arith, variables-size t tree, ap (λ (z : Sizes). z .entries) z, c .before .before .before .before .before .if3 .left);
+    } in
     let f = c .before .before .before .before .before .before .before .before .before .before .before .before .before .before .fill-scopes in
     let a : Placed (s .args .words .now) (s .args .list .now) _ = record { checked = s .pre; placed = f .ensures .0; parents-long = f .kept .1 .1 .0 } in
     let l : Levelled (s .args .words .now) (s .args .list .now) _ = record { levelled = f .ensures .1 .0; levels-long = f .kept .1 .1 .1 .0 } in
@@ -114,11 +114,11 @@ returns-4 c =
     let tree = accepted-holds (s .args .words .now) (s .args .list .now) (s .pre) .proper .tree in
     let z = c .before .before .before .before .before .before .before .before .before .before .before .before .before .before .before .before .before .before .before .sizes-of .ensures in
     let room : Room (s .args .words .now) (s .args .list .now) (s .args .nodes .now) (s .args .prefix .now) (s .args .variables .now) =
-        record {
-          nodes-fit = omega (arith, nodes-size t tree, ap (λ (z : Sizes). z .nodes) z, c .before .before .before .before .before .before .before .before .before .before .before .before .before .before .before .before .before .if1 .left);
-          prefix-fits = omega (arith, prefix-size t tree, ap (λ (z : Sizes). z .blocks) z, c .before .before .before .before .before .before .before .before .before .before .before .before .before .before .before .if2 .left);
-          variables-fit = omega (arith, variables-size t tree, ap (λ (z : Sizes). z .entries) z, c .before .before .before .before .before .before .before .before .before .before .before .before .before .if3 .left)
-        } in
+    record {
+      nodes-fit = omega (arith, nodes-size t tree, ap (λ (z : Sizes). z .nodes) z, c .before .before .before .before .before .before .before .before .before .before .before .before .before .before .before .before .before .if1 .left);
+      prefix-fits = omega (arith, prefix-size t tree, ap (λ (z : Sizes). z .blocks) z, c .before .before .before .before .before .before .before .before .before .before .before .before .before .before .before .if2 .left);
+      variables-fit = omega (arith, variables-size t tree, ap (λ (z : Sizes). z .entries) z, c .before .before .before .before .before .before .before .before .before .before .before .before .before .if3 .left);
+    } in
     lifted-done (s .args .words .now) (s .args .list .now) (s .args .nodes .now) (s .args .prefix .now) (s .args .variables .now) (s .pre) room _ _ (c .done .ensures) z _ _ _ (c .before .before .before .before .before .before .before .write-form .ensures)
 
 pub lift-accepted-spec : {M : Type 1} → statement M

@@ -42,9 +42,9 @@ write-named-requires c κs =
     let f = c .before .before .before .before .before .before .before .fill-starts in
     let h = c .before .before .before .before .before .before .before .before .before .before .before .chain-levels in
     let a : Started (s .args .words .now) (s .args .list .now) _ =
-        record { checked = p .0 .checked; started = f .ensures .0; starts-long = f .kept .1 .1 .0 } in
+    record { checked = p .0 .checked; started = f .ensures .0; starts-long = f .kept .1 .1 .0 } in
     let k : Chained (s .args .words .now) (s .args .list .now) _ _ =
-        record { chained = h .ensures; firsts-long = h .kept .1 .1 .1 .0; nexts-long = h .kept .1 .1 .1 .1 .0 } in
+    record { chained = h .ensures; firsts-long = h .kept .1 .1 .1 .0; nexts-long = h .kept .1 .1 .1 .1 .0 } in
     (p .0, (a, (k, (p .1 .1 .0, p .1 .1 .1))))
 
 same-length : tie.Need-same-length

@@ -57,7 +57,7 @@ write-matrix-requires c κs =
       named = g .give-names .ensures .0;
       names-long = g .give-names .kept .1 .1 .1 .0;
       copies-long = g .give-names .kept .1 .1 .1 .1 .0;
-      marks-long = g .give-names .kept .1 .1 .1 .1 .1 .0
+      marks-long = g .give-names .kept .1 .1 .1 .1 .1 .0;
     } in
     (p .0, (p .1 .0, (p .1 .1 .0, (n, (p .1 .1 .1 .0 .deepest-is, p .1 .1 .1 .1 .nodes-fit)))))
 
@@ -81,9 +81,19 @@ write-prefix-requires c κs =
     let h = p .1 .1 .0 in
     let n = p .1 .1 .1 .0 in
     let r = p .1 .1 .1 .1 in
-    let k = g .give-names .kept .1 .1 .1 in
-    (p .0 .checked, (p .1 .0 .started, (g .give-names .ensures .0, (h .chained,
-    ((p .1 .0 .starts-long, k .0, k .1 .0, k .1 .1 .0, h .firsts-long, h .nexts-long), ((n .blocks-is, n .deepest-is), (r .prefix-fits, r .variables-fit)))))))
+    let k = g .give-names .kept .1 .1 .1 in (
+      p .0 .checked,
+      (
+        p .1 .0 .started,
+        (
+          g .give-names .ensures .0,
+          (
+            h .chained,
+            ((p .1 .0 .starts-long, k .0, k .1 .0, k .1 .1 .0, h .firsts-long, h .nexts-long), ((n .blocks-is, n .deepest-is), (r .prefix-fits, r .variables-fit))),
+          ),
+        ),
+      ),
+    )
 
 same-length : tie.Need-same-length
 same-length c = search needs
