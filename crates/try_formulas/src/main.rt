@@ -14,7 +14,7 @@ fn main() {
     edges();
     large();
     long_list();
-    crowded();
+    many_variables();
     form();
 }
 
@@ -256,7 +256,7 @@ fn long_list() {
 }
 
 // Two blocks over one range of 2,049 entries, and over one of 2,048.
-fn crowded() {
+fn many_variables() {
     let mut list = [0u32; 2049];
     count_up(&mut list);
     show(
