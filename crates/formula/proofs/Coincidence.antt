@@ -6,7 +6,7 @@ use mathlib.Core.Bool.{Bool, true, false, not, _&&_, _||_}
 use mathlib.Core.List.{List, [], _∷_}
 use Prim.Native.Nat.{ℕ, zero, suc, _-_}
 use borrow.Author.Tests.{eq-eqb}
-use Rattle.lists.specs.Choice.{Is, is-true, is-false, look, and-both}
+use Rattle.lists.specs.Choice.{Is, is-true, is-false, look, and-both, or-left, or-right}
 use Rattle.lists.specs.Members.{mem}
 use Rattle.formula.specs.Node.{Node, constant, variable, negation, operator, block, Table}
 use Rattle.formula.specs.Words.{tableOf}
@@ -22,13 +22,6 @@ EqualAt p v u = (x : ℕ) → p x ≡ true → v x ≡ u x
 -- f looks only at the numbers that pass the test.
 abbrev pub Only : (ℕ → Bool) → (Valuation → Bool) → Type 0
 Only p f = (v u : Valuation) → EqualAt p v u → f v ≡ f u
-
-or-left : (a b : Bool) → a ≡ true → (a || b) ≡ true
-or-left a b h = rw h
-
-or-right : (a b : Bool) → b ≡ true → (a || b) ≡ true
-or-right true b h = refl
-or-right false b h = h
 
 -- Past a stretch that two valuations share, they are equal wherever they were.
 past : (p r : ℕ → Bool) (xs : List ℕ) (v u v' u' : Valuation)

@@ -1,13 +1,13 @@
 -- Which outcome it is, by the verdict and the room.
 -- Assumes nothing.
-use mathlib.Core.Path.{_≡_, refl, sym, _∙_, ap}
-use mathlib.Core.Bool.{Bool, true, false, _||_, true≢false}
+use mathlib.Core.Path.{_≡_, sym, _∙_, ap}
+use mathlib.Core.Bool.{true, false, _||_}
 use mathlib.Core.List.{List}
 use Prim.Native.Nat.{ℕ, _<_}
 use lib.Dec.{eqb, ltb}
 use lib.ListN.{length}
 use borrow.Author.Tests.{eq-eqb, ne-eqb, lt-ltb, le-ltb}
-use Rattle.lists.specs.Choice.{pick-yes, pick-no, or-neither}
+use Rattle.lists.specs.Choice.{pick-yes, pick-no, or-neither, or-left, or-right}
 use Rattle.lists.specs.Parts.{overwrite}
 use Rattle.formula.specs.Words.{tableOf}
 use Rattle.table_check.specs.declared.Verdict.{Verdict}
@@ -43,14 +43,6 @@ pub room-enough : (ws ls nodes prefix variables : List ℕ) → Room ws ls nodes
 unfolding tooShort
 room-enough ws ls nodes prefix variables room =
     or-neither _ _ (or-neither _ _ (le-ltb _ _ (room .nodes-fit)) (le-ltb _ _ (room .prefix-fits))) (le-ltb _ _ (room .variables-fit))
-
-or-left : (a b : Bool) → a ≡ true → (a || b) ≡ true
-or-left true b h = refl
-or-left false b h = absurd (true≢false (sym h))
-
-or-right : (a b : Bool) → b ≡ true → (a || b) ≡ true
-or-right true b h = refl
-or-right false b h = h
 
 module _ (ws ls nodes prefix variables : List ℕ) where
   pub short-nodes : length nodes < length (writtenNodes (tableOf ws ls)) → tooShort ws ls nodes prefix variables ≡ true

@@ -1,4 +1,4 @@
--- The form that a lift leaves in its buffers, and its measured sizes.
+-- The form that a lift leaves in its buffers.
 -- Assumes nothing.
 use mathlib.Core.Path.{_≡_, sym, _∙_, ap}
 use mathlib.Core.Bool.{true}
@@ -11,33 +11,18 @@ use lib.Seq.{take-at}
 use borrow.Author.Tests.{eqb-true, eqb-false}
 use Rattle.lists.specs.Choice.{pick-yes, pick-no, Is, is-true, is-false, look}
 use Rattle.lists.specs.Parts.{overwrite}
-use Rattle.formula.specs.Node.{Table}
 use Rattle.formula.specs.Words.{width, tableOf}
 use Rattle.formula.specs.Form.{prefixWidth}
-use Rattle.formula.specs.Tree.{Tree}
 use Rattle.table_check.specs.Verdict.{verdict, accepted}
-use Rattle.table_check.proofs.Accepted.{accepted-holds, number-zero}
+use Rattle.table_check.proofs.Accepted.{number-zero}
 use Rattle.prenex_form.specs.declared.Sizes.{Sizes}
 use Rattle.prenex_form.specs.Matrix.{writtenNodes}
 use Rattle.prenex_form.specs.Prefix.{writtenPrefix, writtenVariables}
 use Rattle.prenex_form.specs.Sizes.{sizes}
 use Rattle.prenex_form.specs.Promise.{PrenexOf}
-use Rattle.prenex_form.proofs.PrefixNames.{prefix-entries, prefix-length}
-use Rattle.prenex_form.proofs.WrittenWords.{written-whole, written-count}
-use Rattle.prenex_form.proofs.Theorem.{prenex}
+use Rattle.prenex_form.proofs.Theorem.{prenex, measured}
 use Rattle.prenex.specs.declared.Answer.{Answer}
 use Rattle.prenex.specs.Outcome.{refusal, done, Outcome, tooShort, after, lifted}
-
--- The measured sizes are the sizes written.
-
-pub nodes-size : (t : Table) → Tree t → length (writtenNodes t) ≡ width * sizes t .nodes
-nodes-size t tree = written-whole t tree ∙ ap (λ n. width * n) (written-count t tree)
-
-pub prefix-size : (t : Table) → Tree t → length (writtenPrefix t) ≡ prefixWidth * sizes t .blocks
-prefix-size t tree = prefix-length t tree
-
-pub variables-size : (t : Table) → Tree t → length (writtenVariables t) ≡ sizes t .entries
-variables-size t tree = prefix-entries t tree
 
 -- what is written over a buffer's start stands there
 start-of : (out ws : List ℕ) (n : ℕ) → length ws ≡ n → take n (overwrite out 0 ws) ≡ ws
@@ -55,20 +40,20 @@ module _ (ws ls nodes prefix variables : List ℕ) (r : Answer) (nodes' prefix' 
   unfolding after done
   parts ok e =
       let t = tableOf ws ls in
-      let tree = accepted-holds ws ls ok .proper .tree in
+      let m = measured ws ls ok in
       let s : r .sizes ≡ sizes t = ap (λ (o : Outcome). o .answer .sizes) e in
       let n : take (width * r .sizes .nodes) nodes' ≡ writtenNodes t =
       ap (λ (m : ℕ). take m nodes') (ap (λ (z : Sizes). width * z .nodes) s)
       ∙ ap (take (width * sizes t .nodes)) (ap (λ (o : Outcome). o .nodes) e)
-      ∙ start-of nodes (writtenNodes t) _ (nodes-size t tree) in
+      ∙ start-of nodes (writtenNodes t) _ (m .nodes-measured) in
       let p : take (prefixWidth * r .sizes .blocks) prefix' ≡ writtenPrefix t =
       ap (λ (m : ℕ). take m prefix') (ap (λ (z : Sizes). prefixWidth * z .blocks) s)
       ∙ ap (take (prefixWidth * sizes t .blocks)) (ap (λ (o : Outcome). o .prefix) e)
-      ∙ start-of prefix (writtenPrefix t) _ (prefix-size t tree) in
+      ∙ start-of prefix (writtenPrefix t) _ (m .blocks-measured) in
       let v : take (r .sizes .entries) variables' ≡ writtenVariables t =
       ap (λ (m : ℕ). take m variables') (ap (λ (z : Sizes). z .entries) s)
       ∙ ap (take (sizes t .entries)) (ap (λ (o : Outcome). o .variables) e)
-      ∙ start-of variables (writtenVariables t) _ (variables-size t tree) in
+      ∙ start-of variables (writtenVariables t) _ (m .entries-measured) in
       rw (n, p, v) (prenex ws ls ok)
 
   -- Lifting's second promise follows from its first: where the answer is 0, the buffers hold a prenex form of the table.

@@ -1,27 +1,28 @@
 -- The theorem: the written form of every accepted table is a prenex form of it (specs/Promise.antt).
 -- Assumes nothing.
-use mathlib.Core.Path.{_≡_, sym, _∙_}
+use mathlib.Core.Path.{_≡_, sym, _∙_, ap}
 use mathlib.Core.Bool.{false}
 use mathlib.Core.List.{List, []}
-use Prim.Native.Nat.{ℕ}
+use Prim.Native.Nat.{ℕ, _*_}
 use lib.ListN.{getD}
 use Rattle.formula.specs.Node.{constant, Table}
-use Rattle.formula.specs.Words.{nodeAt, tableOf}
+use Rattle.formula.specs.Words.{width, nodeAt, tableOf}
 use Rattle.formula.specs.Tree.{Tree}
 use Rattle.table_check.specs.Verdict.{verdict, accepted}
 use Rattle.table_check.specs.Accepted.{Accepted}
 use Rattle.table_check.proofs.Accepted.{accepted-holds}
 use Rattle.prenex_form.specs.Matrix.{prenexNodes, writtenNodes}
 use Rattle.prenex_form.specs.Prefix.{writtenPrefix, writtenVariables}
-use Rattle.prenex_form.specs.Promise.{PrenexOf}
+use Rattle.prenex_form.specs.Sizes.{sizes}
+use Rattle.prenex_form.specs.Promise.{PrenexOf, SizesOf}
 use Rattle.prenex_form.proofs.Truth.{same-truth}
 use Rattle.prenex_form.proofs.FreeNames.{same-free}
 use Rattle.prenex_form.proofs.Limits.{highest-limit, bound-limit, size-limit}
 use Rattle.prenex_form.proofs.NodeLists.{words-read}
-use Rattle.prenex_form.proofs.PrefixNames.{prefix-distinct, prefix-entries, length-prefixBlocks, prefix-name-le, node-name-le, entries-le, blocks-le}
+use Rattle.prenex_form.proofs.PrefixNames.{prefix-length, prefix-distinct, prefix-entries, length-prefixBlocks, prefix-name-le, node-name-le, entries-le, blocks-le}
 use Rattle.prenex_form.proofs.PrefixShape.{prefix-count, prefix-whole, prefix-kinds-from, prefix-kinds-to, prefix-follow, prefix-fill}
 use Rattle.prenex_form.proofs.WrittenOrder.{prenex-plain}
-use Rattle.prenex_form.proofs.WrittenWords.{written-whole, written-kinds, written-tree, written-bound, written-few}
+use Rattle.prenex_form.proofs.WrittenWords.{written-whole, written-count, written-kinds, written-tree, written-bound, written-few}
 
 -- node i of the written words is node i of the form
 written-node : (t : Table) → Tree t → (i : ℕ) → nodeAt (writtenNodes t) [] i ≡ getD (prenexNodes t) i (constant false)
@@ -61,3 +62,15 @@ of-accepted ws ls a =
 pub prenex : (ws ls : List ℕ) → verdict ws ls ≡ accepted
     → PrenexOf (tableOf ws ls) (writtenNodes (tableOf ws ls)) (writtenPrefix (tableOf ws ls)) (writtenVariables (tableOf ws ls))
 prenex ws ls h = of-accepted ws ls (accepted-holds ws ls h)
+
+-- "Measured sizes are the sizes written."
+pub measured : (ws ls : List ℕ) → verdict ws ls ≡ accepted
+    → SizesOf (sizes (tableOf ws ls)) (writtenNodes (tableOf ws ls)) (writtenPrefix (tableOf ws ls)) (writtenVariables (tableOf ws ls))
+measured ws ls h =
+    let t = tableOf ws ls in
+    let tree = accepted-holds ws ls h .proper .tree in
+    record {
+      nodes-measured = written-whole t tree ∙ ap (λ n. width * n) (written-count t tree);
+      blocks-measured = prefix-length t tree;
+      entries-measured = prefix-entries t tree;
+    }

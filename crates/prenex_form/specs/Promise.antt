@@ -1,6 +1,6 @@
 -- What is owed of a prenex form: the three lists ns (words of nodes), ps (words of prefix blocks) and xs (variables) are a
 -- prenex form of the table t, with its truth value under every valuation and within the promised sizes. That the written form of
--- every accepted table is one is the theorem `prenex` (proofs/Theorem.antt).
+-- every accepted table is one is the theorem `prenex`, and that it has the measured sizes the theorem `measured` (proofs/Theorem.antt).
 -- Assumes nothing.
 use mathlib.Core.Bool.{true}
 use mathlib.Core.List.{List, []}
@@ -15,6 +15,7 @@ use Rattle.formula.specs.Valuation.{Valuation}
 use Rattle.formula.specs.Truth.{truth, free}
 use Rattle.formula.specs.Form.{prefixWidth, formTruth, formFree}
 use Rattle.formula.specs.Tree.{Tree}
+use Rattle.prenex_form.specs.declared.Sizes.{Sizes}
 use Rattle.prenex_form.specs.Scope.{depth}
 use Rattle.prenex_form.specs.Names.{boundCount}
 use Rattle.prenex_form.specs.Prefix.{blockCount}
@@ -45,3 +46,9 @@ pub record PrenexOf (t : Table) (ns ps xs : List ℕ) : Type 0 where
   pub nodes-limit : nodeCount ns ≤ 40960
   pub matrix-names : (i x : ℕ) → i < nodeCount ns → nodeAt ns [] i ≡ variable x → x ≤ 77823
   pub prefix-names : (x : ℕ) → mem x xs ≡ true → x ≤ 77823
+
+-- "Measured sizes are the sizes written": the nodes, prefix blocks and list entries of s are those of the three lists.
+pub record SizesOf (s : Sizes) (ns ps xs : List ℕ) : Type 0 where
+  pub nodes-measured : length ns ≡ width * s .nodes
+  pub blocks-measured : length ps ≡ prefixWidth * s .blocks
+  pub entries-measured : length xs ≡ s .entries

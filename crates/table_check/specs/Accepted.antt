@@ -1,7 +1,7 @@
 -- What holds of every accepted table. Crates above cite this record (proofs/Accepted.antt makes it of the verdict) and
 -- never the verdict's text.
 -- Assumes nothing.
-use mathlib.Core.Bool.{Bool, true, false}
+use mathlib.Core.Bool.{true}
 use mathlib.Core.List.{List}
 use mathlib.Core.Path.{_≡_}
 use Prim.Native.Nat.{ℕ, _+_, _*_, _<_, _≤_}

@@ -1,12 +1,10 @@
 -- `prenex::lift_accepted` meets its contract.
 -- Assumes nothing.
 use mathlib.Core.Path.{ap}
-use Rattle.formula.specs.Words.{tableOf}
-use Rattle.table_check.proofs.Accepted.{accepted-holds}
+use Rattle.prenex_form.proofs.Theorem.{measured}
 use Rattle.prenex_form.specs.declared.Sizes.{Sizes}
 use Rattle.prenex.specs.Arrays.{Placed, Levelled, Room}
 use Rattle.prenex.proofs.Answers.{short-nodes, short-prefix, short-variables, lifted-short, lifted-done}
-use Rattle.prenex.proofs.Form.{nodes-size, prefix-size, variables-size}
 use native.Mathlib.Omega.{arith}
 use borrow.Author.Needs.{needs}
 use Rattle.prenex.proofs.lift_accepted.Statement.{statement}
@@ -36,10 +34,9 @@ refusal-requires c κs = search needs
 returns : tie.Need-returns
 returns c =
     let s = c .before .before .before .before .before .before .before .before .before .before .before .before .before .before in
-    let t = tableOf (s .args .words .now) (s .args .list .now) in
-    let tree = accepted-holds (s .args .words .now) (s .args .list .now) (s .pre) .proper .tree in
+    let m = measured (s .args .words .now) (s .args .list .now) (s .pre) in
     let e = ap (λ (z : Sizes). z .nodes) (c .before .before .before .sizes-of .ensures) in
-    lifted-short (s .args .words .now) (s .args .list .now) (s .args .nodes .now) (s .args .prefix .now) (s .args .variables .now) (s .pre) (short-nodes (s .args .words .now) (s .args .list .now) (s .args .nodes .now) (s .args .prefix .now) (s .args .variables .now) (omega (arith, nodes-size t tree, e, c .before .if1 .taken))) _ (c .refusal .ensures)
+    lifted-short (s .args .words .now) (s .args .list .now) (s .args .nodes .now) (s .args .prefix .now) (s .args .variables .now) (s .pre) (short-nodes (s .args .words .now) (s .args .list .now) (s .args .nodes .now) (s .args .prefix .now) (s .args .variables .now) (omega (arith, m .nodes-measured, e, c .before .if1 .taken))) _ (c .refusal .ensures)
 
 cast-if2 : tie.Need-cast-if2
 cast-if2 c = search needs
@@ -53,10 +50,9 @@ refusal-requires-2 c κs = search needs
 returns-2 : tie.Need-returns-2
 returns-2 c =
     let s = c .before .before .before .before .before .before .before .before .before .before .before .before .before .before .before .before in
-    let t = tableOf (s .args .words .now) (s .args .list .now) in
-    let tree = accepted-holds (s .args .words .now) (s .args .list .now) (s .pre) .proper .tree in
+    let m = measured (s .args .words .now) (s .args .list .now) (s .pre) in
     let e = ap (λ (z : Sizes). z .blocks) (c .before .before .before .before .before .sizes-of .ensures) in
-    lifted-short (s .args .words .now) (s .args .list .now) (s .args .nodes .now) (s .args .prefix .now) (s .args .variables .now) (s .pre) (short-prefix (s .args .words .now) (s .args .list .now) (s .args .nodes .now) (s .args .prefix .now) (s .args .variables .now) (omega (arith, prefix-size t tree, e, c .before .if2 .taken))) _ (c .refusal2 .ensures)
+    lifted-short (s .args .words .now) (s .args .list .now) (s .args .nodes .now) (s .args .prefix .now) (s .args .variables .now) (s .pre) (short-prefix (s .args .words .now) (s .args .list .now) (s .args .nodes .now) (s .args .prefix .now) (s .args .variables .now) (omega (arith, m .blocks-measured, e, c .before .if2 .taken))) _ (c .refusal2 .ensures)
 
 cast-if3 : tie.Need-cast-if3
 cast-if3 c = search needs
@@ -67,10 +63,9 @@ refusal-requires-3 c κs = search needs
 returns-3 : tie.Need-returns-3
 returns-3 c =
     let s = c .before .before .before .before .before .before .before .before .before .before .before .before .before .before .before .before .before .before in
-    let t = tableOf (s .args .words .now) (s .args .list .now) in
-    let tree = accepted-holds (s .args .words .now) (s .args .list .now) (s .pre) .proper .tree in
+    let m = measured (s .args .words .now) (s .args .list .now) (s .pre) in
     let e = ap (λ (z : Sizes). z .entries) (c .before .before .before .before .before .before .before .sizes-of .ensures) in
-    lifted-short (s .args .words .now) (s .args .list .now) (s .args .nodes .now) (s .args .prefix .now) (s .args .variables .now) (s .pre) (short-variables (s .args .words .now) (s .args .list .now) (s .args .nodes .now) (s .args .prefix .now) (s .args .variables .now) (omega (arith, variables-size t tree, e, c .before .if3 .taken))) _ (c .refusal3 .ensures)
+    lifted-short (s .args .words .now) (s .args .list .now) (s .args .nodes .now) (s .args .prefix .now) (s .args .variables .now) (s .pre) (short-variables (s .args .words .now) (s .args .list .now) (s .args .nodes .now) (s .args .prefix .now) (s .args .variables .now) (omega (arith, m .entries-measured, e, c .before .if3 .taken))) _ (c .refusal3 .ensures)
 
 slice-aggregate-write-form : tie.Need-slice-aggregate-write-form
 slice-aggregate-write-form c = search needs
@@ -81,14 +76,13 @@ slice-aggregate-write-form-2 c = search needs
 write-form-requires : tie.Need-write-form-requires
 write-form-requires c κs =
     let s = c .before .before .before .before .before .before .before .before .before .before .before .before .before .before .before .before .before .before .before .before .before .before in
-    let t = tableOf (s .args .words .now) (s .args .list .now) in
-    let tree = accepted-holds (s .args .words .now) (s .args .list .now) (s .pre) .proper .tree in
+    let m = measured (s .args .words .now) (s .args .list .now) (s .pre) in
     let z = c .before .before .before .before .before .before .before .before .before .before .before .sizes-of .ensures in
     let room : Room (s .args .words .now) (s .args .list .now) (s .args .nodes .now) (s .args .prefix .now) (s .args .variables .now) =
     record {
-      nodes-fit = omega (arith, nodes-size t tree, ap (λ (z : Sizes). z .nodes) z, c .before .before .before .before .before .before .before .before .before .if1 .left);
-      prefix-fits = omega (arith, prefix-size t tree, ap (λ (z : Sizes). z .blocks) z, c .before .before .before .before .before .before .before .if2 .left);
-      variables-fit = omega (arith, variables-size t tree, ap (λ (z : Sizes). z .entries) z, c .before .before .before .before .before .if3 .left);
+      nodes-fit = omega (arith, m .nodes-measured, ap (λ (z : Sizes). z .nodes) z, c .before .before .before .before .before .before .before .before .before .if1 .left);
+      prefix-fits = omega (arith, m .blocks-measured, ap (λ (z : Sizes). z .blocks) z, c .before .before .before .before .before .before .before .if2 .left);
+      variables-fit = omega (arith, m .entries-measured, ap (λ (z : Sizes). z .entries) z, c .before .before .before .before .before .if3 .left);
     } in
     let f = c .before .before .before .before .before .before .before .before .before .before .before .before .before .before .fill-scopes in
     let a : Placed (s .args .words .now) (s .args .list .now) _ = record { checked = s .pre; placed = f .ensures .0; parents-long = f .kept .1 .1 .0 } in
@@ -110,14 +104,13 @@ same-length-3 c = search needs
 returns-4 : tie.Need-returns-4
 returns-4 c =
     let s = c .before .before .before .before .before .before .before .before .before .before .before .before .before .before .before .before .before .before .before .before .before .before .before .before .before .before .before .before .before .before in
-    let t = tableOf (s .args .words .now) (s .args .list .now) in
-    let tree = accepted-holds (s .args .words .now) (s .args .list .now) (s .pre) .proper .tree in
+    let m = measured (s .args .words .now) (s .args .list .now) (s .pre) in
     let z = c .before .before .before .before .before .before .before .before .before .before .before .before .before .before .before .before .before .before .before .sizes-of .ensures in
     let room : Room (s .args .words .now) (s .args .list .now) (s .args .nodes .now) (s .args .prefix .now) (s .args .variables .now) =
     record {
-      nodes-fit = omega (arith, nodes-size t tree, ap (λ (z : Sizes). z .nodes) z, c .before .before .before .before .before .before .before .before .before .before .before .before .before .before .before .before .before .if1 .left);
-      prefix-fits = omega (arith, prefix-size t tree, ap (λ (z : Sizes). z .blocks) z, c .before .before .before .before .before .before .before .before .before .before .before .before .before .before .before .if2 .left);
-      variables-fit = omega (arith, variables-size t tree, ap (λ (z : Sizes). z .entries) z, c .before .before .before .before .before .before .before .before .before .before .before .before .before .if3 .left);
+      nodes-fit = omega (arith, m .nodes-measured, ap (λ (z : Sizes). z .nodes) z, c .before .before .before .before .before .before .before .before .before .before .before .before .before .before .before .before .before .if1 .left);
+      prefix-fits = omega (arith, m .blocks-measured, ap (λ (z : Sizes). z .blocks) z, c .before .before .before .before .before .before .before .before .before .before .before .before .before .before .before .if2 .left);
+      variables-fit = omega (arith, m .entries-measured, ap (λ (z : Sizes). z .entries) z, c .before .before .before .before .before .before .before .before .before .before .before .before .before .if3 .left);
     } in
     lifted-done (s .args .words .now) (s .args .list .now) (s .args .nodes .now) (s .args .prefix .now) (s .args .variables .now) (s .pre) room _ _ (c .done .ensures) z _ _ _ (c .before .before .before .before .before .before .before .write-form .ensures)
 
