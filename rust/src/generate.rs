@@ -576,10 +576,11 @@ fn too_many(rng: &mut Rng) -> (Table, Refusal) {
 pub type Family = fn(usize) -> Table;
 
 /// The families of the benchmark.
-pub const FAMILIES: [(&str, Family); 4] = [
+pub const FAMILIES: [(&str, Family); 5] = [
     ("comparator chain", comparator_chain),
     ("deep nest", deep_nest),
     ("wide row of blocks", wide_row),
+    ("row, one number", one_number_row),
     ("climb", climb),
 ];
 
@@ -651,6 +652,18 @@ pub fn wide_row(nodes: usize) -> Table {
         let right = table.variable(2 * k + 1);
         let body = table.operator(9, left, right);
         let block = table.block(5 + k % 2, &[2 * k, 2 * k + 1], body);
+        row = table.operator(8, row, block);
+    }
+    fill_up(table, nodes)
+}
+
+/// Blocks side by side that all bind the same number.
+pub fn one_number_row(nodes: usize) -> Table {
+    let mut table = Table::default();
+    let mut row = table.push([1, 1, 0, 0]);
+    while table.len() + 3 <= nodes {
+        let leaf = table.variable(1);
+        let block = table.block(5, &[1], leaf);
         row = table.operator(8, row, block);
     }
     fill_up(table, nodes)
