@@ -576,12 +576,14 @@ fn too_many(rng: &mut Rng) -> (Table, Refusal) {
 pub type Family = fn(usize) -> Table;
 
 /// The families of the benchmark.
-pub const FAMILIES: [(&str, Family); 5] = [
+pub const FAMILIES: [(&str, Family); 7] = [
     ("comparator chain", comparator_chain),
     ("deep nest", deep_nest),
     ("wide row of blocks", wide_row),
-    ("row, one number", one_number_row),
     ("climb", climb),
+    ("row, one number", one_number_row),
+    ("row, leaves first", leaves_first_row),
+    ("climb, leaves bound", bound_climb),
 ];
 
 /// Puts nots on the root until the table has `nodes` nodes.
@@ -666,6 +668,21 @@ pub fn one_number_row(nodes: usize) -> Table {
         let block = table.block(5, &[1], leaf);
         row = table.operator(8, row, block);
     }
+    fill_up(table, nodes)
+}
+
+/// As `one_number_row`, with all leaves first, then all blocks, then what
+/// joins them.
+pub fn leaves_first_row(nodes: usize) -> Table {
+    let mut table = Table::default();
+    let count = nodes as u32 / 3;
+    for _ in 0..count {
+        table.variable(1);
+    }
+    let blocks: Vec<u32> = (0..count).map(|leaf| table.block(5, &[1], leaf)).collect();
+    blocks
+        .into_iter()
+        .reduce(|row, block| table.operator(8, row, block));
     fill_up(table, nodes)
 }
 

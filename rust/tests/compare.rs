@@ -4,7 +4,7 @@ mod common;
 
 use common::{assert_same, Case, Prefill};
 use std::collections::HashMap;
-use wakubinryo::generate::{accepted, bound_climb, damaged, mutated};
+use wakubinryo::generate::{accepted, damaged, mutated};
 use wakubinryo::generate::{Profile, Rng, Table, FAMILIES};
 use wakubinryo::Reason;
 
@@ -68,8 +68,7 @@ fn large_tables() {
 
 #[test]
 fn families() {
-    let climb = ("bound climb", bound_climb as fn(usize) -> Table);
-    for (name, family) in FAMILIES.into_iter().chain([climb]) {
+    for (name, family) in FAMILIES {
         for nodes in [128, 1000, 1024, 2048, 4095, 4096] {
             let _case = Case(name, nodes as u64);
             let sizes = assert_same(&family(nodes), &Prefill::ALL, 11);

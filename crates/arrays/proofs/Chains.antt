@@ -48,20 +48,20 @@ module _ {ℓ} {A : Type ℓ} where
   unfolding between partsFrom
   between-end g i n h = let e : n - i ≡ 0 = omega arith in ap (partsFrom g i) e
 
--- The numbers from i up, and below n, that pass a test.
+-- The parts from i up, and below n, of the numbers that pass a test.
 
-module _ (p : ℕ → Bool) where
-  abbrev one : ℕ → List ℕ
-  one j = pick (p j) (j ∷ []) []
+module _ {ℓ} {A : Type ℓ} (p : ℕ → Bool) (g : ℕ → List A) where
+  abbrev one : ℕ → List A
+  one j = pick (p j) (g j) []
 
-  abbrev passing : ℕ → ℕ → List ℕ
+  abbrev passing : ℕ → ℕ → List A
   passing i n = between one i n
 
-  passing-here : (i n : ℕ) → i < n → p i ≡ true → passing i n ≡ i ∷ passing (suc i) n
-  passing-here i n h e = between-on one i n h ∙ ap (λ (l : List ℕ). l ++ passing (suc i) n) (pick-yes _ _ _ e)
+  passing-here : (i n : ℕ) → i < n → p i ≡ true → passing i n ≡ g i ++ passing (suc i) n
+  passing-here i n h e = between-on one i n h ∙ ap (λ (l : List A). l ++ passing (suc i) n) (pick-yes _ _ _ e)
 
   passing-skip : (i n : ℕ) → i < n → p i ≡ false → passing i n ≡ passing (suc i) n
-  passing-skip i n h e = between-on one i n h ∙ ap (λ (l : List ℕ). l ++ passing (suc i) n) (pick-no _ _ _ e)
+  passing-skip i n h e = between-on one i n h ∙ ap (λ (l : List A). l ++ passing (suc i) n) (pick-no _ _ _ e)
 
   -- k numbers that fail it
   passing-from : (i k n : ℕ) → i + k ≤ n → ((j : ℕ) → i ≤ j → j < i + k → p j ≡ false) → passing i n ≡ passing (i + k) n
@@ -72,7 +72,7 @@ module _ (p : ℕ → Bool) where
       ∙ passing-from (suc i) k n (omega arith) (λ j a b. f j (omega arith) (omega arith))
       ∙ ap (λ (j : ℕ). passing j n) e
 
-  passing-none : (i n : ℕ) → link p i n ≡ 0 → passing i n ≡ []
+  pub passing-none : (i n : ℕ) → link p i n ≡ 0 → passing i n ≡ []
   passing-none i n e = go (look (ltb i n))
     where
       go : Is (ltb i n) → passing i n ≡ []
@@ -82,7 +82,7 @@ module _ (p : ℕ → Bool) where
           passing-from i (n - i) n (omega arith) (λ j a b. link-none p i n e j a (omega arith)) ∙ between-end one (i + (n - i)) n (omega arith)
       go (is-false t) = between-end one i n (ltb-false i n t)
 
-  passing-some : (i n b : ℕ) → link p i n ≡ suc b → passing i n ≡ b ∷ passing (suc b) n
+  pub passing-some : (i n b : ℕ) → link p i n ≡ suc b → passing i n ≡ g b ++ passing (suc b) n
   passing-some i n b e =
       let r = link-some p i n b e in
       let s : i + (b - i) ≡ b = omega (arith, r .reached) in
@@ -106,11 +106,11 @@ module _ (t : Table) (l : ℕ) where
 
   pub blocksFrom-none : (i : ℕ) → link (atLevel t l) i (t .size) ≡ 0 → blocksFrom t l i ≡ []
   unfolding blocksFrom
-  blocksFrom-none i e = passing-none (atLevel t l) i (t .size) e
+  blocksFrom-none i e = passing-none (atLevel t l) (λ j. j ∷ []) i (t .size) e
 
   pub blocksFrom-some : (i b : ℕ) → link (atLevel t l) i (t .size) ≡ suc b → blocksFrom t l i ≡ b ∷ blocksFrom t l (suc b)
   unfolding blocksFrom
-  blocksFrom-some i b e = passing-some (atLevel t l) i (t .size) b e
+  blocksFrom-some i b e = passing-some (atLevel t l) (λ j. j ∷ []) i (t .size) b e
 
   -- a link names the level's blocks from where it was looked for
   pub linked-is : (i k : ℕ) → link (atLevel t l) i (t .size) ≡ k → linked t l k ≡ blocksFrom t l i

@@ -2,3 +2,4 @@ pub mod Link
 pub mod Enclosing
 pub mod Entries
 pub mod Chains
+pub mod Bound

@@ -1,2 +1,8 @@
+pub mod Tables
+pub mod Scope
+pub mod Opened
+pub mod Blocks
 pub mod Search
-pub mod Renamed
+pub mod Todo
+pub mod Walked
+pub mod Outside

@@ -9,7 +9,7 @@ use lib.Dec.{eqb}
 use lib.ListN.{length, getD}
 use borrow.Author.Tests.{ne-eqb}
 use Rattle.lists.specs.Choice.{pick, pick-yes, clash, and-left}
-use Rattle.lists.specs.Parts.{sum, upTo, numbers}
+use Rattle.lists.specs.Parts.{sum, upTo}
 use Rattle.lists.proofs.Parts.{getD-numbers, sum-grows, upTo-cong}
 use Rattle.formula.specs.Node.{block, Table, isBlock}
 use Rattle.formula.specs.Words.{width, nodeCount, field, range, nodeOf, nodeAt, tableOf}
@@ -20,12 +20,12 @@ use Rattle.table_check.specs.Verdict.{limit, isBlockKind, countAt, verdict, acc
 use Rattle.table_check.specs.Accepted.{Accepted}
 use Rattle.table_check.proofs.Accepted.{count-at, accepted-holds}
 use Rattle.prenex_form.specs.Scope.{inner}
-use Rattle.prenex_form.specs.Names.{highestNumber, firstName, newNames, innerBoundBelow, boundCount, copies}
+use Rattle.prenex_form.specs.Names.{highestNumber, firstName, newNames, boundCount, copies}
 use Rattle.prenex_form.specs.Levels.{quantifierAt}
 use Rattle.prenex_form.specs.Matrix.{kept, bodyOf, equation}
 use Rattle.prenex_form.proofs.Paths.{kept-positive}
-use Rattle.prenex_form.proofs.NameLaws.{innerBound-is}
-use Rattle.arrays.specs.Held.{Starts, Names}
+use Rattle.prenex_form.proofs.NameLaws.{copies-shift}
+use Rattle.arrays.specs.Held.{Starts, firstNew, firstCopy}
 use Rattle.matrix_writer.specs.Entries.{entryNodes, entriesNodes}
 use Rattle.matrix_writer.specs.Chain.{InnerBlock}
 
@@ -113,34 +113,21 @@ module _ (ws ls : List ℕ) (ok : Accepted ws ls) (i : ℕ) (b : InnerBlock (tab
   unfolding boundCount boundBelow sum
   entries-within = sum-grows (count (tableOf ws ls)) (suc i) (tableOf ws ls .size) (b .below)
 
-  pub entries-few : boundBelow (tableOf ws ls) i + count (tableOf ws ls) i ≤ limit
-  unfolding boundCount tableOf
-  entries-few = omega (arith, entries-within, ok .counts-limit)
+  module _ {starts : List ℕ} (start : Starts (tableOf ws ls) starts) where
+    pub start-at : getD starts i 0 ≡ boundBelow (tableOf ws ls) i
+    start-at = start .start-is i (b .below) is-block
 
-  copies-within : boundBelow (tableOf ws ls) i + count (tableOf ws ls) i ≤ innerBoundBelow (tableOf ws ls) (tableOf ws ls .size)
-  unfolding innerBoundBelow sum
-  copies-within =
-      let t = tableOf ws ls in
-      let e : pick (inner t i) (count t i) 0 ≡ count t i = pick-yes _ _ _ (b .is-inner) in
-      omega (arith, innerBound-is t i (b .below), sum-grows (λ j. pick (inner t j) (count t j) 0) (suc i) (t .size) (b .below))
-
-  module _ (starts names doubles marks : List ℕ) (start : Starts (tableOf ws ls) starts) (named : Names (tableOf ws ls) names doubles marks) where
-    name-at : (k : ℕ) → k < count (tableOf ws ls) i → getD names (getD starts i 0 + k) 0 ≡ getD (newNames (tableOf ws ls) i) k 0
+    name-at : (k : ℕ) → k < count (tableOf ws ls) i → firstNew (tableOf ws ls) + getD starts i 0 + k ≡ getD (newNames (tableOf ws ls) i) k 0
     unfolding newNames firstName
     name-at k h =
-        let e : getD starts i 0 ≡ boundBelow (tableOf ws ls) i = start .start-is i (b .below) in
-        let g : getD (numbers (firstName (tableOf ws ls) i) (count (tableOf ws ls) i)) k 0 ≡ firstName (tableOf ws ls) i + k = getD-numbers _ _ k 0 h in
-        omega (arith, entries-within, named .name-is (getD starts i 0 + k) (omega (arith, entries-within)))
+        let t = tableOf ws ls in omega (arith, start-at, getD-numbers (highestNumber t + 1 + boundBelow t i) (count t i) k 0 h)
 
-    copy-at : (k : ℕ) → k < count (tableOf ws ls) i → getD doubles (getD starts i 0 + k) 0 ≡ getD (copies (tableOf ws ls) i) k 0
-    unfolding copies
-    copy-at k h =
-        let t = tableOf ws ls in
-        let e : getD starts i 0 ≡ boundBelow t i = start .start-is i (b .below) in
-        let l : getD starts i 0 + k < innerBoundBelow t (t .size) = omega (arith, copies-within) in
-        omega (arith, innerBound-is t i (b .below), named .copy-is (getD starts i 0 + k) l, getD-numbers (highestNumber t + boundCount t + 1 + innerBoundBelow t i) (count t i) k 0 h)
+    copy-at : (k : ℕ) → k < count (tableOf ws ls) i → firstCopy (tableOf ws ls) + getD starts i 0 + k ≡ getD (copies (tableOf ws ls) i) k 0
+    copy-at k h = let t = tableOf ws ls in omega (arith, name-at k h, copies-shift t i k 0 (b .below) h)
 
     -- the equations written are those of the form
-    pub entries-are : (s : ℕ) → entriesNodes names doubles (getD starts i 0) s (count (tableOf ws ls) i) ≡ upTo (equation (tableOf ws ls) i s) (count (tableOf ws ls) i)
+    pub entries-are : (s : ℕ)
+        → entriesNodes (firstNew (tableOf ws ls) + getD starts i 0) (firstCopy (tableOf ws ls) + getD starts i 0) s (count (tableOf ws ls) i)
+        ≡ upTo (equation (tableOf ws ls) i s) (count (tableOf ws ls) i)
     unfolding entriesNodes
     entries-are s = upTo-cong _ _ _ (λ k h. rw (name-at k h, copy-at k h) (entry-is (tableOf ws ls) i s k))

@@ -16,17 +16,17 @@ use Rattle.formula.specs.Tree.{count}
 use Rattle.table_check.specs.Verdict.{limit}
 use Rattle.table_check.specs.Accepted.{Accepted}
 use Rattle.table_check.proofs.Accepted.{accepted-holds}
-use Rattle.prenex_form.specs.Names.{definitionVariable}
+use Rattle.prenex_form.specs.Names.{highestNumber, boundCount, definitionVariable}
 use Rattle.prenex_form.specs.Levels.{quantifierAt}
 use Rattle.prenex_form.specs.Matrix.{bodyOf, equation, guard, constraint}
-use Rattle.arrays.specs.Held.{Starts, Names}
+use Rattle.prenex_form.proofs.Limits.{highest-limit, bound-limit}
 use Rattle.matrix_writer.specs.Buffer.{withNodes, Wrote}
 use Rattle.matrix_writer.specs.Entries.{entriesNodes, definitionNodes, guardNodes}
 use Rattle.matrix_writer.specs.Chain.{InnerBlock}
 use Rattle.matrix_writer.specs.Arrays.{BlockArrays}
 use Rattle.matrix_writer.proofs.Buffer.{wrote, with-then}
 use Rattle.matrix_writer.proofs.Entries.{length-entries}
-use Rattle.matrix_writer.proofs.Blocks.{quantifier-is, size-is, body-is, count-is, entries-few, entries-are}
+use Rattle.matrix_writer.proofs.Blocks.{quantifier-is, size-is, body-is, count-is, entries-within, start-at, entries-are}
 
 same-parts : {a a' b b' d d' : List Node} → a ≡ a' → b ≡ b' → d ≡ d' → a ++ (b ++ d) ≡ a' ++ (b' ++ d')
 same-parts p q r = rw (p, q, r)
@@ -56,84 +56,98 @@ module _ (t : Table) (i s : ℕ) where
       let d : s + 4 * count t i + 1 + 1 ≡ s + 4 * count t i + 2 = omega arith in
       rw (pick-no (eqb (count t i) 0) _ _ (ne-eqb (count t i) 0 h), a, b, d)
 
-module _ (ws ls : List ℕ) (ok : Accepted ws ls) (i : ℕ) (b : InnerBlock (tableOf ws ls) i)
-    (starts names doubles marks : List ℕ) (start : Starts (tableOf ws ls) starts) (named : Names (tableOf ws ls) names doubles marks) (s : ℕ) where
-  -- the definition as the arrays and the block's words have it
-  definition-is : definitionNodes s (getD marks i 0) (field ws i 3) ≡ defining (tableOf ws ls) i s
-  definition-is = rw (named .mark-is i (b .below) (b .is-inner), body-is ws ls ok i b)
+module _ {ws ls starts : List ℕ} {names copies : ℕ} {definitions : List ℕ} {i : ℕ} (held : BlockArrays ws ls starts names copies definitions)
+    (b : InnerBlock (tableOf ws ls) i) (s : ℕ) where
+  ok : Accepted ws ls
+  ok = accepted-holds ws ls (held .is-accepted)
 
-  guard-is : guardNodes (s + 2 + (4 * field ws i 2 - 1)) (getD marks i 0) (guard (quantifierOf (field ws i 0))) (s + 1) ≡ guarding (tableOf ws ls) i s
-  guard-is = rw (named .mark-is i (b .below) (b .is-inner), quantifier-is ws ls i, count-is ws ls ok i b)
+  size-of : count (tableOf ws ls) i ≡ field ws i 2
+  size-of = count-is ws ls ok i b
 
-  equations-are : entriesNodes names doubles (getD starts i 0) (s + 2) (field ws i 2) ≡ upTo (equation (tableOf ws ls) i (s + 2)) (count (tableOf ws ls) i)
-  equations-are = rw (← count-is ws ls ok i b) (entries-are ws ls ok i b starts names doubles marks start named (s + 2))
+  -- the three parts as the arrays and the block's words have them
+  abbrev definitionPart : List Node
+  definitionPart = definitionNodes s (getD definitions i 0) (field ws i 3)
 
-  constraint-empty : field ws i 2 ≡ 0 → constraint (tableOf ws ls) i s ≡ definitionNodes s (getD marks i 0) (field ws i 3)
-  constraint-empty h = constraint-none (tableOf ws ls) i s (count-is ws ls ok i b ∙ h) ∙ sym definition-is
+  abbrev equationsPart : List Node
+  equationsPart = entriesNodes (names + getD starts i 0) (copies + getD starts i 0) (s + 2) (field ws i 2)
 
-  constraint-full : (field ws i 2 ≡ 0 → ⊥) → constraint (tableOf ws ls) i s
-      ≡ definitionNodes s (getD marks i 0) (field ws i 3)
-      ++ (entriesNodes names doubles (getD starts i 0) (s + 2) (field ws i 2)
-      ++ guardNodes (s + 2 + (4 * field ws i 2 - 1)) (getD marks i 0) (guard (quantifierOf (field ws i 0))) (s + 1))
+  abbrev guardPart : ℕ → List Node
+  guardPart at = guardNodes at (getD definitions i 0) (guard (quantifierOf (field ws i 0))) (s + 1)
+
+  definition-is : definitionPart ≡ defining (tableOf ws ls) i s
+  definition-is = rw (held .definitions-hold .definition-is i (b .below) (b .is-inner), body-is ws ls ok i b)
+
+  equations-are : equationsPart ≡ upTo (equation (tableOf ws ls) i (s + 2)) (count (tableOf ws ls) i)
+  equations-are = rw (← size-of, held .names-first, held .copies-first) (entries-are ws ls ok i b (held .starts-hold) (s + 2))
+
+  guard-is : guardPart (s + 2 + (4 * field ws i 2 - 1)) ≡ guarding (tableOf ws ls) i s
+  guard-is = rw (held .definitions-hold .definition-is i (b .below) (b .is-inner), quantifier-is ws ls i, size-of)
+
+  constraint-empty : field ws i 2 ≡ 0 → constraint (tableOf ws ls) i s ≡ definitionPart
+  constraint-empty h = constraint-none (tableOf ws ls) i s (size-of ∙ h) ∙ sym definition-is
+
+  constraint-full : (field ws i 2 ≡ 0 → ⊥)
+      → constraint (tableOf ws ls) i s ≡ definitionPart ++ (equationsPart ++ guardPart (s + 2 + (4 * field ws i 2 - 1)))
   constraint-full h =
-      constraint-some (tableOf ws ls) i s (λ e. h (sym (count-is ws ls ok i b) ∙ e))
-      ∙ same-parts (sym definition-is) (sym equations-are) (sym guard-is)
+      constraint-some (tableOf ws ls) i s (λ e. h (sym size-of ∙ e)) ∙ same-parts (sym definition-is) (sym equations-are) (sym guard-is)
+
+  length-equations : length equationsPart ≡ 4 * field ws i 2 - 1
+  length-equations = length-entries (names + getD starts i 0) (copies + getD starts i 0) (s + 2) (field ws i 2)
 
   length-constraint : (field ws i 2 ≡ 0 → ⊥) → length (constraint (tableOf ws ls) i s) ≡ 4 * field ws i 2 + 4
-  length-constraint h =
-      ap length (constraint-full h)
-      ∙ simp length-append (omega (arith, length-entries names doubles (getD starts i 0) (s + 2) (field ws i 2)))
+  length-constraint h = ap length (constraint-full h) ∙ simp length-append (omega (arith, length-equations))
 
   -- what the code has of the block: its kind, count and body are those of its words
   pub wrote-empty : (out last : List ℕ) (size body : ℕ) → size ≡ field ws i 2 → body ≡ field ws i 3 → size ≡ 0
-      → last ≡ withNodes out s (definitionNodes s (getD marks i 0) body) → Wrote out s (constraint (tableOf ws ls) i s) last (s + 2)
+      → last ≡ withNodes out s (definitionNodes s (getD definitions i 0) body) → Wrote out s (constraint (tableOf ws ls) i s) last (s + 2)
   wrote-empty out last size body f g h p = wrote _ (constraint-empty (sym f ∙ h)) (rw g at p) refl
 
   wrote-words : (out m n last : List ℕ) (next : ℕ) → (field ws i 2 ≡ 0 → ⊥)
-      → m ≡ withNodes out s (definitionNodes s (getD marks i 0) (field ws i 3))
-      → Wrote m (s + 2) (entriesNodes names doubles (getD starts i 0) (s + 2) (field ws i 2)) n next
-      → last ≡ withNodes n next (guardNodes next (getD marks i 0) (guard (quantifierOf (field ws i 0))) (s + 1))
+      → m ≡ withNodes out s definitionPart → Wrote m (s + 2) equationsPart n next → last ≡ withNodes n next (guardPart next)
       → width * (s + length (constraint (tableOf ws ls) i s)) ≤ length out
       → Wrote out s (constraint (tableOf ws ls) i s) last (next + 3)
   wrote-words out m n last next h p q r fits =
-      let defined = definitionNodes s (getD marks i 0) (field ws i 3) in
-      let entries = entriesNodes names doubles (getD starts i 0) (s + 2) (field ws i 2) in
-      let guarded : ℕ → List Node = λ at. guardNodes at (getD marks i 0) (guard (quantifierOf (field ws i 0))) (s + 1) in
-      let l : length entries ≡ 4 * field ws i 2 - 1 = length-entries names doubles (getD starts i 0) (s + 2) (field ws i 2) in
-      let k : length (constraint (tableOf ws ls) i s) ≡ 4 * field ws i 2 + 4 = length-constraint h in
+      let l = length-equations in
+      let k = length-constraint h in
       let e : next ≡ s + 2 + (4 * field ws i 2 - 1) = omega (arith, q .next-is) in
-      let both : n ≡ withNodes out s (defined ++ entries) = with-then out m n s (s + 2) defined entries p (q .nodes-are) refl (omega arith) in
-      wrote (defined ++ (entries ++ guarded next)) (constraint-full h ∙ ap (λ at. defined ++ (entries ++ guarded at)) (sym e))
-      (with-then out n last s next (defined ++ entries) (guarded next) both r (omega arith) (omega arith))
+      let both : n ≡ withNodes out s (definitionPart ++ equationsPart) = with-then out m n s (s + 2) definitionPart equationsPart p (q .nodes-are) refl (omega arith) in
+      wrote (definitionPart ++ (equationsPart ++ guardPart next)) (constraint-full h ∙ ap (λ at. definitionPart ++ (equationsPart ++ guardPart at)) (sym e))
+      (with-then out n last s next (definitionPart ++ equationsPart) (guardPart next) both r (omega arith) (omega arith))
       (simp length-append (omega arith))
 
   pub wrote-full : (out m n last : List ℕ) (next kind size body table : ℕ)
       → kind ≡ field ws i 0 → size ≡ field ws i 2 → body ≡ field ws i 3 → table ≡ guard (quantifierOf kind) → (size ≡ 0 → ⊥)
-      → m ≡ withNodes out s (definitionNodes s (getD marks i 0) body)
-      → Wrote m (s + 2) (entriesNodes names doubles (getD starts i 0) (s + 2) size) n next
-      → last ≡ withNodes n next (guardNodes next (getD marks i 0) table (s + 1))
+      → m ≡ withNodes out s (definitionNodes s (getD definitions i 0) body)
+      → Wrote m (s + 2) (entriesNodes (names + getD starts i 0) (copies + getD starts i 0) (s + 2) size) n next
+      → last ≡ withNodes n next (guardNodes next (getD definitions i 0) table (s + 1))
       → width * (s + length (constraint (tableOf ws ls) i s)) ≤ length out
       → Wrote out s (constraint (tableOf ws ls) i s) last (next + 3)
   wrote-full out m n last next kind size body table e f g v h p q r fits =
       wrote-words out m n last next (λ z. h (f ∙ z)) (rw g at p) (rw f at q) (rw (v, e) at r) fits
 
--- what the code's indices and lengths are bounded by, at block i
-pub record BlockFacts (ws ls starts : List ℕ) (i at : ℕ) : Type 0 where
+-- what the code's indices, lengths and names are bounded by, at block i
+pub record BlockFacts (ws ls starts : List ℕ) (names copies i at : ℕ) : Type 0 where
   pub whole : width * i + width ≤ length ws
   pub few : i < limit
-  pub within : getD starts i 0 + field ws i 2 ≤ limit
+  pub names-small : names + getD starts i 0 + field ws i 2 ≤ 4294967295
+  pub copies-small : copies + getD starts i 0 + field ws i 2 ≤ 4294967295
   pub shortest : 2 ≤ length (constraint (tableOf ws ls) i at)
   pub full : (field ws i 2 ≡ 0 → ⊥) → length (constraint (tableOf ws ls) i at) ≡ 4 * field ws i 2 + 4
 
-pub block-facts : {ws ls starts names doubles marks : List ℕ} {i : ℕ} (at : ℕ) → BlockArrays ws ls starts names doubles marks
-    → InnerBlock (tableOf ws ls) i → BlockFacts ws ls starts i at
-block-facts {ws} {ls} {starts} {names} {doubles} {marks} {i} at held b =
-    let ok = accepted-holds ws ls (held .is-accepted) in
+pub block-facts : {ws ls starts : List ℕ} {names copies : ℕ} {definitions : List ℕ} {i : ℕ} (at : ℕ)
+    → BlockArrays ws ls starts names copies definitions → InnerBlock (tableOf ws ls) i → BlockFacts ws ls starts names copies i at
+block-facts {ws} {ls} {starts} {names} {copies} {definitions} {i} at held b =
+    let a = ok held b at in
     let below : i < nodeCount ws = rw (size-is ws ls) at (b .below) in
+    let last : getD starts i 0 + field ws i 2 ≤ boundCount (tableOf ws ls) =
+    omega (arith, entries-within ws ls a i b, size-of held b at, start-at ws ls a i b (held .starts-hold)) in
+    let q : boundCount (tableOf ws ls) ≤ limit = bound-limit ws ls a in
+    let h : highestNumber (tableOf ws ls) ≤ 65535 = highest-limit ws ls a in
     record {
-      whole = omega (arith, ok .whole);
-      few = omega (arith, ok .nodes-limit);
-      within = omega (arith, entries-few ws ls ok i b, count-is ws ls ok i b, held .starts-hold .start-is i (b .below));
+      whole = omega (arith, a .whole);
+      few = omega (arith, a .nodes-limit);
+      names-small = omega (arith, held .names-first);
+      copies-small = omega (arith, held .copies-first);
       shortest = length-shortest (tableOf ws ls) i at;
-      full = length-constraint ws ls ok i b starts names doubles marks (held .starts-hold) (held .names-hold) at;
+      full = length-constraint held b at;
     }

@@ -8,18 +8,18 @@ use Rattle.formula.specs.Words.{tableOf}
 use Rattle.table_check.specs.Verdict.{limit, verdict, accepted}
 use Rattle.prenex_form.specs.Scope.{level}
 use Rattle.arrays.specs.Link.{link}
-use Rattle.arrays.specs.Held.{atLevel, LevelChains, Starts, Names}
+use Rattle.arrays.specs.Held.{atLevel, LevelChains, Starts, firstNew, firstCopy, Definitions}
 use Rattle.matrix_writer.specs.Chain.{InnerBlock}
 
--- An accepted table, and the names of its blocks.
-pub record BlockArrays (ws ls starts names copies marks : List ℕ) : Type 0 where
+-- An accepted table, and the names and definition variables of its blocks.
+pub record BlockArrays (ws ls starts : List ℕ) (names copies : ℕ) (definitions : List ℕ) : Type 0 where
   pub is-accepted : verdict ws ls ≡ accepted
   pub starts-hold : Starts (tableOf ws ls) starts
-  pub names-hold : Names (tableOf ws ls) names copies marks
+  pub names-first : names ≡ firstNew (tableOf ws ls)
+  pub copies-first : copies ≡ firstCopy (tableOf ws ls)
+  pub definitions-hold : Definitions (tableOf ws ls) definitions
   pub starts-long : limit ≤ length starts
-  pub names-long : limit ≤ length names
-  pub copies-long : limit ≤ length copies
-  pub marks-long : limit ≤ length marks
+  pub definitions-long : limit ≤ length definitions
 
 -- After each of its blocks the next one of the level.
 pub record NextBlocks (ws ls nexts : List ℕ) : Type 0 where

@@ -49,7 +49,7 @@ fn put_operator(nodes: &mut [u32], at: u32, table: u32, left: u32, right: u32)
 }
 
 // Writes the nodes of entry k of a block, whose name is x and whose copy is y.
-fn write_entry(nodes: &mut [u32], at: u32, k: usize, x: u32, y: u32) -> u32
+fn write_entry(nodes: &mut [u32], at: u32, k: u32, x: u32, y: u32) -> u32
     requires { ⌜ 0 < at ⌝ }
     requires { ⌜ Room (now nodes) at 4 ⌝ }
     ensures { λ r. ⌜ Wrote (now (nodes .entry)) at (entryNodes x y at k) (now (nodes .exit)) r ⌝ }
@@ -64,50 +64,43 @@ fn write_entry(nodes: &mut [u32], at: u32, k: usize, x: u32, y: u32) -> u32
     at + 4
 }
 
-// Writes the equations of a block's entries. The four nodes of an entry are document 01's.
-fn write_entries(
-    nodes: &mut [u32],
-    s: u32,
-    start: usize,
-    count: usize,
-    names: &[u32],
-    copies: &[u32],
-) -> u32
+// Writes the equations of a block's entries, whose first name is x and whose first copy is y. The
+// four nodes of an entry are document 01's.
+fn write_entries(nodes: &mut [u32], s: u32, count: u32, x: u32, y: u32) -> u32
     requires { ⌜ 0 < s ⌝ }
     requires { ⌜ Room (now nodes) s (4 * count) ⌝ }
-    requires { ⌜ start + count ≤ length (now names) ⌝ }
-    requires { ⌜ start + count ≤ length (now copies) ⌝ }
-    ensures { λ r. ⌜ Wrote (now (nodes .entry)) s (entriesNodes (now (names .entry)) (now (copies .entry)) start s count) (now (nodes .exit)) r ⌝ }
+    requires { ⌜ x + count ≤ 4294967295 ⌝ ∗ ⌜ y + count ≤ 4294967295 ⌝ }
+    ensures { λ r. ⌜ Wrote (now (nodes .entry)) s (entriesNodes x y s count) (now (nodes .exit)) r ⌝ }
     ensures { λ r. ⌜ r ≡ s + (4 * count - 1) ⌝ }
 {
     let mut next = s;
     let mut k = 0;
     while k < count {
-        next = write_entry(nodes, next, k, names[start + k], copies[start + k]);
+        next = write_entry(nodes, next, k, x + k, y + k);
         k += 1;
     }
     next
 }
 
 // Writes step 1 of a constraint: the block's definition variable, and its equation with the body.
-fn write_definition(nodes: &mut [u32], at: u32, mark: u32, body: u32)
+fn write_definition(nodes: &mut [u32], at: u32, definition: u32, body: u32)
     requires { ⌜ Room (now nodes) at 2 ⌝ }
-    ensures { λ _. ⌜ now (nodes .exit) ≡ withNodes (now (nodes .entry)) at (definitionNodes at mark body) ⌝ }
+    ensures { λ _. ⌜ now (nodes .exit) ≡ withNodes (now (nodes .entry)) at (definitionNodes at definition body) ⌝ }
 {
-    put_variable(nodes, at, mark);
+    put_variable(nodes, at, definition);
     put_operator(nodes, at + 1, IFF, at, body);
 }
 
 // Writes the end of step 2: the definition variable, the guard that joins it with the equations
 // before it, and the conjunction of this with step 1.
-fn write_guard(nodes: &mut [u32], at: u32, mark: u32, table: u32, definition: u32)
+fn write_guard(nodes: &mut [u32], at: u32, definition: u32, table: u32, equation: u32)
     requires { ⌜ 0 < at ⌝ }
     requires { ⌜ Room (now nodes) at 3 ⌝ }
-    ensures { λ _. ⌜ now (nodes .exit) ≡ withNodes (now (nodes .entry)) at (guardNodes at mark table definition) ⌝ }
+    ensures { λ _. ⌜ now (nodes .exit) ≡ withNodes (now (nodes .entry)) at (guardNodes at definition table equation) ⌝ }
 {
-    put_variable(nodes, at, mark);
+    put_variable(nodes, at, definition);
     put_operator(nodes, at + 1, table, at, at - 1);
-    put_operator(nodes, at + 2, AND, definition, at + 1);
+    put_operator(nodes, at + 2, AND, equation, at + 1);
 }
 
 // The truth table that guards a block's equations, by the block's kind.
@@ -125,27 +118,27 @@ fn write_constraint(
     words: &[u32],
     list: &[u32],
     nodes: &mut [u32],
-    starts: &[u32],
-    names: &[u32],
-    copies: &[u32],
-    marks: &[u32],
+    starts: &[u16],
+    names: u32,
+    copies: u32,
+    definitions: &[u32],
     i: usize,
     at: u32,
 ) -> u32
-    requires { ⌜ BlockArrays (now words) (now list) (now starts) (now names) (now copies) (now marks) ⌝ }
+    requires { ⌜ BlockArrays (now words) (now list) (now starts) names copies (now definitions) ⌝ }
     requires { ⌜ InnerBlock (tableOf (now words) (now list)) i ⌝ }
     requires { ⌜ Room (now nodes) at (length (constraint (tableOf (now words) (now list)) i at)) ⌝ }
     ensures { λ r. ⌜ Wrote (now (nodes .entry)) at (constraint (tableOf (now (words .entry)) (now (list .entry))) i at) (now (nodes .exit)) r ⌝ }
 {
     let block = node_at(words, i);
-    let mark = marks[i];
-    write_definition(nodes, at, mark, block.c);
+    let definition = definitions[i];
+    write_definition(nodes, at, definition, block.c);
     if block.b == 0 {
         return at + 2;
     }
-    let start = starts[i] as usize;
-    let next = write_entries(nodes, at + 2, start, block.b as usize, names, copies);
-    write_guard(nodes, next, mark, guard_table(block.kind), at + 1);
+    let start = starts[i] as u32;
+    let next = write_entries(nodes, at + 2, block.b, names + start, copies + start);
+    write_guard(nodes, next, definition, guard_table(block.kind), at + 1);
     next + 3
 }
 
@@ -155,20 +148,30 @@ fn write_next(
     words: &[u32],
     list: &[u32],
     nodes: &mut [u32],
-    starts: &[u32],
-    names: &[u32],
-    copies: &[u32],
-    marks: &[u32],
+    starts: &[u16],
+    names: u32,
+    copies: u32,
+    definitions: &[u32],
     i: usize,
     at: u32,
 ) -> u32
-    requires { ⌜ BlockArrays (now words) (now list) (now starts) (now names) (now copies) (now marks) ⌝ }
+    requires { ⌜ BlockArrays (now words) (now list) (now starts) names copies (now definitions) ⌝ }
     requires { ⌜ InnerBlock (tableOf (now words) (now list)) i ⌝ }
     requires { ⌜ 0 < at ⌝ }
     requires { ⌜ Room (now nodes) at (length (further (tableOf (now words) (now list)) (i ∷ []) at)) ⌝ }
     ensures { λ r. ⌜ Wrote (now (nodes .entry)) at (further (tableOf (now (words .entry)) (now (list .entry))) (i ∷ []) at) (now (nodes .exit)) r ⌝ }
 {
-    let end = write_constraint(words, list, nodes, starts, names, copies, marks, i, at);
+    let end = write_constraint(
+        words,
+        list,
+        nodes,
+        starts,
+        names,
+        copies,
+        definitions,
+        i,
+        at,
+    );
     put_operator(nodes, end, AND, at - 1, end - 1);
     end + 1
 }
@@ -178,15 +181,15 @@ fn write_further(
     words: &[u32],
     list: &[u32],
     nodes: &mut [u32],
-    nexts: &[u32],
-    starts: &[u32],
-    names: &[u32],
-    copies: &[u32],
-    marks: &[u32],
+    nexts: &[u16],
+    starts: &[u16],
+    names: u32,
+    copies: u32,
+    definitions: &[u32],
     i: usize,
     at: u32,
 ) -> u32
-    requires { ⌜ BlockArrays (now words) (now list) (now starts) (now names) (now copies) (now marks) ⌝ }
+    requires { ⌜ BlockArrays (now words) (now list) (now starts) names copies (now definitions) ⌝ }
     requires { ⌜ NextBlocks (now words) (now list) (now nexts) ⌝ }
     requires { ⌜ InnerBlock (tableOf (now words) (now list)) i ⌝ }
     requires { ⌜ 0 < at ⌝ }
@@ -194,9 +197,9 @@ fn write_further(
     ensures { λ r. ⌜ Wrote (now (nodes .entry)) at (nodesAfter (tableOf (now (words .entry)) (now (list .entry))) i at) (now (nodes .exit)) r ⌝ }
 {
     let mut next = at;
-    let mut link = nexts[i];
+    let mut link = nexts[i] as usize;
     while link != 0 {
-        let block = link as usize - 1;
+        let block = link - 1;
         next = write_next(
             words,
             list,
@@ -204,11 +207,11 @@ fn write_further(
             starts,
             names,
             copies,
-            marks,
+            definitions,
             block,
             next,
         );
-        link = nexts[block];
+        link = nexts[block] as usize;
     }
     next
 }
@@ -231,17 +234,17 @@ fn write_level(
     words: &[u32],
     list: &[u32],
     nodes: &mut [u32],
-    firsts: &[u32],
-    nexts: &[u32],
-    starts: &[u32],
-    names: &[u32],
-    copies: &[u32],
-    marks: &[u32],
+    firsts: &[u16],
+    nexts: &[u16],
+    starts: &[u16],
+    names: u32,
+    copies: u32,
+    definitions: &[u32],
     j: usize,
     kind: u32,
     at: u32,
 ) -> u32
-    requires { ⌜ BlockArrays (now words) (now list) (now starts) (now names) (now copies) (now marks) ⌝ }
+    requires { ⌜ BlockArrays (now words) (now list) (now starts) names copies (now definitions) ⌝ }
     requires { ⌜ ChainArrays (now words) (now list) (now firsts) (now nexts) ⌝ }
     requires { ⌜ LevelKind (tableOf (now words) (now list)) j kind ⌝ }
     requires { ⌜ 0 < at ⌝ }
@@ -249,7 +252,17 @@ fn write_level(
     ensures { λ r. ⌜ Wrote (now (nodes .entry)) at (levelNodes (tableOf (now (words .entry)) (now (list .entry))) j at) (now (nodes .exit)) r ⌝ }
 {
     let first = firsts[j + 1] as usize - 1;
-    let next = write_constraint(words, list, nodes, starts, names, copies, marks, first, at);
+    let next = write_constraint(
+        words,
+        list,
+        nodes,
+        starts,
+        names,
+        copies,
+        definitions,
+        first,
+        at,
+    );
     let end = write_further(
         words,
         list,
@@ -258,7 +271,7 @@ fn write_level(
         starts,
         names,
         copies,
-        marks,
+        definitions,
         first,
         next,
     );
@@ -277,21 +290,22 @@ fn dual_kind(kind: u32) -> u32
 }
 
 // Writes the nodes of all levels after the table's own, the first at index `first`. Levels
-// alternate from the root's quantifier; a root that is no block counts as for-all.
+// alternate from the root's quantifier; a root that is no block counts as for-all. `names` is the
+// first new name and `copies` the first copy.
 pub fn write_levels(
     words: &[u32],
     list: &[u32],
     nodes: &mut [u32],
-    firsts: &[u32],
-    nexts: &[u32],
-    starts: &[u32],
-    names: &[u32],
-    copies: &[u32],
-    marks: &[u32],
+    firsts: &[u16],
+    nexts: &[u16],
+    starts: &[u16],
+    names: u32,
+    copies: u32,
+    definitions: &[u32],
     first: usize,
     deepest: usize,
 ) -> usize
-    requires { ⌜ BlockArrays (now words) (now list) (now starts) (now names) (now copies) (now marks) ⌝ }
+    requires { ⌜ BlockArrays (now words) (now list) (now starts) names copies (now definitions) ⌝ }
     requires { ⌜ ChainArrays (now words) (now list) (now firsts) (now nexts) ⌝ }
     requires { ⌜ first ≡ kept (tableOf (now words) (now list)) ⌝ }
     requires { ⌜ deepest ≡ levels (tableOf (now words) (now list)) ⌝ }
@@ -312,7 +326,7 @@ pub fn write_levels(
             starts,
             names,
             copies,
-            marks,
+            definitions,
             j,
             kind,
             next,

@@ -4,12 +4,11 @@ use mathlib.Core.Path.{_≡_, refl, sym, _∙_, ap}
 use mathlib.Core.List.{List, [], _∷_, _++_, flatMap}
 use Prim.Native.Nat.{ℕ, suc, _+_, _-_, _≤_, _<_}
 use native.Mathlib.Omega.{arith}
-use lib.ListN.{length, getD, set, take, drop, length-append, length-drop}
-use lib.Seq.{drop-cons, take-all}
-use Rattle.lists.specs.Parts.{overwrite}
+use lib.ListN.{length, set, take, drop, length-append, length-drop}
+use lib.Seq.{take-all}
+use Rattle.lists.specs.Parts.{numbers, overwrite}
+use Rattle.lists.proofs.Parts.{length-numbers}
 use Rattle.lists.proofs.Overwrite.{overwrite-nil, length-overwrite, overwrite-append, set-one, lent-tail}
-use Rattle.formula.specs.Words.{range}
-use Rattle.formula.proofs.Ranges.{range-length}
 
 -- Of the whole list, what is left goes in from index at on: the buffer was out₀ before, and is out now.
 pub record Left (out₀ out : List ℕ) (at : ℕ) (whole left : List ℕ) : Type 0 where
@@ -86,34 +85,32 @@ write-last out last a n x p q fits =
     ∙ ap (λ (m : ℕ). overwrite (overwrite out 0 a) m (x ∷ [])) (sym z)
     ∙ overwrite-append out 0 a (x ∷ []) (omega arith))
 
--- a range copied element by element
-module _ (xs : List ℕ) (first count : ℕ) (fits : first + count ≤ length xs) where
-  -- what is left of it after k elements
-  abbrev pub rangeLeft : ℕ → List ℕ
-  rangeLeft k = range xs (first + k) (count - k)
+-- consecutive numbers written one by one
+module _ (first count : ℕ) where
+  -- what is left of them after k numbers
+  abbrev pub numbersLeft : ℕ → List ℕ
+  numbersLeft k = numbers (first + k) (count - k)
 
-  pub copy-start : (out : List ℕ) → Left out out 0 (range xs first count) (rangeLeft 0)
-  copy-start out =
+  pub numbers-start : (out : List ℕ) → Left out out 0 (numbers first count) (numbersLeft 0)
+  numbers-start out =
       let e : first + 0 ≡ first = omega arith in
       let f : count - 0 ≡ count = omega arith in left-start out _ _ (rw (e, f))
 
-  range-next : (k : ℕ) → k < count → rangeLeft k ≡ (getD xs (first + k) 0 ∷ []) ++ rangeLeft (k + 1)
-  unfolding range
-  range-next k h =
+  numbers-next : (k : ℕ) → k < count → numbersLeft k ≡ ((first + k) ∷ []) ++ numbersLeft (k + 1)
+  unfolding numbers
+  numbers-next k h =
       let e : count - k ≡ suc (count - (k + 1)) = omega arith in
-      let f : first + (k + 1) ≡ suc (first + k) = omega arith in
-      rw (e, f, drop-cons xs (first + k) 0 (omega arith))
+      let f : first + (k + 1) ≡ suc (first + k) = omega arith in rw (e, f)
 
-  module _ (out₀ out : List ℕ) (k : ℕ) (so-far : Left out₀ out k (range xs first count) (rangeLeft k)) where
-    pub copy-step : count ≤ length out₀ → k < count → Left out₀ (set out k (getD xs (first + k) 0)) (k + 1) (range xs first count) (rangeLeft (k + 1))
-    copy-step room h =
-        let a = getD xs (first + k) 0 ∷ [] in
-        left-step out₀ out k _ _ so-far a (rangeLeft (k + 1)) _ (range-next k h)
-        (omega (arith, range-length xs first count fits)) (set-one out k (getD xs (first + k) 0) (omega (arith, so-far .kept)))
+  module _ (out₀ out : List ℕ) (k : ℕ) (so-far : Left out₀ out k (numbers first count) (numbersLeft k)) where
+    pub numbers-step : count ≤ length out₀ → k < count → Left out₀ (set out k (first + k)) (k + 1) (numbers first count) (numbersLeft (k + 1))
+    numbers-step room h =
+        left-step out₀ out k _ _ so-far ((first + k) ∷ []) (numbersLeft (k + 1)) _ (numbers-next k h)
+        (omega (arith, length-numbers first count)) (set-one out k (first + k) (omega (arith, so-far .kept)))
 
-    pub copy-end : count ≤ k → out ≡ overwrite out₀ 0 (range xs first count)
-    unfolding range
-    copy-end h = let e : count - k ≡ 0 = omega arith in left-end out₀ out k _ _ so-far (rw e) .0
+    pub numbers-end : count ≤ k → out ≡ overwrite out₀ 0 (numbers first count)
+    unfolding numbers
+    numbers-end h = let e : count - k ≡ 0 = omega arith in left-end out₀ out k _ _ so-far (rw e) .0
 
 -- the parts of a list's elements, one at a time
 pub flatMap-end : {A : Type 0} (g : A → List ℕ) (is : List A) → is ≡ [] → flatMap g is ≡ []

@@ -4,9 +4,9 @@ ghost use mathlib.Core.List.{[], _∷_, flatMap};
 ghost use mathlib.Core.Path.{_≡_};
 ghost use Prim.Native.Nat.{_+_, _*_, _≤_, _<_};
 ghost use lib.ListN.{length};
-ghost use Rattle.lists.specs.Parts.{overwrite};
+ghost use Rattle.lists.specs.Parts.{numbers, overwrite};
 ghost use Rattle.formula.specs.Node.{Quantifier, dual};
-ghost use Rattle.formula.specs.Words.{nodeCount, range, tableOf};
+ghost use Rattle.formula.specs.Words.{nodeCount, tableOf};
 ghost use Rattle.formula.specs.Form.{prefixWidth};
 ghost use Rattle.table_check.specs.Verdict.{limit, countAt, verdict, accepted};
 ghost use Rattle.prenex_form.specs.Levels.{blocksAt, levels, levelQuantifier};
@@ -17,11 +17,12 @@ ghost use Rattle.prenex_form.specs.Prefix.{
   writtenPrefix,
   writtenVariables,
 };
-ghost use Rattle.arrays.specs.Held.{Starts, LevelChains, Names};
+ghost use Rattle.arrays.specs.Held.{Starts, LevelChains, firstNew, firstCopy, Definitions};
 ghost use Rattle.prefix_writer.specs.Held.{
   Started,
   Chained,
   Named,
+  highestFirst,
   held,
   heldOwn,
   heldLeading,
@@ -33,25 +34,28 @@ use formula::FOR_ALL_BLOCK;
 pub const PREFIX_WIDTH: usize = 3;
 
 // Writes the prefix blocks and their variables from the start of the two buffers. A table without blocks has none.
+// The first bound variable of all has the new name `names` and the copy `copies`, each further one
+// the next numbers.
 pub fn write_prefix(
     words: &[u32],
     list: &[u32],
     prefix: &mut [u32],
     variables: &mut [u32],
-    starts: &[u32],
-    names: &[u32],
-    copies: &[u32],
-    marks: &[u32],
-    firsts: &[u32],
-    nexts: &[u32],
+    starts: &[u16],
+    names: u32,
+    copies: u32,
+    definitions: &[u32],
+    firsts: &[u16],
+    nexts: &[u16],
     block_count: usize,
     level_count: usize,
 )
     requires { ⌜ verdict (now words) (now list) ≡ accepted ⌝ }
     requires { ⌜ Starts (tableOf (now words) (now list)) (now starts) ⌝ }
-    requires { ⌜ Names (tableOf (now words) (now list)) (now names) (now copies) (now marks) ⌝ }
+    requires { ⌜ (names ≡ firstNew (tableOf (now words) (now list))) × (copies ≡ firstCopy (tableOf (now words) (now list))) ⌝ }
+    requires { ⌜ Definitions (tableOf (now words) (now list)) (now definitions) ⌝ }
     requires { ⌜ LevelChains (tableOf (now words) (now list)) (now firsts) (now nexts) ⌝ }
-    requires { ⌜ (length (now starts) ≡ limit) × (length (now names) ≡ limit) × (length (now copies) ≡ limit) × (length (now marks) ≡ limit) × (length (now firsts) ≡ limit) × (length (now nexts) ≡ limit) ⌝ }
+    requires { ⌜ (length (now starts) ≡ limit) × (length (now definitions) ≡ limit) × (length (now firsts) ≡ limit) × (length (now nexts) ≡ limit) ⌝ }
     requires { ⌜ («block_count» ≡ blockCount (tableOf (now words) (now list))) × («level_count» ≡ levels (tableOf (now words) (now list))) ⌝ }
     requires { ⌜ length (writtenPrefix (tableOf (now words) (now list))) ≤ length (now prefix) ⌝ }
     requires { ⌜ length (writtenVariables (tableOf (now words) (now list))) ≤ length (now variables) ⌝ }
@@ -73,7 +77,7 @@ pub fn write_prefix(
             starts,
             names,
             copies,
-            marks,
+            definitions,
             firsts,
             nexts,
             j,
@@ -113,18 +117,18 @@ fn write_block(
     list: &[u32],
     prefix: &mut [u32],
     variables: &mut [u32],
-    starts: &[u32],
-    names: &[u32],
-    copies: &[u32],
-    marks: &[u32],
-    firsts: &[u32],
-    nexts: &[u32],
+    starts: &[u16],
+    names: u32,
+    copies: u32,
+    definitions: &[u32],
+    firsts: &[u16],
+    nexts: &[u16],
     j: usize,
     kind: u32,
     at: usize,
 ) -> usize
     requires { ⌜ Started (now words) (now list) (now starts) ⌝ }
-    requires { ⌜ Named (now words) (now list) (now names) (now copies) (now marks) ⌝ }
+    requires { ⌜ Named (now words) (now list) names copies (now definitions) ⌝ }
     requires { ⌜ Chained (now words) (now list) (now firsts) (now nexts) ⌝ }
     requires { ⌜ j ≤ levels (tableOf (now words) (now list)) ⌝ }
     requires { ⌜ prefixWidth * j + prefixWidth ≤ length (now prefix) ⌝ }
@@ -141,7 +145,7 @@ fn write_block(
         starts,
         names,
         copies,
-        marks,
+        definitions,
         firsts,
         nexts,
         j,
@@ -166,23 +170,33 @@ fn write_variables(
     words: &[u32],
     list: &[u32],
     out: &mut [u32],
-    starts: &[u32],
-    names: &[u32],
-    copies: &[u32],
-    marks: &[u32],
-    firsts: &[u32],
-    nexts: &[u32],
+    starts: &[u16],
+    names: u32,
+    copies: u32,
+    definitions: &[u32],
+    firsts: &[u16],
+    nexts: &[u16],
     j: usize,
 ) -> usize
     requires { ⌜ Started (now words) (now list) (now starts) ⌝ }
-    requires { ⌜ Named (now words) (now list) (now names) (now copies) (now marks) ⌝ }
+    requires { ⌜ Named (now words) (now list) names copies (now definitions) ⌝ }
     requires { ⌜ Chained (now words) (now list) (now firsts) (now nexts) ⌝ }
     requires { ⌜ j ≤ levels (tableOf (now words) (now list)) ⌝ }
     requires { ⌜ length (prefixBlock (tableOf (now words) (now list)) j .variables) ≤ length (now out) ⌝ }
     ensures { λ r. ⌜ now (out .exit) ≡ overwrite (now (out .entry)) 0 (prefixBlock (tableOf (now (words .entry)) (now (list .entry))) j .variables) ⌝ }
     ensures { λ r. ⌜ r ≡ length (prefixBlock (tableOf (now (words .entry)) (now (list .entry))) j .variables) ⌝ }
 {
-    let leading = leading_variables(words, list, out, starts, names, marks, firsts, nexts, j);
+    let leading = leading_variables(
+        words,
+        list,
+        out,
+        starts,
+        names,
+        definitions,
+        firsts,
+        nexts,
+        j,
+    );
     let copied = level_copies(
         words,
         list,
@@ -201,23 +215,23 @@ fn leading_variables(
     words: &[u32],
     list: &[u32],
     out: &mut [u32],
-    starts: &[u32],
-    names: &[u32],
-    marks: &[u32],
-    firsts: &[u32],
-    nexts: &[u32],
+    starts: &[u16],
+    names: u32,
+    definitions: &[u32],
+    firsts: &[u16],
+    nexts: &[u16],
     j: usize,
 ) -> usize
     requires { ⌜ Started (now words) (now list) (now starts) ⌝ }
     requires { ⌜ Chained (now words) (now list) (now firsts) (now nexts) ⌝ }
-    requires { ⌜ (length (now names) ≡ limit) × (length (now marks) ≡ limit) ⌝ }
+    requires { ⌜ (names ≤ highestFirst) × (length (now definitions) ≡ limit) ⌝ }
     requires { ⌜ (j ≤ nodeCount (now words)) × (j < limit) ⌝ }
-    requires { ⌜ length (heldLeading (now words) (now list) (now starts) (now names) (now marks) j) ≤ length (now out) ⌝ }
-    ensures { λ r. ⌜ now (out .exit) ≡ overwrite (now (out .entry)) 0 (heldLeading (now (words .entry)) (now (list .entry)) (now (starts .entry)) (now (names .entry)) (now (marks .entry)) j) ⌝ }
-    ensures { λ r. ⌜ r ≡ length (heldLeading (now (words .entry)) (now (list .entry)) (now (starts .entry)) (now (names .entry)) (now (marks .entry)) j) ⌝ }
+    requires { ⌜ length (heldLeading (now words) (now list) (now starts) names (now definitions) j) ≤ length (now out) ⌝ }
+    ensures { λ r. ⌜ now (out .exit) ≡ overwrite (now (out .entry)) 0 (heldLeading (now (words .entry)) (now (list .entry)) (now (starts .entry)) names (now (definitions .entry)) j) ⌝ }
+    ensures { λ r. ⌜ r ≡ length (heldLeading (now (words .entry)) (now (list .entry)) (now (starts .entry)) names (now (definitions .entry)) j) ⌝ }
 {
     if j == 0 {
-        return copy_entries(
+        return write_entries(
             words,
             list,
             out,
@@ -226,7 +240,17 @@ fn leading_variables(
             words.len() / formula::WIDTH - 1,
         );
     }
-    level_variables(words, list, out, starts, names, marks, firsts, nexts, j)
+    level_variables(
+        words,
+        list,
+        out,
+        starts,
+        names,
+        definitions,
+        firsts,
+        nexts,
+        j,
+    )
 }
 
 // Writes, for each block of a level, its names and then its definition variable.
@@ -234,26 +258,26 @@ fn level_variables(
     words: &[u32],
     list: &[u32],
     out: &mut [u32],
-    starts: &[u32],
-    names: &[u32],
-    marks: &[u32],
-    firsts: &[u32],
-    nexts: &[u32],
+    starts: &[u16],
+    names: u32,
+    definitions: &[u32],
+    firsts: &[u16],
+    nexts: &[u16],
     level: usize,
 ) -> usize
     requires { ⌜ Started (now words) (now list) (now starts) ⌝ }
     requires { ⌜ Chained (now words) (now list) (now firsts) (now nexts) ⌝ }
-    requires { ⌜ (length (now names) ≡ limit) × (length (now marks) ≡ limit) ⌝ }
+    requires { ⌜ (names ≤ highestFirst) × (length (now definitions) ≡ limit) ⌝ }
     requires { ⌜ (level ≤ nodeCount (now words)) × (level < limit) ⌝ }
-    requires { ⌜ length (flatMap (heldOwn (now words) (now starts) (now names) (now marks)) (blocksAt (tableOf (now words) (now list)) level)) ≤ length (now out) ⌝ }
-    ensures { λ r. ⌜ now (out .exit) ≡ overwrite (now (out .entry)) 0 (flatMap (heldOwn (now (words .entry)) (now (starts .entry)) (now (names .entry)) (now (marks .entry))) (blocksAt (tableOf (now (words .entry)) (now (list .entry))) level)) ⌝ }
-    ensures { λ r. ⌜ r ≡ length (flatMap (heldOwn (now (words .entry)) (now (starts .entry)) (now (names .entry)) (now (marks .entry))) (blocksAt (tableOf (now (words .entry)) (now (list .entry))) level)) ⌝ }
+    requires { ⌜ length (flatMap (heldOwn (now words) (now starts) names (now definitions)) (blocksAt (tableOf (now words) (now list)) level)) ≤ length (now out) ⌝ }
+    ensures { λ r. ⌜ now (out .exit) ≡ overwrite (now (out .entry)) 0 (flatMap (heldOwn (now (words .entry)) (now (starts .entry)) names (now (definitions .entry))) (blocksAt (tableOf (now (words .entry)) (now (list .entry))) level)) ⌝ }
+    ensures { λ r. ⌜ r ≡ length (flatMap (heldOwn (now (words .entry)) (now (starts .entry)) names (now (definitions .entry))) (blocksAt (tableOf (now (words .entry)) (now (list .entry))) level)) ⌝ }
 {
     let mut at: usize = 0;
     let mut link = firsts[level] as usize;
     while link != 0 {
         let i = link - 1;
-        at += own_variables(words, list, &mut out[at..], starts, names, marks, i);
+        at += own_variables(words, list, &mut out[at..], starts, names, definitions, i);
         link = nexts[i] as usize;
     }
     at
@@ -264,25 +288,25 @@ fn level_copies(
     words: &[u32],
     list: &[u32],
     out: &mut [u32],
-    starts: &[u32],
-    copies: &[u32],
-    firsts: &[u32],
-    nexts: &[u32],
+    starts: &[u16],
+    copies: u32,
+    firsts: &[u16],
+    nexts: &[u16],
     level: usize,
 ) -> usize
     requires { ⌜ Started (now words) (now list) (now starts) ⌝ }
     requires { ⌜ Chained (now words) (now list) (now firsts) (now nexts) ⌝ }
-    requires { ⌜ length (now copies) ≡ limit ⌝ }
+    requires { ⌜ copies ≤ highestFirst ⌝ }
     requires { ⌜ (level ≤ nodeCount (now words)) × (level < limit) ⌝ }
-    requires { ⌜ length (flatMap (held (now words) (now starts) (now copies)) (blocksAt (tableOf (now words) (now list)) level)) ≤ length (now out) ⌝ }
-    ensures { λ r. ⌜ now (out .exit) ≡ overwrite (now (out .entry)) 0 (flatMap (held (now (words .entry)) (now (starts .entry)) (now (copies .entry))) (blocksAt (tableOf (now (words .entry)) (now (list .entry))) level)) ⌝ }
-    ensures { λ r. ⌜ r ≡ length (flatMap (held (now (words .entry)) (now (starts .entry)) (now (copies .entry))) (blocksAt (tableOf (now (words .entry)) (now (list .entry))) level)) ⌝ }
+    requires { ⌜ length (flatMap (held (now words) (now starts) copies) (blocksAt (tableOf (now words) (now list)) level)) ≤ length (now out) ⌝ }
+    ensures { λ r. ⌜ now (out .exit) ≡ overwrite (now (out .entry)) 0 (flatMap (held (now (words .entry)) (now (starts .entry)) copies) (blocksAt (tableOf (now (words .entry)) (now (list .entry))) level)) ⌝ }
+    ensures { λ r. ⌜ r ≡ length (flatMap (held (now (words .entry)) (now (starts .entry)) copies) (blocksAt (tableOf (now (words .entry)) (now (list .entry))) level)) ⌝ }
 {
     let mut at: usize = 0;
     let mut link = firsts[level] as usize;
     while link != 0 {
         let i = link - 1;
-        at += copy_entries(words, list, &mut out[at..], starts, copies, i);
+        at += write_entries(words, list, &mut out[at..], starts, copies, i);
         link = nexts[i] as usize;
     }
     at
@@ -293,39 +317,41 @@ fn own_variables(
     words: &[u32],
     list: &[u32],
     out: &mut [u32],
-    starts: &[u32],
-    names: &[u32],
-    marks: &[u32],
+    starts: &[u16],
+    names: u32,
+    definitions: &[u32],
     i: usize,
 ) -> usize
     requires { ⌜ Started (now words) (now list) (now starts) ⌝ }
-    requires { ⌜ (i < nodeCount (now words)) × (length (now names) ≡ limit) × (length (now marks) ≡ limit) ⌝ }
-    requires { ⌜ length (heldOwn (now words) (now starts) (now names) (now marks) i) ≤ length (now out) ⌝ }
-    ensures { λ r. ⌜ now (out .exit) ≡ overwrite (now (out .entry)) 0 (heldOwn (now (words .entry)) (now (starts .entry)) (now (names .entry)) (now (marks .entry)) i) ⌝ }
-    ensures { λ r. ⌜ r ≡ length (heldOwn (now (words .entry)) (now (starts .entry)) (now (names .entry)) (now (marks .entry)) i) ⌝ }
+    requires { ⌜ (i < nodeCount (now words)) × (names ≤ highestFirst) × (length (now definitions) ≡ limit) ⌝ }
+    requires { ⌜ length (heldOwn (now words) (now starts) names (now definitions) i) ≤ length (now out) ⌝ }
+    ensures { λ r. ⌜ now (out .exit) ≡ overwrite (now (out .entry)) 0 (heldOwn (now (words .entry)) (now (starts .entry)) names (now (definitions .entry)) i) ⌝ }
+    ensures { λ r. ⌜ r ≡ length (heldOwn (now (words .entry)) (now (starts .entry)) names (now (definitions .entry)) i) ⌝ }
 {
-    let count = copy_entries(words, list, out, starts, names, i);
-    out[count] = marks[i];
+    let count = write_entries(words, list, out, starts, names, i);
+    out[count] = definitions[i];
     count + 1
 }
 
-// Writes what an array over the entries holds of node i's, and returns how many there are.
-fn copy_entries(
+// Writes the numbers of node i's entries, where the first of all entries has the number first, and
+// returns how many there are. A node that binds nothing has no start: of it nothing is written,
+// whatever is read.
+fn write_entries(
     words: &[u32],
     list: &[u32],
     out: &mut [u32],
-    starts: &[u32],
-    array: &[u32],
+    starts: &[u16],
+    first: u32,
     i: usize,
 ) -> usize
     requires { ⌜ Started (now words) (now list) (now starts) ⌝ }
-    requires { ⌜ (i < nodeCount (now words)) × (length (now array) ≡ limit) ⌝ }
-    requires { ⌜ length (held (now words) (now starts) (now array) i) ≤ length (now out) ⌝ }
-    ensures { λ r. ⌜ now (out .exit) ≡ overwrite (now (out .entry)) 0 (held (now (words .entry)) (now (starts .entry)) (now (array .entry)) i) ⌝ }
-    ensures { λ r. ⌜ r ≡ length (held (now (words .entry)) (now (starts .entry)) (now (array .entry)) i) ⌝ }
+    requires { ⌜ (i < nodeCount (now words)) × (first ≤ highestFirst) ⌝ }
+    requires { ⌜ length (held (now words) (now starts) first i) ≤ length (now out) ⌝ }
+    ensures { λ r. ⌜ now (out .exit) ≡ overwrite (now (out .entry)) 0 (held (now (words .entry)) (now (starts .entry)) first i) ⌝ }
+    ensures { λ r. ⌜ r ≡ length (held (now (words .entry)) (now (starts .entry)) first i) ⌝ }
 {
     let count = count_at(words, i);
-    copy_range(out, array, starts[i] as usize, count);
+    write_numbers(out, first + starts[i] as u32, count);
     count
 }
 
@@ -341,14 +367,14 @@ fn count_at(words: &[u32], i: usize) -> usize
     0
 }
 
-// Writes the count elements of an array from first on.
-fn copy_range(out: &mut [u32], array: &[u32], first: usize, count: usize)
-    requires { ⌜ (first + count ≤ length (now array)) × (count ≤ length (now out)) ⌝ }
-    ensures { λ r. ⌜ now (out .exit) ≡ overwrite (now (out .entry)) 0 (range (now (array .entry)) first count) ⌝ }
+// Writes the count numbers from first on.
+fn write_numbers(out: &mut [u32], first: u32, count: usize)
+    requires { ⌜ (first + count < 4294967296) × (count ≤ length (now out)) ⌝ }
+    ensures { λ r. ⌜ now (out .exit) ≡ overwrite (now (out .entry)) 0 (numbers first count) ⌝ }
 {
     let mut k: usize = 0;
     while k < count {
-        out[k] = array[first + k];
+        out[k] = first + k as u32;
         k += 1;
     }
 }

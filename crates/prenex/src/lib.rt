@@ -13,9 +13,10 @@ ghost use Rattle.prenex_form.specs.Levels.{levels as deepestLevel};
 ghost use Rattle.prenex_form.specs.Sizes.{sizes as sizesOf};
 ghost use Rattle.prenex_form.specs.Matrix.{writtenNodes};
 ghost use Rattle.prenex_form.specs.Promise.{PrenexOf};
-ghost use Rattle.scopes.specs.Passes.{BlockCounts};
-ghost use Rattle.prefix_writer.specs.Held.{Started, Chained, Named};
-ghost use Rattle.prenex.specs.Arrays.{Placed, Levelled, Room, Written};
+ghost use Rattle.prenex_form.specs.Names.{highestNumber, boundCount};
+ghost use Rattle.scopes.specs.Passes.{Placed, BlockCounts};
+ghost use Rattle.prefix_writer.specs.Held.{Started, Chained};
+ghost use Rattle.prenex.specs.Arrays.{Blank, Bound, Room, Written};
 ghost use Rattle.prenex.specs.Outcome.{refusal as refusalOf, done as doneOf, measured, after, lifted};
 use names::NameCounter;
 use prenex_form::Sizes;
@@ -23,6 +24,9 @@ use scopes::Counts;
 
 // At most so many nodes, list entries and bound variables.
 const LIMIT: usize = 4096;
+
+// One scope for each node, and that outside all blocks.
+const SCOPES: usize = 4097;
 
 // Words to a prefix block.
 const PREFIX_WIDTH: usize = prefix_writer::PREFIX_WIDTH;
@@ -85,8 +89,8 @@ fn measure_accepted(words: &[u32], list: &[u32]) -> Sizes
     requires { ⌜ verdict (now words) (now list) ≡ accepted ⌝ }
     ensures { λ r. ⌜ r ≡ sizesOf (tableOf (now (words .entry)) (now (list .entry))) ⌝ }
 {
-    let mut parents = [0u32; LIMIT];
-    let mut levels = [0u32; LIMIT];
+    let mut parents = [0u16; LIMIT];
+    let mut levels = [0u16; LIMIT];
     sizes_of(
         words,
         list,
@@ -148,8 +152,8 @@ fn lift_accepted(
     requires { ⌜ verdict (now words) (now list) ≡ accepted ⌝ }
     ensures { λ r. ⌜ after r (now (nodes .exit)) (now (prefix .exit)) (now (variables .exit)) ≡ lifted (now (words .entry)) (now (list .entry)) (now (nodes .entry)) (now (prefix .entry)) (now (variables .entry)) ⌝ }
 {
-    let mut parents = [0u32; LIMIT];
-    let mut levels = [0u32; LIMIT];
+    let mut parents = [0u16; LIMIT];
+    let mut levels = [0u16; LIMIT];
     let counts = scopes::fill_scopes(words, list, &mut parents, &mut levels);
     let sizes = sizes_of(words, list, counts);
     if nodes.len() < formula::WIDTH * (sizes.nodes as usize) {
@@ -168,46 +172,104 @@ fn lift_accepted(
         prefix,
         variables,
         &parents,
-        &levels,
+        &mut levels,
         counts,
     );
     done(sizes)
 }
 
-// Chains the blocks of each level and numbers the entries, and goes on.
+// Chains the nodes, finds the binders, and goes on. The levels are done with once the nodes are
+// chained: their array takes the bindings.
 fn write_form(
     words: &[u32],
     list: &[u32],
     nodes: &mut [u32],
     prefix: &mut [u32],
     variables: &mut [u32],
-    parents: &[u32],
-    levels: &[u32],
+    parents: &[u16],
+    levels: &mut [u16],
     counts: Counts,
 )
-    requires { ⌜ Placed (now words) (now list) (now parents) ⌝ }
-    requires { ⌜ Levelled (now words) (now list) (now levels) ⌝ }
+    requires { ⌜ verdict (now words) (now list) ≡ accepted ⌝ }
+    requires { ⌜ Placed (now words) (now list) (now parents) (now levels) ⌝ }
     requires { ⌜ BlockCounts (tableOf (now words) (now list)) counts ⌝ }
     requires { ⌜ Room (now words) (now list) (now nodes) (now prefix) (now variables) ⌝ }
     ensures { λ _. ⌜ Written (now (words .entry)) (now (list .entry)) (now (nodes .entry)) (now (prefix .entry)) (now (variables .entry)) (now (nodes .exit)) (now (prefix .exit)) (now (variables .exit)) ⌝ }
 {
-    let mut firsts = [0u32; LIMIT];
-    let mut nexts = [0u32; LIMIT];
-    scopes::chain_levels(words, list, levels, &mut firsts, &mut nexts);
-    let mut starts = [0u32; LIMIT];
-    names::fill_starts(words, list, &mut starts);
+    let mut firsts = [0u16; LIMIT];
+    let mut nexts = [0u16; LIMIT];
+    let mut starts = [0u16; LIMIT];
+    let bound = counts.bound as usize;
+    let highest = find_bindings(
+        words,
+        list,
+        parents,
+        levels,
+        &mut firsts,
+        &mut nexts,
+        &mut starts,
+        bound,
+    );
     write_named(
         words,
         list,
         nodes,
         prefix,
         variables,
-        parents,
         &firsts,
         &nexts,
         &starts,
+        levels,
         counts,
+        highest,
     );
+}
+
+// Chains the nodes by level and by parent block, and writes the entry that binds each variable node's
+// number over the levels. The result is the highest number.
+fn find_bindings(
+    words: &[u32],
+    list: &[u32],
+    parents: &[u16],
+    levels: &mut [u16],
+    firsts: &mut [u16],
+    nexts: &mut [u16],
+    starts: &mut [u16],
+    bound: usize,
+) -> u32
+    requires { ⌜ verdict (now words) (now list) ≡ accepted ⌝ }
+    requires { ⌜ Placed (now words) (now list) (now parents) (now levels) ⌝ }
+    requires { ⌜ bound ≡ boundCount (tableOf (now words) (now list)) ⌝ }
+    requires { ⌜ Blank (now firsts) (now nexts) (now starts) ⌝ }
+    ensures { λ r. ⌜ Chained (now (words .entry)) (now (list .entry)) (now (firsts .exit)) (now (nexts .exit)) ⌝ }
+    ensures { λ r. ⌜ Started (now (words .entry)) (now (list .entry)) (now (starts .exit)) ⌝ }
+    ensures { λ r. ⌜ Bound (now (words .entry)) (now (list .entry)) (now (levels .exit)) ⌝ }
+    ensures { λ r. ⌜ (r ≡ highestNumber (tableOf (now (words .entry)) (now (list .entry)))) × (r ≤ 65535) ⌝ }
+{
+    let mut member_firsts = [0u16; SCOPES];
+    let mut member_nexts = [0u16; LIMIT];
+    let highest = scopes::chain_nodes(
+        words,
+        list,
+        parents,
+        levels,
+        firsts,
+        nexts,
+        &mut member_firsts,
+        &mut member_nexts,
+        starts,
+        bound,
+    );
+    binders::find_binders(
+        words,
+        list,
+        parents,
+        &member_firsts,
+        &member_nexts,
+        starts,
+        levels,
+    );
+    highest
 }
 
 // Hands out the new names, and writes the three parts of the form.
@@ -217,49 +279,49 @@ fn write_named(
     nodes: &mut [u32],
     prefix: &mut [u32],
     variables: &mut [u32],
-    parents: &[u32],
-    firsts: &[u32],
-    nexts: &[u32],
-    starts: &[u32],
+    firsts: &[u16],
+    nexts: &[u16],
+    starts: &[u16],
+    bindings: &[u16],
     counts: Counts,
+    highest: u32,
 )
-    requires { ⌜ Placed (now words) (now list) (now parents) ⌝ }
     requires { ⌜ Started (now words) (now list) (now starts) ⌝ }
     requires { ⌜ Chained (now words) (now list) (now firsts) (now nexts) ⌝ }
+    requires { ⌜ Bound (now words) (now list) (now bindings) ⌝ }
     requires { ⌜ BlockCounts (tableOf (now words) (now list)) counts ⌝ }
+    requires { ⌜ (highest ≡ highestNumber (tableOf (now words) (now list))) × (highest ≤ 65535) ⌝ }
     requires { ⌜ Room (now words) (now list) (now nodes) (now prefix) (now variables) ⌝ }
     ensures { λ _. ⌜ Written (now (words .entry)) (now (list .entry)) (now (nodes .entry)) (now (prefix .entry)) (now (variables .entry)) (now (nodes .exit)) (now (prefix .exit)) (now (variables .exit)) ⌝ }
 {
-    let mut new_names = [0u32; LIMIT];
-    let mut copies = [0u32; LIMIT];
-    let mut marks = [0u32; LIMIT];
-    let counter = NameCounter {
-        next: names::highest_number(words, list) + 1,
-    };
-    let deepest = counts.deepest as usize;
-    let bound = counts.bound as usize;
-    let inner_bound = counts.inner_bound as usize;
-    names::give_names(
+    let mut definitions = [0u32; LIMIT];
+    let counter = NameCounter { next: highest + 1 };
+    let names = counter.take_run(counts.bound);
+    let copies = names.counter.take_run(counts.inner_bound);
+    let n = words.len() / formula::WIDTH;
+    let first = n - root_blocks(words, list) as usize;
+    first_nodes::write_first(
+        nodes,
         words,
         list,
-        counter,
-        &mut new_names,
-        &mut copies,
-        &mut marks,
-        bound,
-        inner_bound,
+        bindings,
+        names.name,
+        &mut definitions,
+        copies.counter,
+        first,
     );
-    write_matrix(
+    let deepest = counts.deepest as usize;
+    matrix_writer::write_levels(
         words,
         list,
         nodes,
-        parents,
         firsts,
         nexts,
         starts,
-        &new_names,
-        &copies,
-        &marks,
+        names.name,
+        copies.name,
+        &definitions,
+        first,
         deepest,
     );
     let blocks = counts.blocks as usize;
@@ -269,77 +331,12 @@ fn write_named(
         prefix,
         variables,
         starts,
-        &new_names,
-        &copies,
-        &marks,
+        names.name,
+        copies.name,
+        &definitions,
         firsts,
         nexts,
         blocks,
-        deepest,
-    );
-}
-
-// Chains the entries by their numbers, and writes the nodes.
-fn write_matrix(
-    words: &[u32],
-    list: &[u32],
-    nodes: &mut [u32],
-    parents: &[u32],
-    firsts: &[u32],
-    nexts: &[u32],
-    starts: &[u32],
-    new_names: &[u32],
-    copies: &[u32],
-    marks: &[u32],
-    deepest: usize,
-)
-    requires { ⌜ Placed (now words) (now list) (now parents) ⌝ }
-    requires { ⌜ Started (now words) (now list) (now starts) ⌝ }
-    requires { ⌜ Chained (now words) (now list) (now firsts) (now nexts) ⌝ }
-    requires { ⌜ Named (now words) (now list) (now «new_names») (now copies) (now marks) ⌝ }
-    requires { ⌜ deepest ≡ deepestLevel (tableOf (now words) (now list)) ⌝ }
-    requires { ⌜ length (writtenNodes (tableOf (now words) (now list))) ≤ length (now nodes) ⌝ }
-    ensures { λ _. ⌜ now (nodes .exit) ≡ overwrite (now (nodes .entry)) 0 (writtenNodes (tableOf (now (words .entry)) (now (list .entry)))) ⌝ }
-{
-    let mut heads = [0u16; arrays::BUCKETS];
-    let mut entry_nexts = [0u32; LIMIT];
-    let mut owners = [0u32; LIMIT];
-    let mut numbers = [0u32; LIMIT];
-    names::chain_entries(
-        words,
-        list,
-        starts,
-        &mut heads,
-        &mut entry_nexts,
-        &mut owners,
-        &mut numbers,
-    );
-    let n = words.len() / formula::WIDTH;
-    let first = n - root_blocks(words, list) as usize;
-    binders::write_first(
-        nodes,
-        words,
-        list,
-        parents,
-        &heads,
-        &entry_nexts,
-        &owners,
-        &numbers,
-        new_names,
-        marks,
-        first,
-    );
-    matrix_writer::write_levels(
-        words,
-        list,
-        nodes,
-        firsts,
-        nexts,
-        starts,
-        new_names,
-        copies,
-        marks,
-        first,
         deepest,
     );
 }

@@ -21,7 +21,7 @@ use Rattle.prenex_form.specs.Levels.{blocksAt, quantifierAt, levelQuanti
 use Rattle.prenex_form.specs.Matrix.{bodyOf}
 use Rattle.prenex_form.specs.Prefix.{leading}
 use Rattle.prenex_form.proofs.Cut.{valueAt, blockHolds, matrixAt}
-use Rattle.prenex_form.proofs.Level.{Blocks, Separate, Blind, settled, settled-mark, settled-other, level-truth}
+use Rattle.prenex_form.proofs.Level.{Blocks, Separate, Blind, settled, settled-definition, settled-other, level-truth}
 use Rattle.prenex_form.proofs.Paths.{blocksAt-lt, blocksAt-inner}
 use Rattle.prenex_form.proofs.NameLaws.{length-newNames, length-copies, copies-shift, newNames-le, copies-above, copies-le, definition-above, newNames-apart, definition-apart}
 use Rattle.prenex_form.proofs.Seen.{body-blind, matrix-blind}
@@ -46,7 +46,7 @@ levelBlocks t j =
       kind = λ i. quantifierAt (t .node i);
       names = newNames t;
       copies = copies t;
-      mark = definitionVariable t;
+      definition = definitionVariable t;
       body = λ i. valueAt t (suc j) (bodyOf (t .node i));
       definer = definerOf t;
     }
@@ -77,12 +77,12 @@ module _ (t : Table) (tree : Tree t) (j : ℕ) where
         owner-is = λ i x m h. owner-at t i x (blocksAt-lt t tree (suc j) i m) h;
         definer-is = λ i m. definer-at t i (blocksAt-lt t tree (suc j) i m) (blocksAt-inner t tree (suc j) i m);
         names-copies = λ i k x m n p q. omega (arith, newNames-le t i x (blocksAt-lt t tree (suc j) i m) p, copies-above t k x q);
-        names-marks = λ i k m n p. omega (arith, newNames-le t i _ (blocksAt-lt t tree (suc j) i m) p, definition-above t k);
-        copies-marks = λ i k m n p.
+        names-definitions = λ i k m n p. omega (arith, newNames-le t i _ (blocksAt-lt t tree (suc j) i m) p, definition-above t k);
+        copies-definitions = λ i k m n p.
             omega (arith, copies-le t i _ (blocksAt-lt t tree (suc j) i m) (blocksAt-inner t tree (suc j) i m) p, definition-above t k);
         body-blind = λ i m v u alike same.
             body-blind t tree j i m v u
-            (λ z n c d. alike z (record { unbound = record { no-name = n; no-copy = c }; no-mark = d })) same;
+            (λ z n c d. alike z (record { unbound = record { no-name = n; no-copy = c }; no-definition = d })) same;
       }
 
   level-blind : Blind (levelBlocks t j) (matrixAt t (suc j) j)
@@ -94,5 +94,5 @@ module _ (t : Table) (tree : Tree t) (j : ℕ) where
   unfolding matrixAt blockHolds leading
   exchange v =
       let b = levelBlocks t j in
-      matrix-step t tree j v (settled b v) (settled-other b level-separate v) (settled-mark b level-separate v)
+      matrix-step t tree j v (settled b v) (settled-other b level-separate v) (settled-definition b level-separate v)
       ∙ sym (level-truth b level-separate (levelQuantifier t j) (matrixAt t (suc j) j) level-blind v)

@@ -335,8 +335,8 @@ module _ (t : Table) where
         (λ i h. next (renamed t i (t .node i)) (renamed-sourced i h (t .node i) refl) none)
 
     module _ (i : ℕ) (h : i < t .size) (n : inner t i ≡ true) where
-      mark-sourced : Source t (definitionVariable t i)
-      mark-sourced = of-prefix (binds-definition t tree i h n)
+      definition-sourced : Source t (definitionVariable t i)
+      definition-sourced = of-prefix (binds-definition t tree i h n)
 
       equation-sourced : (s k : ℕ) → k < count t i → AllSourced t (equation t i s k)
       unfolding equation
@@ -350,12 +350,12 @@ module _ (t : Table) where
       constraint-sourced : (s : ℕ) → AllSourced t (constraint t i s)
       unfolding constraint
       constraint-sourced s =
-          of-variable mark-sourced
+          of-variable definition-sourced
           (of-operator
           (pick-sourced (eqb (count t i) 0) _ _ none
           (append-sourced (upTo (equation t i (s + 2)) (count t i)) _
           (upTo-sourced (equation t i (s + 2)) (count t i) (λ k l. equation-sourced (s + 2) k l))
-          (of-variable mark-sourced (of-operator (of-operator none))))))
+          (of-variable definition-sourced (of-operator (of-operator none))))))
 
     -- every number of the list is that of an inner block
     abbrev Inner : List ℕ → Type 0

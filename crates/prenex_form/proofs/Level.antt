@@ -18,14 +18,14 @@ use Rattle.formula.specs.Valuation.{Valuation, quant}
 use Rattle.formula.proofs.Quantify.{Outside, Inside, decides, decides-dual, quant-reach, quant-attain, quant-same}
 use Rattle.prenex_form.proofs.Cut.{agree, guarded, holds, joined}
 
--- The blocks of a level, and of each its quantifier, its names, their copies, its definition variable (mark) and the value of its
+-- The blocks of a level, and of each its quantifier, its names, their copies, its definition variable and the value of its
 -- body. `definer` takes a definition variable back to its block.
 pub record Blocks : Type 0 where
   pub members : List ℕ
   pub kind : ℕ → Quantifier
   pub names : ℕ → List ℕ
   pub copies : ℕ → List ℕ
-  pub mark : ℕ → ℕ
+  pub definition : ℕ → ℕ
   pub body : ℕ → Valuation → Bool
   pub definer : ℕ → ℕ
 
@@ -36,8 +36,8 @@ Member b i = mem i (b .members) ≡ true
 abbrev pub NoName : Blocks → ℕ → Type 0
 NoName b z = (j : ℕ) → Member b j → mem z (b .names j) ≡ true → ⊥
 
-abbrev pub NoMark : Blocks → ℕ → Type 0
-NoMark b z = (j : ℕ) → Member b j → z ≡ b .mark j → ⊥
+abbrev pub NoDefinition : Blocks → ℕ → Type 0
+NoDefinition b z = (j : ℕ) → Member b j → z ≡ b .definition j → ⊥
 
 -- z is no name and no copy of the level
 pub record Unbound (b : Blocks) (z : ℕ) : Type 0 where
@@ -47,7 +47,7 @@ pub record Unbound (b : Blocks) (z : ℕ) : Type 0 where
 -- and no definition variable of the level either
 pub record Untouched (b : Blocks) (z : ℕ) : Type 0 where
   pub unbound : Unbound b z
-  pub no-mark : NoMark b z
+  pub no-definition : NoDefinition b z
 
 -- v and u are equal at what the level leaves untouched
 abbrev pub Alike : Blocks → Valuation → Valuation → Type 0
@@ -63,10 +63,10 @@ pub record Separate (b : Blocks) : Type 0 where
   pub same-length : (i : ℕ) → Member b i → length (b .names i) ≡ length (b .copies i)
   pub copies-are : (i k : ℕ) → Member b i → k < length (b .names i) → getD (b .copies i) k 0 ≡ copy (getD (b .names i) k 0)
   pub owner-is : (i x : ℕ) → Member b i → mem x (b .names i) ≡ true → owner x ≡ i
-  pub definer-is : (i : ℕ) → Member b i → b .definer (b .mark i) ≡ i
+  pub definer-is : (i : ℕ) → Member b i → b .definer (b .definition i) ≡ i
   pub names-copies : (i j x : ℕ) → Member b i → Member b j → mem x (b .names i) ≡ true → mem x (b .copies j) ≡ true → ⊥
-  pub names-marks : (i j : ℕ) → Member b i → Member b j → mem (b .mark j) (b .names i) ≡ true → ⊥
-  pub copies-marks : (i j : ℕ) → Member b i → Member b j → mem (b .mark j) (b .copies i) ≡ true → ⊥
+  pub names-definitions : (i j : ℕ) → Member b i → Member b j → mem (b .definition j) (b .names i) ≡ true → ⊥
+  pub copies-definitions : (i j : ℕ) → Member b i → Member b j → mem (b .definition j) (b .copies i) ≡ true → ⊥
   pub body-blind : (i : ℕ) → Member b i → (v u : Valuation) → Alike b v u → Inside (b .names i) v u → b .body i v ≡ b .body i u
 
 -- the matrix looks at no name and no copy of the level
@@ -78,20 +78,20 @@ abbrev pub truth : Blocks → ℕ → Valuation → Bool
 truth b i v = quant (b .kind i) (b .names i) (b .body i) v
 
 -- z is a definition variable of the level
-unfoldable pub isMark : Blocks → ℕ → Bool
-isMark b z = mem (b .definer z) (b .members) && eqb z (b .mark (b .definer z))
+unfoldable pub isDefinition : Blocks → ℕ → Bool
+isDefinition b z = mem (b .definer z) (b .members) && eqb z (b .definition (b .definer z))
 
 -- v with each definition variable of the level at its block's true value
 unfoldable pub settled : Blocks → Valuation → Valuation
-settled b v z = pick (isMark b z) (truth b (b .definer z) v) (v z)
+settled b v z = pick (isDefinition b z) (truth b (b .definer z) v) (v z)
 
 -- the names of block i and its definition variable
 abbrev pub lifted : Blocks → ℕ → List ℕ
-lifted b i = b .names i ++ (b .mark i ∷ [])
+lifted b i = b .names i ++ (b .definition i ∷ [])
 
 -- the level's constraint
 abbrev pub constraint : Blocks → Valuation → Bool
-constraint b w = all (λ i. holds (b .kind i) (b .names i) (b .copies i) (b .mark i) (b .body i) w) (b .members)
+constraint b w = all (λ i. holds (b .kind i) (b .names i) (b .copies i) (b .definition i) (b .body i) w) (b .members)
 
 absent : (a : Bool) → (a ≡ true → ⊥) → a ≡ false
 absent true h = absurd (h refl)
@@ -169,36 +169,36 @@ not-in g z is h = absent _ (λ m. let r = mem-flatMap-from g z is m in h (r .0) 
 
 module _ (b : Blocks) (s : Separate b) where
   -- definition variables
-  isMark-mark : (i : ℕ) → Member b i → isMark b (b .mark i) ≡ true
-  unfolding isMark
-  isMark-mark i m = rw (s .definer-is i m) (and-both _ _ m (eq-eqb (b .mark i) (b .mark i) refl))
+  isDefinition-definition : (i : ℕ) → Member b i → isDefinition b (b .definition i) ≡ true
+  unfolding isDefinition
+  isDefinition-definition i m = rw (s .definer-is i m) (and-both _ _ m (eq-eqb (b .definition i) (b .definition i) refl))
 
-  isMark-member : (z : ℕ) → isMark b z ≡ true → Member b (b .definer z)
-  unfolding isMark
-  isMark-member z e = and-left _ (eqb z (b .mark (b .definer z))) e
+  isDefinition-member : (z : ℕ) → isDefinition b z ≡ true → Member b (b .definer z)
+  unfolding isDefinition
+  isDefinition-member z e = and-left _ (eqb z (b .definition (b .definer z))) e
 
-  isMark-is : (z : ℕ) → isMark b z ≡ true → z ≡ b .mark (b .definer z)
-  unfolding isMark
-  isMark-is z e = eqb-true _ _ (and-right (mem (b .definer z) (b .members)) _ e)
+  isDefinition-is : (z : ℕ) → isDefinition b z ≡ true → z ≡ b .definition (b .definer z)
+  unfolding isDefinition
+  isDefinition-is z e = eqb-true _ _ (and-right (mem (b .definer z) (b .members)) _ e)
 
-  isMark-no : (z : ℕ) → NoMark b z → isMark b z ≡ false
-  isMark-no z h = absent _ (λ e. h (b .definer z) (isMark-member z e) (isMark-is z e))
+  isDefinition-no : (z : ℕ) → NoDefinition b z → isDefinition b z ≡ false
+  isDefinition-no z h = absent _ (λ e. h (b .definer z) (isDefinition-member z e) (isDefinition-is z e))
 
-  no-isMark : (z : ℕ) → isMark b z ≡ false → NoMark b z
-  no-isMark z h j m e = clash (isMark-mark j m) (rw e at h)
+  no-isDefinition : (z : ℕ) → isDefinition b z ≡ false → NoDefinition b z
+  no-isDefinition z h j m e = clash (isDefinition-definition j m) (rw e at h)
 
-  pub settled-mark : (v : Valuation) (i : ℕ) → Member b i → settled b v (b .mark i) ≡ truth b i v
+  pub settled-definition : (v : Valuation) (i : ℕ) → Member b i → settled b v (b .definition i) ≡ truth b i v
   unfolding settled
-  settled-mark v i m = pick-yes _ _ _ (isMark-mark i m) ∙ ap (λ j. truth b j v) (s .definer-is i m)
+  settled-definition v i m = pick-yes _ _ _ (isDefinition-definition i m) ∙ ap (λ j. truth b j v) (s .definer-is i m)
 
-  pub settled-other : (v : Valuation) (z : ℕ) → NoMark b z → settled b v z ≡ v z
+  pub settled-other : (v : Valuation) (z : ℕ) → NoDefinition b z → settled b v z ≡ v z
   unfolding settled
-  settled-other v z h = pick-no _ _ _ (isMark-no z h)
+  settled-other v z h = pick-no _ _ _ (isDefinition-no z h)
 
   -- what is neither a name nor a definition variable
-  not-lifted : (z : ℕ) → NoName b z → NoMark b z → mem z (flatMap (lifted b) (b .members)) ≡ false
+  not-lifted : (z : ℕ) → NoName b z → NoDefinition b z → mem z (flatMap (lifted b) (b .members)) ≡ false
   not-lifted z n d = not-in (lifted b) z (b .members)
-      (λ j m h. clash h (mem-neither z (b .names j) (b .mark j ∷ []) (absent _ (n j m)) (mem-one z (b .mark j) ∙ ne-eqb z (b .mark j) (d j m))))
+      (λ j m h. clash h (mem-neither z (b .names j) (b .definition j ∷ []) (absent _ (n j m)) (mem-one z (b .definition j) ∙ ne-eqb z (b .definition j) (d j m))))
 
   -- names and copies
   copy-member : (i x : ℕ) → Member b i → mem x (b .names i) ≡ true → mem (s .copy x) (b .copies i) ≡ true
@@ -211,11 +211,11 @@ module _ (b : Blocks) (s : Separate b) where
   copy-no-name : (i x : ℕ) → Member b i → mem x (b .names i) ≡ true → NoName b (s .copy x)
   copy-no-name i x m h j n k = s .names-copies j i (s .copy x) n m k (copy-member i x m h)
 
-  copy-no-mark : (i x : ℕ) → Member b i → mem x (b .names i) ≡ true → NoMark b (s .copy x)
-  copy-no-mark i x m h j n e = s .copies-marks i j m n (rw e at (copy-member i x m h))
+  copy-no-definition : (i x : ℕ) → Member b i → mem x (b .names i) ≡ true → NoDefinition b (s .copy x)
+  copy-no-definition i x m h j n e = s .copies-definitions i j m n (rw e at (copy-member i x m h))
 
-  name-no-mark : (i x : ℕ) → Member b i → mem x (b .names i) ≡ true → NoMark b x
-  name-no-mark i x m h j n e = s .names-marks i j m n (rw e at h)
+  name-no-definition : (i x : ℕ) → Member b i → mem x (b .names i) ≡ true → NoDefinition b x
+  name-no-definition i x m h j n e = s .names-definitions i j m n (rw e at h)
 
   agree-from : (w : Valuation) (i : ℕ) → Member b i → ((x : ℕ) → mem x (b .names i) ≡ true → w x ≡ w (s .copy x)) → agree w (b .names i) (b .copies i) ≡ true
   agree-from w i m h = agree-true w (b .names i) (b .copies i) (s .same-length i m)
@@ -249,15 +249,15 @@ module _ (b : Blocks) (s : Separate b) where
   decided i m v w h e = truth-same i m v w h ∙ quant-reach (b .kind i) (b .names i) (b .body i) w w (λ y n. refl) e
 
   -- the matrix sees of the level only its definition variables
-  settled-at : (v w : Valuation) → Alike b v w → ((i : ℕ) → Member b i → w (b .mark i) ≡ truth b i v) → (z : ℕ) → Unbound b z → Is (isMark b z) → w z ≡ settled b v z
-  settled-at v w h marks z n (is-true e) =
-      let m = isMark-member z e in
-      ap w (isMark-is z e) ∙ marks (b .definer z) m ∙ sym (settled-mark v (b .definer z) m) ∙ ap (settled b v) (sym (isMark-is z e))
-  settled-at v w h marks z n (is-false e) =
-      let d = no-isMark z e in sym (h z (record { unbound = n; no-mark = d })) ∙ sym (settled-other v z d)
+  settled-at : (v w : Valuation) → Alike b v w → ((i : ℕ) → Member b i → w (b .definition i) ≡ truth b i v) → (z : ℕ) → Unbound b z → Is (isDefinition b z) → w z ≡ settled b v z
+  settled-at v w h definitions z n (is-true e) =
+      let m = isDefinition-member z e in
+      ap w (isDefinition-is z e) ∙ definitions (b .definer z) m ∙ sym (settled-definition v (b .definer z) m) ∙ ap (settled b v) (sym (isDefinition-is z e))
+  settled-at v w h definitions z n (is-false e) =
+      let d = no-isDefinition z e in sym (h z (record { unbound = n; no-definition = d })) ∙ sym (settled-other v z d)
 
-  matrix-settled : (β : Valuation → Bool) → Blind b β → (v w : Valuation) → Alike b v w → ((i : ℕ) → Member b i → w (b .mark i) ≡ truth b i v) → β w ≡ β (settled b v)
-  matrix-settled β blind v w h marks = blind w (settled b v) (λ z n. settled-at v w h marks z n (look (isMark b z)))
+  matrix-settled : (β : Valuation → Bool) → Blind b β → (v w : Valuation) → Alike b v w → ((i : ℕ) → Member b i → w (b .definition i) ≡ truth b i v) → β w ≡ β (settled b v)
+  matrix-settled β blind v w h definitions = blind w (settled b v) (λ z n. settled-at v w h definitions z n (look (isDefinition b z)))
 
   -- v with the copies of each block at what attains its true value
   spread : Valuation → Valuation
@@ -278,24 +278,24 @@ module _ (b : Blocks) (s : Separate b) where
     -- under the constraint every definition variable then has its block's true value
     spread-untouched : Alike b v w
     spread-untouched z t =
-        spread-outside v z (not-in (b .copies) z (b .members) (t .unbound .no-copy)) ∙ out z (not-lifted z (t .unbound .no-name) (t .no-mark))
+        spread-outside v z (not-in (b .copies) z (b .members) (t .unbound .no-copy)) ∙ out z (not-lifted z (t .unbound .no-name) (t .no-definition))
 
     spread-name : (i : ℕ) → Member b i → agree w (b .names i) (b .copies i) ≡ true → Inside (b .names i) w (attained i v)
     spread-name i m a x h =
-        agree-to w i m a x h ∙ sym (out (s .copy x) (not-lifted (s .copy x) (copy-no-name i x m h) (copy-no-mark i x m h))) ∙ spread-copy v i x m h
+        agree-to w i m a x h ∙ sym (out (s .copy x) (not-lifted (s .copy x) (copy-no-name i x m h) (copy-no-definition i x m h))) ∙ spread-copy v i x m h
 
-    spread-mark : (i : ℕ) → Member b i → Bool·beq (w (b .mark i)) (b .body i w) ≡ true → guarded (b .kind i) (w (b .mark i)) (agree w (b .names i) (b .copies i)) ≡ true
-        → Is (Bool·beq (w (b .mark i)) (decides (b .kind i))) → w (b .mark i) ≡ truth b i v
-    spread-mark i m e g (is-true d) =
+    spread-definition : (i : ℕ) → Member b i → Bool·beq (w (b .definition i)) (b .body i w) ≡ true → guarded (b .kind i) (w (b .definition i)) (agree w (b .names i) (b .copies i)) ≡ true
+        → Is (Bool·beq (w (b .definition i)) (decides (b .kind i))) → w (b .definition i) ≡ truth b i v
+    spread-definition i m e g (is-true d) =
         let f = beq-true _ _ d in f ∙ sym (decided i m v w spread-untouched (sym (beq-true _ _ e) ∙ f))
-    spread-mark i m e g (is-false d) =
+    spread-definition i m e g (is-false d) =
         beq-true _ _ e ∙ attained-truth i m v w spread-untouched (spread-name i m (guard-other _ _ _ (beq-false _ _ d) g))
 
-    spread-marks : constraint b w ≡ true → (i : ℕ) → Member b i → w (b .mark i) ≡ truth b i v
+    spread-definitions : constraint b w ≡ true → (i : ℕ) → Member b i → w (b .definition i) ≡ truth b i v
     unfolding holds
-    spread-marks c i m =
+    spread-definitions c i m =
         let h = all-mem _ (b .members) i c m in
-        spread-mark i m (and-left _ _ h) (and-right (Bool·beq (w (b .mark i)) (b .body i w)) _ h) (look (Bool·beq (w (b .mark i)) (decides (b .kind i))))
+        spread-definition i m (and-left _ _ h) (and-right (Bool·beq (w (b .definition i)) (b .body i w)) _ h) (look (Bool·beq (w (b .definition i)) (decides (b .kind i))))
 
   -- u with every definition variable at its block's true value, and the names of each block at what attains it if that value is the
   -- deciding one, at the copies' values if not
@@ -303,30 +303,30 @@ module _ (b : Blocks) (s : Separate b) where
   onName u i x = pick (Bool·beq (truth b i u) (decides (b .kind i))) (attained i u x) (u (s .copy x))
 
   chosen : Valuation → Valuation
-  chosen u z = pick (isMark b z) (truth b (b .definer z) u) (pick (mem z (flatMap (b .names) (b .members))) (onName u (s .owner z) z) (u z))
+  chosen u z = pick (isDefinition b z) (truth b (b .definer z) u) (pick (mem z (flatMap (b .names) (b .members))) (onName u (s .owner z) z) (u z))
 
-  chosen-mark : (u : Valuation) (i : ℕ) → Member b i → chosen u (b .mark i) ≡ truth b i u
+  chosen-definition : (u : Valuation) (i : ℕ) → Member b i → chosen u (b .definition i) ≡ truth b i u
   unfolding chosen
-  chosen-mark u i m = pick-yes _ _ _ (isMark-mark i m) ∙ ap (λ j. truth b j u) (s .definer-is i m)
+  chosen-definition u i m = pick-yes _ _ _ (isDefinition-definition i m) ∙ ap (λ j. truth b j u) (s .definer-is i m)
 
   chosen-name : (u : Valuation) (i x : ℕ) → Member b i → mem x (b .names i) ≡ true → chosen u x ≡ onName u i x
   unfolding chosen
   chosen-name u i x m h =
-      pick-no _ _ _ (isMark-no x (name-no-mark i x m h))
+      pick-no _ _ _ (isDefinition-no x (name-no-definition i x m h))
       ∙ pick-yes _ _ _ (mem-flatMap (b .names) x i (b .members) m h)
       ∙ ap (λ j. onName u j x) (s .owner-is i x m h)
 
-  chosen-other : (u : Valuation) (z : ℕ) → NoName b z → NoMark b z → u z ≡ chosen u z
+  chosen-other : (u : Valuation) (z : ℕ) → NoName b z → NoDefinition b z → u z ≡ chosen u z
   unfolding chosen
-  chosen-other u z n d = sym (pick-no _ _ _ (isMark-no z d) ∙ pick-no _ _ _ (not-in (b .names) z (b .members) n))
+  chosen-other u z n d = sym (pick-no _ _ _ (isDefinition-no z d) ∙ pick-no _ _ _ (not-in (b .names) z (b .members) n))
 
   chosen-outside : (u : Valuation) → Outside (flatMap (lifted b) (b .members)) u (chosen u)
   chosen-outside u z h = chosen-other u z
-      (λ j m n. clash (mem-flatMap (lifted b) z j (b .members) m (mem-left z (b .names j) (b .mark j ∷ []) n)) h)
-      (λ j m e. clash (mem-flatMap (lifted b) z j (b .members) m (mem-right z (b .names j) (b .mark j ∷ []) (rw e (mem-head (b .mark j) [])))) h)
+      (λ j m n. clash (mem-flatMap (lifted b) z j (b .members) m (mem-left z (b .names j) (b .definition j ∷ []) n)) h)
+      (λ j m e. clash (mem-flatMap (lifted b) z j (b .members) m (mem-right z (b .names j) (b .definition j ∷ []) (rw e (mem-head (b .definition j) [])))) h)
 
   chosen-untouched : (u : Valuation) → Alike b u (chosen u)
-  chosen-untouched u z t = chosen-other u z (t .unbound .no-name) (t .no-mark)
+  chosen-untouched u z t = chosen-other u z (t .unbound .no-name) (t .no-definition)
 
   chosen-decided : (u : Valuation) (i : ℕ) → Member b i → Bool·beq (truth b i u) (decides (b .kind i)) ≡ true → Inside (b .names i) (chosen u) (attained i u)
   unfolding onName
@@ -335,7 +335,7 @@ module _ (b : Blocks) (s : Separate b) where
   chosen-agree : (u : Valuation) (i : ℕ) → Member b i → Bool·beq (truth b i u) (decides (b .kind i)) ≡ false → agree (chosen u) (b .names i) (b .copies i) ≡ true
   unfolding onName
   chosen-agree u i m d = agree-from (chosen u) i m
-      (λ x h. chosen-name u i x m h ∙ pick-no _ _ _ d ∙ chosen-other u (s .copy x) (copy-no-name i x m h) (copy-no-mark i x m h))
+      (λ x h. chosen-name u i x m h ∙ pick-no _ _ _ d ∙ chosen-other u (s .copy x) (copy-no-name i x m h) (copy-no-definition i x m h))
 
   chosen-holds : (u : Valuation) (i : ℕ) → Member b i → Is (Bool·beq (truth b i u) (decides (b .kind i)))
       → (Bool·beq (truth b i u) (b .body i (chosen u)) && guarded (b .kind i) (truth b i u) (agree (chosen u) (b .names i) (b .copies i))) ≡ true
@@ -349,7 +349,7 @@ module _ (b : Blocks) (s : Separate b) where
   chosen-constraint : (u : Valuation) → constraint b (chosen u) ≡ true
   unfolding holds
   chosen-constraint u = all-intro _ (b .members)
-      (λ i m. rw (chosen-mark u i m) (chosen-holds u i m (look (Bool·beq (truth b i u) (decides (b .kind i))))))
+      (λ i m. rw (chosen-definition u i m) (chosen-holds u i m (look (Bool·beq (truth b i u) (decides (b .kind i))))))
 
   module _ (k : Quantifier) (β : Valuation → Bool) (blind : Blind b β) where
     -- the matrix with the level's constraint, under the dual quantifier over names and definition variables
@@ -358,7 +358,7 @@ module _ (b : Blocks) (s : Separate b) where
 
     spread-joined : (v w : Valuation) → Outside (flatMap (lifted b) (b .members)) (spread v) w → β (settled b v) ≡ decides k → Is (constraint b w) → joined k (β w) (constraint b w) ≡ decides k
     spread-joined v w out e (is-true c) =
-        joined-true k (β w) _ c ∙ matrix-settled β blind v w (spread-untouched v w out) (spread-marks v w out c) ∙ e
+        joined-true k (β w) _ c ∙ matrix-settled β blind v w (spread-untouched v w out) (spread-definitions v w out c) ∙ e
     spread-joined v w out e (is-false c) = joined-false k (β w) _ c
 
     level-decided : (v : Valuation) → β (settled b v) ≡ decides k → quant k (flatMap (b .copies) (b .members)) inside v ≡ decides k
@@ -375,7 +375,7 @@ module _ (b : Blocks) (s : Separate b) where
         let u = r .0 in
         let h : Alike b v u = λ z t. r .1 z (not-in (b .copies) z (b .members) (t .unbound .no-copy)) in
         let same : β (chosen u) ≡ β (settled b v) =
-        matrix-settled β blind v (chosen u) (λ z t. h z t ∙ chosen-untouched u z t) (λ i m. chosen-mark u i m ∙ sym (truth-same i m v u h)) in
+        matrix-settled β blind v (chosen u) (λ z t. h z t ∙ chosen-untouched u z t) (λ i m. chosen-definition u i m ∙ sym (truth-same i m v u h)) in
         r .2
         ∙ quant-reach (dual k) (flatMap (lifted b) (b .members)) _ u (chosen u) (chosen-outside u)
         (joined-true k (β (chosen u)) _ (chosen-constraint u) ∙ same ∙ e ∙ sym (decides-dual k))

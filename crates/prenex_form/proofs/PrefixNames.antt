@@ -628,9 +628,9 @@ module _ (t : Table) where
   constraint-le i s h n =
       let c = count t i in
       let e = s + 4 * c in
-      let mark = variable (definitionVariable t i) in
+      let definition = variable (definitionVariable t i) in
       let es = upTo (equation t i (s + 2)) c in
-      let gs = mark ∷ operator (guard (quantifierAt (t .node i))) (e + 1) e ∷ operator and (s + 1) (e + 2) ∷ [] in
+      let gs = definition ∷ operator (guard (quantifierAt (t .node i))) (e + 1) e ∷ operator and (s + 1) (e + 2) ∷ [] in
       let d : definitionVariable t i ≤ lastName t = definition-le t i h n in
       let r : peak es ≤ lastName t = peak-upTo (equation t i (s + 2)) c (lastName t) (λ k l. equation-le i (s + 2) k h n l) in
       let a : peak (es ++ gs) ≤ lastName t = omega (arith, peak-append es gs) in

@@ -26,13 +26,13 @@ use Rattle.prenex_form.proofs.Paths.{body-named, parent-is, climb, path
 use Rattle.prenex_form.proofs.NameLaws.{variable-le, newName-free, newName-bound, newNames-above, newNames-le, copies-above, copies-le, definition-above, newNames-apart, copies-apart}
 
 -- the nodes of a cut: nothing but blocks is changed, a block to a definition variable or to a block with its new names
-cut-mark : (t : Table) (c i : ℕ) (nd : Node) → isBlock nd ≡ true → (inner t i && leb (level t i) c) ≡ true → cutNode t c i nd ≡ variable (definitionVariable t i)
+cut-definition : (t : Table) (c i : ℕ) (nd : Node) → isBlock nd ≡ true → (inner t i && leb (level t i) c) ≡ true → cutNode t c i nd ≡ variable (definitionVariable t i)
 unfolding cutNode isBlock
-cut-mark t c i (constant b) h e = clash h refl
-cut-mark t c i (variable x) h e = clash h refl
-cut-mark t c i (negation a) h e = clash h refl
-cut-mark t c i (operator f a b) h e = clash h refl
-cut-mark t c i (block q xs a) h e = pick-yes _ _ _ e
+cut-definition t c i (constant b) h e = clash h refl
+cut-definition t c i (variable x) h e = clash h refl
+cut-definition t c i (negation a) h e = clash h refl
+cut-definition t c i (operator f a b) h e = clash h refl
+cut-definition t c i (block q xs a) h e = pick-yes _ _ _ e
 
 cut-real : (t : Table) (c i : ℕ) (nd : Node) → isBlock nd ≡ true → (inner t i && leb (level t i) c) ≡ false
     → cutNode t c i nd ≡ block (quantifierAt nd) (newNames t i) (bodyOf nd)
@@ -86,11 +86,11 @@ module _ (t : Table) (tree : Tree t) where
   value-cut c i h v = value-node (cut t c) (cut-lower c) i h v
 
   -- the value of a block that is read as its definition variable, and of a real one
-  pub value-mark : (c i : ℕ) → i < t .size → inner t i ≡ true → level t i ≤ c → (v : Valuation) → valueAt t c i v ≡ v (definitionVariable t i)
+  pub value-definition : (c i : ℕ) → i < t .size → inner t i ≡ true → level t i ≤ c → (v : Valuation) → valueAt t c i v ≡ v (definitionVariable t i)
   unfolding nodeValue
-  value-mark c i h n l v =
+  value-definition c i h n l v =
       value-cut c i h v
-      ∙ ap (λ nd. nodeValue (valueAt t c) nd v) (cut-mark t c i (t .node i) (inner-block t i n) (and-both _ _ n (le-leb (level t i) c l)))
+      ∙ ap (λ nd. nodeValue (valueAt t c) nd v) (cut-definition t c i (t .node i) (inner-block t i n) (and-both _ _ n (le-leb (level t i) c l)))
 
   pub value-real : (c i : ℕ) → i < t .size → isBlock (t .node i) ≡ true → (inner t i && leb (level t i) c) ≡ false → (v : Valuation)
       → valueAt t c i v ≡ quant (quantifierAt (t .node i)) (newNames t i) (valueAt t c (bodyOf (t .node i))) v
@@ -135,7 +135,7 @@ through xs v u v' u' same ov ou x e = go (look (mem x xs))
 record Same (t : Table) (c i : ℕ) (v u : Valuation) : Type 0 where
   numbers : (x : ℕ) → x ≤ highestNumber t → v x ≡ u x
   bounds : (b x : ℕ) → b < t .size → isBlock (t .node b) ≡ true → above t b i ≡ true → mem x (newNames t b) ≡ true → v x ≡ u x
-  marks : (b : ℕ) → b < t .size → inner t b ≡ true → level t b ≤ c → mem i (path t b) ≡ true → v (definitionVariable t b) ≡ u (definitionVariable t b)
+  definitions : (b : ℕ) → b < t .size → inner t b ≡ true → level t b ≤ c → mem i (path t b) ≡ true → v (definitionVariable t b) ≡ u (definitionVariable t b)
 
 module _ (t : Table) (tree : Tree t) where
   -- a path through a node goes on through its parent
@@ -177,7 +177,7 @@ module _ (t : Table) (tree : Tree t) where
             operand-above b a i h k p
             (λ q. own (subst (λ j. isBlock (t .node j) ≡ true) q e) x (subst (λ j. mem x (newNames t j) ≡ true) q m))
             (λ q. keeps x (s .bounds b x l e q m));
-        marks = λ b l n e p. keeps (definitionVariable t b) (s .marks b l n e (path-up a i h k b l p));
+        definitions = λ b l n e p. keeps (definitionVariable t b) (s .definitions b l n e (path-up a i h k b l p));
       }
 
   binder-le : (i x : ℕ) → binder t i x ≤ t .size
@@ -209,7 +209,7 @@ module _ (t : Table) (tree : Tree t) where
       go (is-true e) =
           let n = and-left (inner t i) _ e in
           let l = leb-true (level t i) c (and-right (inner t i) _ e) in
-          value-mark t tree c i h n l v ∙ s .marks i h n l (path-self t tree i h) ∙ sym (value-mark t tree c i h n l u)
+          value-definition t tree c i h n l v ∙ s .definitions i h n l (path-self t tree i h) ∙ sym (value-definition t tree c i h n l u)
       go (is-false e) =
           value-real t tree c i h b e v
           ∙ quant-same (quantifierAt (t .node i)) (newNames t i) _ _ v u
@@ -230,8 +230,8 @@ module _ (t : Table) (tree : Tree t) where
       → ((b x : ℕ) → b < t .size → above t b i ≡ true → mem x (newNames t b) ≡ true → v x ≡ u x)
       → ((b : ℕ) → b < t .size → inner t b ≡ true → level t b ≤ c → mem i (path t b) ≡ true → v (definitionVariable t b) ≡ u (definitionVariable t b))
       → valueAt t c i v ≡ valueAt t c i u
-  seen c i h v u numbers bounds marks =
-      same-value c i h v u (record { numbers = numbers; bounds = λ b x l e p m. bounds b x l p m; marks = marks })
+  seen c i h v u numbers bounds definitions =
+      same-value c i h v u (record { numbers = numbers; bounds = λ b x l e p m. bounds b x l p m; definitions = definitions })
 
 -- Congruence of the parts of a matrix.
 all-cong : (p r : ℕ → Bool) (xs : List ℕ) → ((x : ℕ) → mem x xs ≡ true → p x ≡ r x) → all p xs ≡ all r xs
@@ -362,8 +362,8 @@ module _ (t : Table) (tree : Tree t) where
         (λ k n p. omega (arith, newNames-le t k x (blocksAt-lt t tree (suc j) k n) p, copies-above t b x m))
         (λ k. level-copies-apart (suc j) b k x l i m)
 
-    blind-mark : (b : ℕ) → v (definitionVariable t b) ≡ u (definitionVariable t b)
-    blind-mark b =
+    blind-definition : (b : ℕ) → v (definitionVariable t b) ≡ u (definitionVariable t b)
+    blind-definition b =
         same (definitionVariable t b)
         (λ k n p. omega (arith, newNames-le t k _ (blocksAt-lt t tree (suc j) k n) p, definition-above t b))
         (λ k n p. omega (arith, copies-le t k _ (blocksAt-lt t tree (suc j) k n) (blocksAt-inner t tree (suc j) k n) p, definition-above t b))
@@ -373,7 +373,7 @@ module _ (t : Table) (tree : Tree t) where
         seen t tree (suc j) i h v u
         (λ x l. same x (λ k n p. omega (arith, newNames-above t k x p)) (λ k n p. omega (arith, copies-above t k x p)))
         (λ b x l p m. blind-bound b x l (omega (arith, shallow b p)) m)
-        (λ b l n e p. blind-mark b)
+        (λ b l n e p. blind-definition b)
 
     blind-block : (l k : ℕ) → l < j → mem k (blocksAt t (suc l)) ≡ true → blockHolds t (suc j) v k ≡ blockHolds t (suc j) u k
     blind-block l k h m =
@@ -381,7 +381,7 @@ module _ (t : Table) (tree : Tree t) where
         let n = blocksAt-inner t tree (suc l) k m in
         let e = blocksAt-level t tree (suc l) k m in
         let a = tree .lower k (bodyOf (t .node k)) s (body-named (t .node k) (inner-block t k n)) in
-        holds-cong t (suc j) (suc j) v u k (blind-mark k)
+        holds-cong t (suc j) (suc j) v u k (blind-definition k)
         (blind-value (bodyOf (t .node k)) (omega arith) (λ b p. omega (arith, body-above b k s n p)))
         (λ x p. blind-bound k x s (omega arith) p)
         (λ x p. blind-copy k x (omega arith) n p)

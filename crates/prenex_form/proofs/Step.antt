@@ -19,7 +19,7 @@ use Rattle.prenex_form.specs.Matrix.{kept, bodyOf}
 use Rattle.prenex_form.proofs.Cut.{valueAt, blockHolds, matrixAt}
 use Rattle.prenex_form.proofs.Paths.{body-named, inner-is, parent-is, level-root, level-step, mem-blocksAt, blocksAt-lt, blocksAt-inner, blocksAt-level}
 use Rattle.prenex_form.proofs.NameLaws.{newNames-le, copies-le, definition-above, definition-apart}
-use Rattle.prenex_form.proofs.Seen.{inner-block, value-mark, value-real, along, name-cases, kept-cases, holds-cong, matrix-cong}
+use Rattle.prenex_form.proofs.Seen.{inner-block, value-definition, value-real, along, name-cases, kept-cases, holds-cong, matrix-cong}
 
 -- an inner block deeper than the cut is real, and so is one that is not inner
 real : (n : Bool) (l c : ℕ) → pick n 1 0 + c ≤ l → (n && leb l c) ≡ false
@@ -57,11 +57,11 @@ module _ (t : Table) (tree : Tree t) where
 
   -- The valuation u differs from v at most at the definition variables of level j + 1, to which it gives the blocks' values.
   module _ (j : ℕ) (v u : Valuation)
-      (marks : (z : ℕ) → ((k : ℕ) → mem k (blocksAt t (suc j)) ≡ true → z ≡ definitionVariable t k → ⊥) → u z ≡ v z)
+      (definitions : (z : ℕ) → ((k : ℕ) → mem k (blocksAt t (suc j)) ≡ true → z ≡ definitionVariable t k → ⊥) → u z ≡ v z)
       (values : (k : ℕ) → mem k (blocksAt t (suc j)) ≡ true
       → u (definitionVariable t k) ≡ quant (quantifierAt (t .node k)) (newNames t k) (valueAt t (suc j) (bodyOf (t .node k))) v) where
     low-same : (z : ℕ) → ((k : ℕ) → z < definitionVariable t k) → v z ≡ u z
-    low-same z l = sym (marks z (λ k m e. omega (arith, l k)))
+    low-same z l = sym (definitions z (λ k m e. omega (arith, l k)))
 
     bound-same : (b z : ℕ) → b < t .size → mem z (newNames t b) ≡ true → v z ≡ u z
     bound-same b z h m = low-same z (λ k. omega (arith, newNames-le t b z h m, definition-above t k))
@@ -69,9 +69,9 @@ module _ (t : Table) (tree : Tree t) where
     copy-same : (b z : ℕ) → b < t .size → inner t b ≡ true → mem z (copies t b) ≡ true → v z ≡ u z
     copy-same b z h n m = low-same z (λ k. omega (arith, copies-le t b z h n m, definition-above t k))
 
-    mark-same : (b : ℕ) → inner t b ≡ true → level t b ≤ j → v (definitionVariable t b) ≡ u (definitionVariable t b)
-    mark-same b n l =
-        sym (marks (definitionVariable t b)
+    definition-same : (b : ℕ) → inner t b ≡ true → level t b ≤ j → v (definitionVariable t b) ≡ u (definitionVariable t b)
+    definition-same b n l =
+        sym (definitions (definitionVariable t b)
         (λ k m e. omega (arith, ap (level t) (definition-apart t b k n (blocksAt-inner t tree (suc j) k m) e), blocksAt-level t tree (suc j) k m)))
 
     name-same : (i x : ℕ) → i < t .size → t .node i ≡ variable x → v (newName t i x) ≡ u (newName t i x)
@@ -87,7 +87,7 @@ module _ (t : Table) (tree : Tree t) where
         go : Is (leb (level t i) j) → valueAt t j i v ≡ valueAt t (suc j) i u
         go (is-true e) =
             let k = leb-true (level t i) j e in
-            value-mark t tree j i h n k v ∙ mark-same i n k ∙ sym (value-mark t tree (suc j) i h n l u)
+            value-definition t tree j i h n k v ∙ definition-same i n k ∙ sym (value-definition t tree (suc j) i h n l u)
         go (is-false e) =
             let k = leb-false (level t i) j e in
             let b = inner-block t i n in
@@ -98,7 +98,7 @@ module _ (t : Table) (tree : Tree t) where
             ∙ quant-cong (quantifierAt (t .node i)) (newNames t i) (valueAt t j (bodyOf (t .node i))) (valueAt t (suc j) (bodyOf (t .node i))) v
             (deeper-same j (bodyOf (t .node i)) (omega arith) (omega (arith, operand-level i (bodyOf (t .node i)) h o)))
             ∙ sym (values i (mem-blocksAt t tree (suc j) i h n (omega arith)))
-            ∙ sym (value-mark t tree (suc j) i h n l u)
+            ∙ sym (value-definition t tree (suc j) i h n l u)
 
     -- A node that is not a root block, with at most j inner blocks above it, has the same value one cut deeper.
     pub value-step : (i : ℕ) → i < t .size → (isBlock (t .node i) ≡ true → inner t i ≡ true) → level t i ≤ pick (inner t i) 1 0 + j
@@ -131,7 +131,7 @@ module _ (t : Table) (tree : Tree t) where
         let s = blocksAt-lt t tree (suc l) k m in
         let n = blocksAt-inner t tree (suc l) k m in
         let e = blocksAt-level t tree (suc l) k m in
-        holds-cong t j (suc j) v u k (mark-same k n (omega arith))
+        holds-cong t j (suc j) v u k (definition-same k n (omega arith))
         (operand-step k (bodyOf (t .node k)) s (body-named (t .node k) (inner-block t k n)) (omega arith))
         (λ x p. bound-same k x s p)
         (λ x p. copy-same k x s n p)

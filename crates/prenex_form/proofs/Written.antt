@@ -126,7 +126,7 @@ pub constraint-bare : (t : Table) (i s : ℕ) → count t i ≡ 0
 unfolding constraint pick
 constraint-bare t i s e = rw e
 
--- the mark again, operator 14 or 11 of it and the equations, which end at index e, and operator 8 of the two steps
+-- the definition variable again, operator 14 or 11 of it and the equations, which end at index e, and operator 8 of the two steps
 unfoldable pub closing : Table → ℕ → ℕ → ℕ → List Node
 closing t i s e = variable (definitionVariable t i) ∷ operator (guard (quantifierAt (t .node i))) (e + 1) e ∷ operator and s (e + 2) ∷ []
 
@@ -179,12 +179,12 @@ unfolding holds
 holds-bare q xs ys m f v h = rw (agree-none v xs ys h, guarded-true q (v m)) (and-true (Bool·beq (v m) (f v)))
 
 module _ (t : Table) (ms : List Node) (v : Valuation) (c : ℕ) where
-  -- the mark, and operator 9 of it and the body
-  mark-value : (i s : ℕ) → Placed ms s (variable (definitionVariable t i) ∷ operator iff s (bodyOf (t .node i)) ∷ [])
+  -- the definition variable, and operator 9 of it and the body
+  definition-value : (i s : ℕ) → Placed ms s (variable (definitionVariable t i) ∷ operator iff s (bodyOf (t .node i)) ∷ [])
       → bodyOf (t .node i) < s
       → Val ms v (bodyOf (t .node i)) (valueAt t c (bodyOf (t .node i)) v)
       → Val ms v (s + 1) (Bool·beq (v (definitionVariable t i)) (valueAt t c (bodyOf (t .node i)) v))
-  mark-value i s p h b =
+  definition-value i s p h b =
       let part = variable (definitionVariable t i) ∷ operator iff s (bodyOf (t .node i)) ∷ [] in
       let m = val-variable ms v s (definitionVariable t i) (placed-at ms s part p 0 s (omega arith) (omega arith)) in
       equal-values t ms v (s + 1) s (bodyOf (t .node i)) _ _ (placed-at ms s part p 1 (s + 1) (omega arith) (omega arith)) (omega arith)
@@ -198,7 +198,7 @@ module _ (t : Table) (ms : List Node) (v : Valuation) (c : ℕ) where
       val-is ms v (s + 1) (s + length (constraint t i s) - 1) _ _ (omega (arith, length-constraint-bare t i s e))
       (sym (holds-bare (quantifierAt (t .node i)) (newNames t i) (copies t i) _ (valueAt t c (bodyOf (t .node i))) v
       (length-newNames t i ∙ e)))
-      (mark-value i s (rw (constraint-bare t i s e) at p) h b)
+      (definition-value i s (rw (constraint-bare t i s e) at p) h b)
 
   closing-value : (i s e : ℕ) (a b : Bool) → Placed ms (e + 1) (closing t i s e) → s < e → Val ms v s a → Val ms v e b
       → Val ms v (e + 3) (a && guarded (quantifierAt (t .node i)) (v (definitionVariable t i)) b)
@@ -235,7 +235,7 @@ module _ (t : Table) (ms : List Node) (v : Valuation) (c : ℕ) where
       let q : Placed ms (s + 2) (es ++ end) = placed-right ms s first (es ++ end) p in
       let r : Placed ms (s + 2 + length es) end = placed-right ms (s + 2) es end q in
       let l : s + 2 + length es ≡ s + 4 * suc n + 1 = omega (arith, length-equations t i (s + 2) n) in
-      let a = mark-value i s (placed-left ms s first (es ++ end) p) h b in
+      let a = definition-value i s (placed-left ms s first (es ++ end) p) h b in
       let d = equations-whole i s n e (placed-left ms (s + 2) es end q) in
       val-is ms v (s + 4 * suc n + 3) (s + length (constraint t i s) - 1) _ _ (omega (arith, length-constraint-full t i s n e)) refl
       (closing-value i (s + 1) (s + 4 * suc n) _ _ (rw l at r) (omega arith) a d)

@@ -1,7 +1,7 @@
 -- What the pass from the root down counts, step by step, and how large the counts can be.
 -- Assumes nothing.
 use mathlib.Core.Path.{_≡_, refl, sym, _∙_, subst}
-use mathlib.Core.Bool.{Bool, true, false, _||_}
+use mathlib.Core.Bool.{Bool, true, false}
 use mathlib.Core.List.{List}
 use Prim.Native.Nat.{ℕ, zero, suc, _+_, _*_, _<_, _≤_, max}
 use native.Mathlib.Numerals.{add-one}
@@ -14,9 +14,9 @@ use Rattle.lists.specs.Parts.{sum}
 use Rattle.lists.proofs.Parts.{sum-mono, highest-ge, highest-le}
 use Rattle.formula.specs.Node.{Node, constant, variable, negation, operator, block, Table, isBlock, bound}
 use Rattle.formula.specs.declared.NodeWords.{NodeWords}
-use Rattle.formula.specs.Words.{nodeCount, field, nodeAt, tableOf}
+use Rattle.formula.specs.Words.{nodeCount, nodeAt, tableOf}
 use Rattle.formula.specs.Tree.{Tree, count, boundBelow}
-use Rattle.table_check.specs.Verdict.{limit, isBlockKind, countAt, verdict, accepted}
+use Rattle.table_check.specs.Verdict.{limit, countAt, verdict, accepted}
 use Rattle.table_check.proofs.Accepted.{accepted-holds, count-at}
 use Rattle.prenex_form.specs.Scope.{parent, inner, level}
 use Rattle.prenex_form.specs.Levels.{levels}
@@ -26,11 +26,11 @@ use Rattle.prenex_form.specs.Sizes.{addedBy}
 use Rattle.prenex_form.proofs.Paths.{parent-lt, parent-higher, level-root, level-step}
 use Rattle.scopes.specs.declared.Counts.{Counts}
 use Rattle.scopes.specs.Passes.{withRoot, withInner, Small, CountsFrom, BlockCounts}
-use Rattle.scopes.proofs.Nodes.{accepted-tree, nodes-few, ReadAt, block-read}
+use Rattle.scopes.proofs.Nodes.{accepted-tree, nodes-few, ReadAt, kind-read}
 use Rattle.scopes.proofs.Scopes.{outer-plain, outer-root, inner-rest}
 
 -- only blocks bind variables
-bound-none : (n : Node) → isBlock n ≡ false → length (bound n) ≡ 0
+pub bound-none : (n : Node) → isBlock n ≡ false → length (bound n) ≡ 0
 unfolding isBlock bound
 bound-none (constant b) h = refl
 bound-none (variable x) h = refl
@@ -118,7 +118,7 @@ module _ (t : Table) where
       }
 
   -- what holds of node i and of those above it
-  from-here : (P : ℕ → Type 0) (i : ℕ) → P i → ((x : ℕ) → suc i ≤ x → x < t .size → P x) → (x : ℕ) → i ≤ x → x < t .size → P x
+  pub from-here : (P : ℕ → Type 0) (i : ℕ) → P i → ((x : ℕ) → suc i ≤ x → x < t .size → P x) → (x : ℕ) → i ≤ x → x < t .size → P x
   from-here P i p q x k l = go (look (eqb x i))
     where
       go : Is (eqb x i) → P x
@@ -183,11 +183,9 @@ module _ (t : Table) where
 
 -- The same of an accepted table.
 module _ (ws ls : List ℕ) (ok : verdict ws ls ≡ accepted) (i : ℕ) (h : i < nodeCount ws) where
-  count-read : (w : NodeWords) → ReadAt ws i w → isBlock (nodeAt ws ls i) ≡ true → w .b ≡ count (tableOf ws ls) i
-  unfolding countAt isBlockKind
-  count-read w r e =
-      let k : (eqb (field ws i 0) 5 || eqb (field ws i 0) 6) ≡ true = rw (r .0) at (block-read ws ls i w r ∙ e) in
-      r .2 ∙ sym (count-at ws ls i (λ b. accepted-holds ws ls ok .fits i h b) ∙ pick-yes _ _ _ k)
+  pub count-read : (w : NodeWords) → ReadAt ws i w → isBlock (nodeAt ws ls i) ≡ true → w .b ≡ count (tableOf ws ls) i
+  unfolding countAt
+  count-read w r e = r .2 ∙ sym (count-at ws ls i (λ b. accepted-holds ws ls ok .fits i h b) ∙ pick-yes _ _ _ (kind-read ws ls i w r e))
 
   module _ (c : Counts) (s : CountsFrom (tableOf ws ls) (i + 1) c) where
     pub plain-counted : isBlock (nodeAt ws ls i) ≡ false → CountsFrom (tableOf ws ls) i c

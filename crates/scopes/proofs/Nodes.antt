@@ -1,6 +1,6 @@
--- Blocks and operands of a table, from the words of its nodes.
+-- Blocks, operands, members and numbers of a table, from the words of its nodes.
 -- Assumes nothing.
-use mathlib.Core.Path.{_≡_, sym, _∙_, ap}
+use mathlib.Core.Path.{_≡_, refl, sym, _∙_, ap}
 use mathlib.Core.Bool.{true, false, _||_}
 use mathlib.Core.List.{List, [], _∷_}
 use Prim.Native.Nat.{ℕ, _<_, _≤_}
@@ -8,13 +8,15 @@ use native.Mathlib.Omega.{arith}
 use lib.Dec.{eqb}
 use Rattle.lists.specs.Choice.{pick, clash}
 use Rattle.lists.specs.Members.{mem}
-use Rattle.formula.specs.Node.{operands, isBlock}
+use Rattle.formula.specs.Node.{Node, constant, variable, negation, operator, block, operands, isBlock}
 use Rattle.formula.specs.declared.NodeWords.{NodeWords}
-use Rattle.formula.specs.Words.{nodeCount, field, nodeOf, nodeAt, tableOf}
+use Rattle.formula.specs.Words.{nodeCount, field, range, nodeOf, nodeAt, tableOf}
 use Rattle.formula.specs.Tree.{Tree}
-use Rattle.formula.proofs.Nodes.{Kind, kind-of, kind-constant, kind-variable, kind-negation, kind-operator, kind-exists, kind-for-all, kind-none}
-use Rattle.table_check.specs.Verdict.{limit, verdict, accepted}
+use Rattle.formula.proofs.Nodes.{Kind, kind-of, kind-constant, kind-variable, kind-negation, kind-operator, kind-exists, kind-for-all, kind-none, node-variable}
+use Rattle.table_check.specs.Verdict.{limit, isBlockKind, verdict, accepted}
 use Rattle.table_check.proofs.Accepted.{accepted-holds}
+use Rattle.prenex_form.specs.Names.{maximum, highestAt}
+use Rattle.arrays.specs.Held.{isMember}
 
 block-by : (ls : List ℕ) (kind a b c : ℕ) → Kind kind → isBlock (nodeOf ls kind a b c) ≡ (eqb kind 5 || eqb kind 6)
 unfolding nodeOf pick isBlock
@@ -47,6 +49,43 @@ none-by ls kind a b c (kind-exists e) n m h = clash (rw e) h
 none-by ls kind a b c (kind-for-all e) n m h = clash (rw e) h
 none-by ls kind a b c (kind-none e1 e2 e3 e4 e5 e6) n m h = rw (e1, e2, e3, e4, e5, e6)
 
+plain-by : (ls : List ℕ) (kind a b c : ℕ) → Kind kind → (kind ≡ 2 → ⊥) → isBlock (nodeOf ls kind a b c) ≡ false → isMember (nodeOf ls kind a b c) ≡ false
+unfolding nodeOf pick isBlock isMember
+plain-by ls kind a b c (kind-constant e) n h = rw e
+plain-by ls kind a b c (kind-variable e) n h = absurd (n e)
+plain-by ls kind a b c (kind-negation e) n h = rw e
+plain-by ls kind a b c (kind-operator e) n h = rw e
+plain-by ls kind a b c (kind-exists e) n h = clash (rw e) h
+plain-by ls kind a b c (kind-for-all e) n h = clash (rw e) h
+plain-by ls kind a b c (kind-none e1 e2 e3 e4 e5 e6) n h = rw (e1, e2, e3, e4, e5, e6)
+
+highest-by : (ls : List ℕ) (kind a b c : ℕ) → Kind kind → isBlock (nodeOf ls kind a b c) ≡ true → highestAt (nodeOf ls kind a b c) ≡ maximum (range ls a b)
+unfolding nodeOf pick isBlock highestAt
+highest-by ls kind a b c (kind-constant e) h = clash h (rw e)
+highest-by ls kind a b c (kind-variable e) h = clash h (rw e)
+highest-by ls kind a b c (kind-negation e) h = clash h (rw e)
+highest-by ls kind a b c (kind-operator e) h = clash h (rw e)
+highest-by ls kind a b c (kind-exists e) h = rw e
+highest-by ls kind a b c (kind-for-all e) h = rw e
+highest-by ls kind a b c (kind-none e1 e2 e3 e4 e5 e6) h = clash h (rw (e1, e2, e3, e4, e5, e6))
+
+-- blocks are members, and only members have numbers
+pub block-member : (nd : Node) → isBlock nd ≡ true → isMember nd ≡ true
+unfolding isBlock isMember
+block-member (constant b) h = h
+block-member (variable x) h = refl
+block-member (negation a) h = h
+block-member (operator f a b) h = h
+block-member (block q xs a) h = refl
+
+pub plain-highest : (nd : Node) → isMember nd ≡ false → highestAt nd ≡ 0
+unfolding isMember highestAt
+plain-highest (constant b) h = refl
+plain-highest (variable x) h = clash refl h
+plain-highest (negation a) h = refl
+plain-highest (operator f a b) h = refl
+plain-highest (block q xs a) h = clash refl h
+
 -- the words that reading node i gives
 abbrev pub ReadAt : List ℕ → ℕ → NodeWords → Type 0
 ReadAt ws i n = (n .kind ≡ field ws i 0) × (n .a ≡ field ws i 1) × (n .b ≡ field ws i 2) × (n .c ≡ field ws i 3)
@@ -55,6 +94,10 @@ module _ (ws ls : List ℕ) (i : ℕ) (n : NodeWords) (r : ReadAt ws i n) where
   pub block-read : (eqb (n .kind) 5 || eqb (n .kind) 6) ≡ isBlock (nodeAt ws ls i)
   unfolding nodeAt
   block-read = rw (r .0) (sym (block-by ls (field ws i 0) (field ws i 1) (field ws i 2) (field ws i 3) (kind-of (field ws i 0))))
+
+  pub kind-read : isBlock (nodeAt ws ls i) ≡ true → isBlockKind (field ws i 0) ≡ true
+  unfolding isBlockKind
+  kind-read e = rw (r .0) at (block-read ∙ e)
 
   -- a kind that is no block's
   pub plain-read : (k : ℕ) → n .kind ≡ k → (eqb k 5 || eqb k 6) ≡ false → isBlock (nodeAt ws ls i) ≡ false
@@ -76,6 +119,21 @@ module _ (ws ls : List ℕ) (i : ℕ) (n : NodeWords) (r : ReadAt ws i n) where
   unfolding nodeAt
   none-read p q h =
       none-by ls (field ws i 0) (field ws i 1) (field ws i 2) (field ws i 3) (kind-of (field ws i 0)) (λ e. p (r .0 ∙ e)) (λ e. q (r .0 ∙ e)) h
+
+  pub variable-read : n .kind ≡ 2 → nodeAt ws ls i ≡ variable (n .a)
+  variable-read k = node-variable ws ls i (sym (r .0) ∙ k) ∙ ap variable (sym (r .1))
+
+  pub variable-member : n .kind ≡ 2 → isMember (nodeAt ws ls i) ≡ true
+  unfolding isMember
+  variable-member k = rw (variable-read k)
+
+  pub plain-member : (n .kind ≡ 2 → ⊥) → isBlock (nodeAt ws ls i) ≡ false → isMember (nodeAt ws ls i) ≡ false
+  unfolding nodeAt
+  plain-member p e = plain-by ls (field ws i 0) (field ws i 1) (field ws i 2) (field ws i 3) (kind-of (field ws i 0)) (λ k. p (r .0 ∙ k)) e
+
+  pub block-highest : isBlock (nodeAt ws ls i) ≡ true → highestAt (nodeAt ws ls i) ≡ maximum (range ls (n .a) (n .b))
+  unfolding nodeAt
+  block-highest e = rw (r .1, r .2) (highest-by ls (field ws i 0) (field ws i 1) (field ws i 2) (field ws i 3) (kind-of (field ws i 0)) e)
 
 module _ (ws ls : List ℕ) (ok : verdict ws ls ≡ accepted) where
   pub accepted-tree : Tree (tableOf ws ls)

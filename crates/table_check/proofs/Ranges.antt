@@ -3,31 +3,26 @@
 use mathlib.Core.Path.{_≡_, refl, sym, _∙_, ap, subst}
 use mathlib.Core.Bool.{Bool, true, false, not, _&&_, _||_, and-true, and-false, and-assoc}
 use mathlib.Core.List.{List, [], _∷_, _++_}
-use Prim.Native.Nat.{ℕ, zero, suc, _+_, _-_, _≤_, _<_}
+use Prim.Native.Nat.{ℕ, zero, suc, _+_, _≤_, _<_}
+use native.Mathlib.Numerals.{add-one}
 use native.Mathlib.Omega.{arith}
 use lib.Dec.{eqb, ltb}
-use lib.ListN.{length, getD, set, take, drop, length-take, length-drop}
-use lib.Seq.{take-suc, take-suc-set, getD-take, getD-drop, drop-set-add}
+use lib.ListN.{length, getD, take, drop, length-take, length-drop}
+use lib.Seq.{take-suc, getD-take, getD-drop}
 use borrow.Author.Tests.{eqb-true, eqb-false, eq-eqb, ne-eqb, ltb-true, ltb-false}
-use Rattle.lists.specs.Choice.{Is, is-true, is-false, look}
+use Rattle.lists.specs.Choice.{Is, is-true, is-false, look, and-both}
 use Rattle.lists.specs.Members.{mem, all, distinct, place}
 use Rattle.lists.proofs.Members.{mem-append, mem-one, mem-getD, place-lt, getD-place}
 use Rattle.formula.specs.Words.{range}
 use Rattle.table_check.specs.Verdict.{isNumber}
-use Rattle.table_check.specs.Steps.{goodRange, stands}
+use Rattle.table_check.specs.Steps.{goodRange, isNew}
 
 -- one entry more
-pub range-suc : (ls : List ℕ) (first k : ℕ) → first + k < length ls → range ls first (suc k) ≡ range ls first k ++ (getD ls (first + k) 0 ∷ [])
+range-suc : (ls : List ℕ) (first k : ℕ) → first + k < length ls → range ls first (suc k) ≡ range ls first k ++ (getD ls (first + k) 0 ∷ [])
 unfolding range
 range-suc ls first k h =
     let l : k < length (drop first ls) = simp length-drop (omega arith) in
     take-suc (drop first ls) k 0 l ∙ rw getD-drop
-
-pub range-set : (l : List ℕ) (first k x : ℕ) → first + k < length l → range (set l (first + k) x) first (suc k) ≡ range l first k ++ (x ∷ [])
-unfolding range
-range-set l first k x h =
-    let w : k < length (drop first l) = simp length-drop (omega arith) in
-    ap (λ d. take (suc k) d) (drop-set-add first l k x) ∙ take-suc-set (drop first l) k x w
 
 all-snoc : (p : ℕ → Bool) (xs : List ℕ) (x : ℕ) → all p (xs ++ (x ∷ [])) ≡ (all p xs && p x)
 unfolding all
@@ -62,15 +57,11 @@ and-cross true false true m = refl
 and-cross true false false m = refl
 and-cross false n d m = refl
 
--- the entry after the first k is a variable number, and none of these
-abbrev pub fresh : List ℕ → ℕ → ℕ → Bool
-fresh ls first k = isNumber (getD ls (first + k) 0) && not (mem (getD ls (first + k) 0) (range ls first k))
-
 pub good-none : (ls : List ℕ) (first : ℕ) → goodRange ls first 0 ≡ true
 unfolding goodRange range all distinct
 good-none ls first = refl
 
-pub good-suc : (ls : List ℕ) (first k : ℕ) → first + k < length ls → goodRange ls first (suc k) ≡ (goodRange ls first k && fresh ls first k)
+good-suc : (ls : List ℕ) (first k : ℕ) → first + k < length ls → goodRange ls first (suc k) ≡ (goodRange ls first k && isNew ls first k)
 unfolding goodRange
 good-suc ls first k h =
     let x : ℕ = getD ls (first + k) 0 in
@@ -78,24 +69,28 @@ good-suc ls first k h =
     ap (λ l. all isNumber l && distinct l) (range-suc ls first k h)
     ∙ rw (all-snoc isNumber xs x, distinct-snoc xs x) (and-cross (all isNumber xs) (isNumber x) (distinct xs) (not (mem x xs)))
 
--- an entry that is not fresh spoils every range that holds it
-pub good-fails : (ls : List ℕ) (first k count : ℕ) → k < count → first + count ≤ length ls → fresh ls first k ≡ false → goodRange ls first count ≡ false
+-- a new entry keeps a range good
+pub good-more : (ls : List ℕ) (first k : ℕ) → first + k < length ls → goodRange ls first k ≡ true → isNew ls first k ≡ true → goodRange ls first (k + 1) ≡ true
+good-more ls first k h g n = rw (add-one k, good-suc ls first k h) (and-both (goodRange ls first k) (isNew ls first k) g n)
+
+-- an entry that is not new spoils every range that holds it
+pub good-fails : (ls : List ℕ) (first k count : ℕ) → k < count → first + count ≤ length ls → isNew ls first k ≡ false → goodRange ls first count ≡ false
 good-fails ls first k zero h l f = absurd (omega arith)
 good-fails ls first k (suc count) h l f =
     good-suc ls first count (omega arith) ∙ go (look (ltb k count)) (good-fails ls first k count)
   where
-    go : Is (ltb k count) → (k < count → first + count ≤ length ls → fresh ls first k ≡ false → goodRange ls first count ≡ false)
-        → (goodRange ls first count && fresh ls first count) ≡ false
+    go : Is (ltb k count) → (k < count → first + count ≤ length ls → isNew ls first k ≡ false → goodRange ls first count ≡ false)
+        → (goodRange ls first count && isNew ls first count) ≡ false
     go (is-true t) before =
         let e : goodRange ls first count ≡ false = before (ltb-true k count t) (omega arith) f in rw e
     go (is-false t) before =
         let m : count ≤ k = ltb-false k count t in
         let e : k ≡ count = omega arith in
-        let g : fresh ls first count ≡ false = subst (λ j. fresh ls first j ≡ false) e f in
+        let g : isNew ls first count ≡ false = subst (λ j. isNew ls first j ≡ false) e f in
         rw g (and-false (goodRange ls first count))
 
 -- a number at a place of a range stands in it, ..
-range-has : (l : List ℕ) (a n x j : ℕ) → a + n ≤ length l → j < n → getD l (a + j) 0 ≡ x → mem x (range l a n) ≡ true
+pub range-has : (l : List ℕ) (a n x j : ℕ) → a + n ≤ length l → j < n → getD l (a + j) 0 ≡ x → mem x (range l a n) ≡ true
 unfolding range
 range-has l a n x j fits h e =
     let w : j < length (take n (drop a l)) = simp (length-take, length-drop) (omega arith) in
@@ -104,7 +99,7 @@ range-has l a n x j fits h e =
     rw g at m
 
 -- .. and one that stands in it has a place
-range-from : (l : List ℕ) (a n x : ℕ) → mem x (range l a n) ≡ true → (j : ℕ) × (j < n) × (getD l (a + j) 0 ≡ x)
+pub range-from : (l : List ℕ) (a n x : ℕ) → mem x (range l a n) ≡ true → (j : ℕ) × (j < n) × (getD l (a + j) 0 ≡ x)
 unfolding range
 range-from l a n x m =
     let j : ℕ = place x (take n (drop a l)) in
@@ -112,19 +107,9 @@ range-from l a n x m =
     let w : j < n = omega (arith, length-take n (drop a l)) in
     (j, w, sym (getD-drop a l j 0) ∙ sym (getD-take n (drop a l) j 0 w) ∙ getD-place x (take n (drop a l)) 0 m)
 
--- the same of the entries from `before` on and below e
-pub stands-has : (l : List ℕ) (before e x k : ℕ) → e ≤ length l → before ≤ k → k < e → getD l k 0 ≡ x → stands l before e x ≡ true
-stands-has l before e x k w a b q =
-    let s : before + (k - before) ≡ k = omega arith in
-    range-has l before (e - before) x (k - before) (omega arith) (omega arith) (ap (λ j. getD l j 0) s ∙ q)
-
-pub stands-from : (l : List ℕ) (before e x : ℕ) → stands l before e x ≡ true → (k : ℕ) × (before ≤ k) × (k < e) × (getD l k 0 ≡ x)
-stands-from l before e x t =
-    let j = range-from l before (e - before) x t in (before + j .0, omega arith, omega (arith, j .1), j .2)
-
-pub stands-not : (l : List ℕ) (before e x : ℕ) → ((k : ℕ) → before ≤ k → k < e → getD l k 0 ≡ x → ⊥) → stands l before e x ≡ false
-stands-not l before e x none = go (look (stands l before e x))
+pub range-not : (l : List ℕ) (a n x : ℕ) → ((j : ℕ) → j < n → getD l (a + j) 0 ≡ x → ⊥) → mem x (range l a n) ≡ false
+range-not l a n x none = go (look (mem x (range l a n)))
   where
-    go : Is (stands l before e x) → stands l before e x ≡ false
+    go : Is (mem x (range l a n)) → mem x (range l a n) ≡ false
     go (is-false f) = f
-    go (is-true t) = let k = stands-from l before e x t in absurd (none (k .0) (k .1) (k .2) (k .3))
+    go (is-true t) = let j = range-from l a n x t in absurd (none (j .0) (j .1) (j .2))

@@ -37,38 +37,48 @@ blockFault ls before first count =
 unfoldable pub blockNodeFault : List ℕ → ℕ → ℕ → ℕ → ℕ → ℕ → ℕ
 blockNodeFault ls i before first count body = pick (leb i body) 4 (blockFault ls before first count)
 
--- c is one more than the latest entry below entry e whose number leaves the remainder h, 0 if there is none.
-pub record Latest (numbers : List ℕ) (h e c : ℕ) : Type 0 where
-  pub low : c ≤ e
-  pub shares : (k : ℕ) → k + 1 ≡ c → getD numbers k 0 % limit ≡ h
-  pub none : (k : ℕ) → c ≤ k → k < e → getD numbers k 0 % limit ≡ h → ⊥
+-- The entries that blocks cover are numbered in the order in which they are read: where the blocks below a block bind `before`
+-- variables and its range starts at `first`, its entry k is entry before + k and holds the variable `getD ls (first + k) 0`.
 
--- Each entry below e is followed by the latest before it that shares its number's remainder.
-abbrev pub Linked : List ℕ → List ℕ → ℕ → Type 0
-Linked numbers prevs e = (k : ℕ) → k < e → Latest numbers (getD numbers k 0 % limit) k (getD prevs k 0)
+-- Entries are chained by the remainders that their variables leave by this.
+abbrev pub buckets : ℕ
+buckets = 1024
 
--- The entries below e are chained by their numbers' remainders.
-pub record Chains (numbers heads prevs : List ℕ) (e : ℕ) : Type 0 where
-  pub numbers-wide : length numbers ≡ limit
-  pub heads-wide : length heads ≡ limit
+-- c is one more than the latest of a block's first k entries whose variable leaves the remainder h, at most `before` if there
+-- is none.
+pub record Latest (ls : List ℕ) (before first h k c : ℕ) : Type 0 where
+  pub low : c ≤ before + k
+  pub shares : (j : ℕ) → before + j + 1 ≡ c → getD ls (first + j) 0 % buckets ≡ h
+  pub none : (j : ℕ) → c ≤ before + j → j < k → getD ls (first + j) 0 % buckets ≡ h → ⊥
+
+-- Each of a block's first k entries is followed by the latest of its entries before it that shares its variable's remainder.
+abbrev pub Linked : List ℕ → List ℕ → ℕ → ℕ → ℕ → Type 0
+Linked ls prevs before first k =
+    (j : ℕ) → j < k → Latest ls before first (getD ls (first + j) 0 % buckets) j (getD prevs (before + j) 0)
+
+-- Between two blocks: no chain starts at an entry that is not below entry `before`.
+pub record Earlier (heads prevs : List ℕ) (before : ℕ) : Type 0 where
+  pub heads-wide : length heads ≡ buckets
   pub prevs-wide : length prevs ≡ limit
-  pub newest : (h : ℕ) → Latest numbers h e (getD heads h 0)
-  pub linked : Linked numbers prevs e
+  pub low : (h : ℕ) → getD heads h 0 ≤ before
 
--- c is one more than an entry on the chain of x, or 0.
-pub record Chain (numbers prevs : List ℕ) (x c : ℕ) : Type 0 where
-  pub in-numbers : c ≤ length numbers
+-- Within a block: its first k entries are chained by their variables' remainders.
+pub record Chains (ls heads prevs : List ℕ) (before first k : ℕ) : Type 0 where
+  pub heads-wide : length heads ≡ buckets
+  pub prevs-wide : length prevs ≡ limit
+  pub newest : (h : ℕ) → Latest ls before first h k (getD heads h 0)
+  pub linked : Linked ls prevs before first k
+
+-- c is one more than an entry of the block on the chain of x, or at most `before`.
+pub record Chain (ls prevs : List ℕ) (before first x c : ℕ) : Type 0 where
+  pub in-list : first + (c - before) ≤ length ls
   pub in-prevs : c ≤ length prevs
-  pub shares : (k : ℕ) → k + 1 ≡ c → getD numbers k 0 % limit ≡ x % limit
-  pub linked : Linked numbers prevs c
+  pub shares : (j : ℕ) → before + j + 1 ≡ c → getD ls (first + j) 0 % buckets ≡ x % buckets
+  pub linked : Linked ls prevs before first (c - before)
 
--- One of the entries from `before` on and below e has the number x.
-abbrev pub stands : List ℕ → ℕ → ℕ → ℕ → Bool
-stands numbers before e x = mem x (range numbers before (e - before))
-
--- x is a variable number, and none of these entries has it.
-abbrev pub isNew : List ℕ → ℕ → ℕ → ℕ → Bool
-isNew numbers before e x = isNumber x && not (stands numbers before e x)
+-- Entry k of a range is a variable number, and none of the entries before it is the same.
+abbrev pub isNew : List ℕ → ℕ → ℕ → Bool
+isNew ls first k = isNumber (getD ls (first + k) 0) && not (mem (getD ls (first + k) 0) (range ls first k))
 
 -- Refusals 3 to 7: of the lowest node that one applies to.
 unfoldable pub nodesVerdict : List ℕ → List ℕ → Verdict

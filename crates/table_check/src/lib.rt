@@ -2,13 +2,13 @@
 ghost use mathlib.Core.Bool.{true, not};
 ghost use mathlib.Core.List.{[], _∷_};
 ghost use mathlib.Core.Path.{_≡_};
-ghost use Prim.Native.Nat.{ℕ, _+_, _≤_, _<_};
+ghost use Prim.Native.Nat.{ℕ, _+_, _-_, _%_, _≤_, _<_};
 ghost use lib.Dec.{eqb};
 ghost use lib.ListN.{length, getD, set};
 ghost use Rattle.lists.specs.Search.{lowest};
-ghost use Rattle.lists.specs.Members.{times};
+ghost use Rattle.lists.specs.Members.{mem, times};
 ghost use Rattle.lists.specs.Parts.{sum};
-ghost use Rattle.formula.specs.Words.{nodeCount};
+ghost use Rattle.formula.specs.Words.{nodeCount, range};
 ghost use Rattle.table_check.specs.Verdict.{
   limit,
   isNumber,
@@ -25,9 +25,10 @@ ghost use Rattle.table_check.specs.Steps.{
   wordsFault,
   blockFault,
   blockNodeFault,
+  buckets,
+  Earlier,
   Chains,
   Chain,
-  stands,
   isNew,
   nodesVerdict,
   namedBy,
@@ -38,6 +39,9 @@ ghost use Rattle.table_check.specs.Steps.{
 
 // At most so many nodes, list entries, and variables bound by all blocks together.
 const LIMIT: usize = 4096;
+
+// Entries are chained by the remainders that their variables leave by this.
+const BUCKETS: usize = 1024;
 
 // Variables are numbered from 1 to this.
 const HIGHEST_VARIABLE: u32 = 65535;
@@ -111,32 +115,31 @@ fn too_large(words: &[u32], list: &[u32]) -> bool
 // Refusals 3 to 7. Where none applies, `named` holds how often each node is named.
 //
 // The entries that blocks cover are numbered in the order in which they are read, and those whose variables leave the
-// same remainder by 4,096 are chained, the latest first: `heads` holds one more than the latest entry of each remainder
+// same remainder by 1,024 are chained, the latest first: `heads` holds one more than the latest entry of each remainder
 // (0: none), `prevs` one more than the next entry on each entry's chain. A variable stands twice in a block exactly if a
-// walk down its chain meets it among the block's own entries. At most 16 variables share a remainder, so that no walk
-// within a block takes more steps, and nothing is ever cleared.
+// walk down its chain meets it among the block's own entries. The walk ends where those of earlier blocks begin: so the
+// variable of an entry is read from the block's range, and no array keeps it. At most 64 variables share a remainder, so
+// that no walk takes more steps, and nothing is ever cleared.
 fn check_nodes(words: &[u32], list: &[u32], named: &mut [u16]) -> Verdict
     requires { ⌜ nodeCount (now words) ≤ limit ⌝ }
     requires { ⌜ Counted (now words) (now named) 0 ⌝ }
     ensures { λ r. ⌜ r ≡ nodesVerdict (now (words .entry)) (now (list .entry)) ⌝ }
     ensures { λ r. ⌜ (r .number ≡ 0 → Counted (now (words .entry)) (now (named .exit)) (nodeCount (now (words .entry)))) ⌝ }
 {
-    let mut numbers = [0u16; LIMIT];
-    let mut heads = [0u16; LIMIT];
+    let mut heads = [0u16; BUCKETS];
     let mut prevs = [0u16; LIMIT];
-    check_each_node(words, list, &mut numbers, &mut heads, &mut prevs, named)
+    check_each_node(words, list, &mut heads, &mut prevs, named)
 }
 
 fn check_each_node(
     words: &[u32],
     list: &[u32],
-    numbers: &mut [u16],
     heads: &mut [u16],
     prevs: &mut [u16],
     named: &mut [u16],
 ) -> Verdict
     requires { ⌜ nodeCount (now words) ≤ limit ⌝ }
-    requires { ⌜ Chains (now numbers) (now heads) (now prevs) 0 ⌝ }
+    requires { ⌜ Earlier (now heads) (now prevs) 0 ⌝ }
     requires { ⌜ Counted (now words) (now named) 0 ⌝ }
     ensures { λ r. ⌜ r ≡ nodesVerdict (now (words .entry)) (now (list .entry)) ⌝ }
     ensures { λ r. ⌜ (r .number ≡ 0 → Counted (now (words .entry)) (now (named .exit)) (nodeCount (now (words .entry)))) ⌝ }
@@ -145,7 +148,7 @@ fn check_each_node(
     let mut before: usize = 0;
     let mut i: usize = 0;
     while i < n {
-        let fault = node_fault(words, list, numbers, heads, prevs, named, &mut before, i);
+        let fault = node_fault(words, list, heads, prevs, named, &mut before, i);
         if fault != ACCEPTED {
             return answer(fault, i as u32);
         }
@@ -159,7 +162,6 @@ fn check_each_node(
 fn node_fault(
     words: &[u32],
     list: &[u32],
-    numbers: &mut [u16],
     heads: &mut [u16],
     prevs: &mut [u16],
     named: &mut [u16],
@@ -168,11 +170,11 @@ fn node_fault(
 ) -> u32
     requires { ⌜ (i < nodeCount (now words)) × (nodeCount (now words) ≤ limit) ⌝ }
     requires { ⌜ (now before ≡ sum (countAt (now words)) i) × (now before ≤ limit) ⌝ }
-    requires { ⌜ Chains (now numbers) (now heads) (now prevs) (now before) ⌝ }
+    requires { ⌜ Earlier (now heads) (now prevs) (now before) ⌝ }
     requires { ⌜ Counted (now words) (now named) i ⌝ }
     ensures { λ r. ⌜ r ≡ nodeFault (now (words .entry)) (now (list .entry)) i ⌝ }
     ensures { λ r. ⌜ (r ≡ 0 → now (before .exit) ≡ now (before .entry) + countAt (now (words .entry)) i) ⌝ }
-    ensures { λ r. ⌜ (r ≡ 0 → Chains (now (numbers .exit)) (now (heads .exit)) (now (prevs .exit)) (now (before .exit))) ⌝ }
+    ensures { λ r. ⌜ (r ≡ 0 → Earlier (now (heads .exit)) (now (prevs .exit)) (now (before .exit))) ⌝ }
     ensures { λ r. ⌜ (r ≡ 0 → Counted (now (words .entry)) (now (named .exit)) (i + 1)) ⌝ }
 {
     let node = formula::node_at(words, i);
@@ -183,7 +185,7 @@ fn node_fault(
         return operator_fault(i, node.a, node.b, node.c, named);
     }
     if is_block_kind(node.kind) {
-        let fault = block_node_fault(list, numbers, heads, prevs, named, i, *before, node);
+        let fault = block_node_fault(list, heads, prevs, named, i, *before, node);
         *before += node.b as usize;
         return fault;
     }
@@ -248,7 +250,6 @@ fn negation_fault(i: usize, a: u32, b: u32, c: u32, named: &mut [u16]) -> u32
 // Refusals 4 to 7 of a block, which has no refusal 3.
 fn block_node_fault(
     list: &[u32],
-    numbers: &mut [u16],
     heads: &mut [u16],
     prevs: &mut [u16],
     named: &mut [u16],
@@ -257,17 +258,17 @@ fn block_node_fault(
     node: formula::NodeWords,
 ) -> u32
     requires { ⌜ before ≤ limit ⌝ }
-    requires { ⌜ Chains (now numbers) (now heads) (now prevs) before ⌝ }
+    requires { ⌜ Earlier (now heads) (now prevs) before ⌝ }
     requires { ⌜ Room (now named) i ⌝ }
     ensures { λ r. ⌜ r ≡ blockNodeFault (now (list .entry)) i before (node .a) (node .b) (node .c) ⌝ }
-    ensures { λ r. ⌜ (r ≡ 0 → Chains (now (numbers .exit)) (now (heads .exit)) (now (prevs .exit)) (before + node .b)) ⌝ }
+    ensures { λ r. ⌜ (r ≡ 0 → Earlier (now (heads .exit)) (now (prevs .exit)) (before + node .b)) ⌝ }
     ensures { λ r. ⌜ (r ≡ 0 → (x : ℕ) → getD (now (named .exit)) x 0 ≡ getD (now (named .entry)) x 0 + times x (node .c ∷ [])) ⌝ }
 {
     if i <= node.c as usize {
         return FORWARD_REFERENCE;
     }
     count_name(node.c, named);
-    block_fault(list, numbers, heads, prevs, before, node.a, node.b)
+    block_fault(list, heads, prevs, before, node.a, node.b)
 }
 
 fn is_number(x: u32) -> bool
@@ -287,7 +288,6 @@ fn is_block_kind(kind: u32) -> bool
 // cost no more than the limit.
 fn block_fault(
     list: &[u32],
-    numbers: &mut [u16],
     heads: &mut [u16],
     prevs: &mut [u16],
     before: usize,
@@ -295,9 +295,9 @@ fn block_fault(
     count: u32,
 ) -> u32
     requires { ⌜ before ≤ limit ⌝ }
-    requires { ⌜ Chains (now numbers) (now heads) (now prevs) before ⌝ }
+    requires { ⌜ Earlier (now heads) (now prevs) before ⌝ }
     ensures { λ r. ⌜ r ≡ blockFault (now (list .entry)) before first count ⌝ }
-    ensures { λ r. ⌜ (r ≡ 0 → Chains (now (numbers .exit)) (now (heads .exit)) (now (prevs .exit)) (before + count)) ⌝ }
+    ensures { λ r. ⌜ (r ≡ 0 → Earlier (now (heads .exit)) (now (prevs .exit)) (before + count)) ⌝ }
 {
     let first = first as usize;
     let count = count as usize;
@@ -307,7 +307,7 @@ fn block_fault(
     if LIMIT < before + count {
         return TOO_MANY_VARIABLES;
     }
-    if !good_range(list, numbers, heads, prevs, before, first, count) {
+    if !good_range(list, heads, prevs, before, first, count) {
         return BAD_VARIABLE;
     }
     ACCEPTED
@@ -316,7 +316,6 @@ fn block_fault(
 // Whether the entries of a block's range are variable numbers, none of them twice. They are the entries from `before` on.
 fn good_range(
     list: &[u32],
-    numbers: &mut [u16],
     heads: &mut [u16],
     prevs: &mut [u16],
     before: usize,
@@ -324,14 +323,13 @@ fn good_range(
     count: usize,
 ) -> bool
     requires { ⌜ (before + count ≤ limit) × (first + count ≤ length (now list)) ⌝ }
-    requires { ⌜ Chains (now numbers) (now heads) (now prevs) before ⌝ }
+    requires { ⌜ Earlier (now heads) (now prevs) before ⌝ }
     ensures { λ r. ⌜ r ≡ goodRange (now (list .entry)) first count ⌝ }
-    ensures { λ r. ⌜ (r ≡ true → Chains (now (numbers .exit)) (now (heads .exit)) (now (prevs .exit)) (before + count)) ⌝ }
+    ensures { λ r. ⌜ (r ≡ true → Earlier (now (heads .exit)) (now (prevs .exit)) (before + count)) ⌝ }
 {
     let mut k = 0;
     while k < count {
-        let x = list[first + k];
-        if !enter(numbers, heads, prevs, before, before + k, x) {
+        if !enter(list, heads, prevs, before, first, k) {
             return false;
         }
         k += 1;
@@ -339,58 +337,58 @@ fn good_range(
     true
 }
 
-// Makes x the number of entry e, unless it is no variable or an entry from `before` on has it; whether it did.
+// Chains entry k of a block, unless it is no variable or the same as one of the k entries before it; whether it did.
 fn enter(
-    numbers: &mut [u16],
+    list: &[u32],
     heads: &mut [u16],
     prevs: &mut [u16],
     before: usize,
-    e: usize,
-    x: u32,
+    first: usize,
+    k: usize,
 ) -> bool
-    requires { ⌜ e < limit ⌝ }
-    requires { ⌜ Chains (now numbers) (now heads) (now prevs) e ⌝ }
-    ensures { λ r. ⌜ r ≡ isNew (now (numbers .entry)) before e x ⌝ }
-    ensures { λ r. ⌜ (r ≡ true → (now (numbers .exit) ≡ set (now (numbers .entry)) e x) × Chains (now (numbers .exit)) (now (heads .exit)) (now (prevs .exit)) (e + 1)) ⌝ }
+    requires { ⌜ (before + k < limit) × (first + k < length (now list)) ⌝ }
+    requires { ⌜ Chains (now list) (now heads) (now prevs) before first k ⌝ }
+    ensures { λ r. ⌜ r ≡ isNew (now (list .entry)) first k ⌝ }
+    ensures { λ r. ⌜ (r ≡ true → Chains (now (list .entry)) (now (heads .exit)) (now (prevs .exit)) before first (k + 1)) ⌝ }
 {
+    let x = list[first + k];
     if !is_number(x) {
         return false;
     }
-    let number = x as u16;
-    let head = heads[number as usize % LIMIT];
-    if in_chain(numbers, prevs, head, before, number) {
+    let head = heads[x as usize % BUCKETS];
+    if in_chain(list, prevs, before, first, head, x) {
         return false;
     }
-    push(numbers, heads, prevs, e, number);
+    push(heads, prevs, before + k, x);
     true
 }
 
-// Whether an entry from `before` on that stands on the chain from `head` has the number x.
-fn in_chain(numbers: &[u16], prevs: &[u16], head: u16, before: usize, x: u16) -> bool
-    requires { ⌜ Chain (now numbers) (now prevs) x head ⌝ }
-    ensures { λ r. ⌜ r ≡ stands (now (numbers .entry)) before head x ⌝ }
+// Whether x is the variable of one of the block's own entries on the chain from `head`.
+fn in_chain(list: &[u32], prevs: &[u16], before: usize, first: usize, head: u16, x: u32) -> bool
+    requires { ⌜ Chain (now list) (now prevs) before first x head ⌝ }
+    ensures { λ r. ⌜ r ≡ mem x (range (now (list .entry)) first (head - before)) ⌝ }
 {
     let mut c = head as usize;
     while before < c {
-        if numbers[c - 1] == x {
+        let k = c - before - 1;
+        if list[first + k] == x {
             return true;
         }
-        c = prevs[c - 1] as usize;
+        c = prevs[before + k] as usize;
     }
     false
 }
 
-// Puts entry e, whose number is x, at the head of its chain.
-fn push(numbers: &mut [u16], heads: &mut [u16], prevs: &mut [u16], e: usize, x: u16)
+// Puts entry e, whose variable is x, at the head of its chain.
+fn push(heads: &mut [u16], prevs: &mut [u16], e: usize, x: u32)
     requires { ⌜ e < limit ⌝ }
-    requires { ⌜ Chains (now numbers) (now heads) (now prevs) e ⌝ }
-    ensures { λ r. ⌜ now (numbers .exit) ≡ set (now (numbers .entry)) e x ⌝ }
-    ensures { λ r. ⌜ Chains (now (numbers .exit)) (now (heads .exit)) (now (prevs .exit)) (e + 1) ⌝ }
+    requires { ⌜ (length (now heads) ≡ buckets) × (length (now prevs) ≡ limit) ⌝ }
+    ensures { λ r. ⌜ now (heads .exit) ≡ set (now (heads .entry)) (x % buckets) (e + 1) ⌝ }
+    ensures { λ r. ⌜ now (prevs .exit) ≡ set (now (prevs .entry)) e (getD (now (heads .entry)) (x % buckets) 0) ⌝ }
 {
-    let h = x as usize % LIMIT;
+    let h = x as usize % BUCKETS;
     let head = heads[h];
     prevs[e] = head;
-    numbers[e] = x;
     heads[h] = (e + 1) as u16;
 }
 

@@ -1,11 +1,10 @@
 //! Times measure and lift, the library beside the reference.
 //!
-//!     cargo run --release --bin bench          the four families
-//!     cargo run --release --bin bench -- all   and leaves bound far above them
+//!     cargo run --release --bin bench
 
 use std::hint::black_box;
 use std::time::{Duration, Instant};
-use wakubinryo::generate::{bound_climb, Family, Table, FAMILIES};
+use wakubinryo::generate::{Table, FAMILIES};
 use wakubinryo::{reference, PrenexForm, Refusal, Sizes};
 
 const NODES: [usize; 3] = [1024, 2048, 4096];
@@ -84,11 +83,6 @@ impl Bench {
 }
 
 fn main() {
-    let all = std::env::args().nth(1).is_some_and(|word| word == "all");
-    let mut families: Vec<(&str, Family)> = FAMILIES.to_vec();
-    if all {
-        families.push(("climb, leaves bound", bound_climb));
-    }
     println!("One measure and one lift of a table: the library beside the reference, an");
     println!("implementation in plain Rust. Same input, same process, run in turn; both built");
     println!(
@@ -107,7 +101,7 @@ fn main() {
     println!(
         "family               nodes  written      us         us   ratio     library  reference"
     );
-    for (name, family) in families {
+    for (name, family) in FAMILIES {
         let mut benches = NODES.map(|nodes| Bench::new(family(nodes)));
         // Rounds go through the sizes in turn, so that a slow spell of the
         // machine falls on all of them.

@@ -6,7 +6,6 @@ use native.Mathlib.Omega.{arith}
 use lib.ListN.{length}
 use borrow.Author.Needs.{needs}
 use Rattle.formula.specs.Words.{tableOf}
-use Rattle.table_check.proofs.Accepted.{accepted-holds}
 use Rattle.prenex_form.specs.Matrix.{constraint}
 use Rattle.matrix_writer.proofs.Constraint.{BlockFacts, block-facts, wrote-empty, wrote-full}
 use Rattle.matrix_writer.proofs.write_constraint.Statement.{statement}
@@ -14,13 +13,13 @@ use Rattle.matrix_writer.proofs.write_constraint.Tie as tie
 
 -- the function's entry, and where the block's words were read
 abbrev entry : tie.After-node-at → tie.Start
-entry c = c .before .before .before .before .before .before .before .before
+entry c = c .before .before .before .before .before .before
 
 abbrev read : tie.Else1 → tie.After-node-at
 read c = c .before .before .before .before .before .before .before
 
 -- what the arrays and the verdict say of the block
-known : (s : tie.Start) → BlockFacts (s .args .words .now) (s .args .list .now) (s .args .starts .now) (s .args .i) (s .args .at)
+known : (s : tie.Start) → BlockFacts (s .args .words .now) (s .args .list .now) (s .args .starts .now) (s .args .names) (s .args .copies) (s .args .i) (s .args .at)
 known s = block-facts (s .args .at) (s .pre .0) (s .pre .1 .0)
 
 -- how long the constraint of a block that binds something is
@@ -30,13 +29,13 @@ longer c =
     omega (arith, known (entry (read c)) .full (λ z. c .if1 .left (e ∙ z)))
 
 node-at-requires : tie.Need-node-at-requires
-node-at-requires c κs = omega (arith, known (c .before .before .before .before .before .before .before))
+node-at-requires c κs = omega (arith, known (c .before .before .before .before .before))
 
-mul-mark : tie.Need-mul-mark
-mul-mark c = omega (arith, known (entry c))
+mul-definition : tie.Need-mul-definition
+mul-definition c = omega (arith, known (entry c))
 
-shared-slice-read-mark : tie.Need-shared-slice-read-mark
-shared-slice-read-mark c = omega (arith, known (entry (c .before)))
+shared-slice-read-definition : tie.Need-shared-slice-read-definition
+shared-slice-read-definition c = omega (arith, known (entry (c .before)))
 
 write-definition-requires : tie.Need-write-definition-requires
 write-definition-requires c κs = omega (arith, known (entry (c .before .before)))
@@ -52,8 +51,7 @@ returns c =
     let r = c .before .before .before .before .before .before .before in
     let s = entry r in
     let e = r .node-at .ensures in
-    wrote-empty _ _ (accepted-holds _ _ (s .pre .0 .is-accepted)) _ (s .pre .1 .0) _ _ _ _ (s .pre .0 .starts-hold) (s .pre .0 .names-hold) _
-    _ _ _ _ (e .2) (e .3) (c .if1 .taken) (c .before .before .before .before .write-definition .ensures)
+    wrote-empty (s .pre .0) (s .pre .1 .0) _ _ _ _ _ (e .2) (e .3) (c .if1 .taken) (c .before .before .before .before .write-definition .ensures)
 
 mul-start : tie.Need-mul-start
 mul-start c = omega (arith, known (entry (read c)))
@@ -62,17 +60,20 @@ shared-slice-read-start : tie.Need-shared-slice-read-start
 shared-slice-read-start c = omega (arith, known (entry (read (c .before))), entry (read (c .before)) .pre)
 
 cast-start : tie.Need-cast-start
-cast-start c = omega (arith, c .shared-slice-known8 .given (entry (read (c .before)) .args .i))
+cast-start c = omega (arith, c .shared-slice-known6 .given (entry (read (c .before)) .args .i))
 
 add-write-entries : tie.Need-add-write-entries
 add-write-entries c = search needs
 
-cast-write-entries : tie.Need-cast-write-entries
-cast-write-entries c = search needs
+add-write-entries-2 : tie.Need-add-write-entries-2
+add-write-entries-2 c = omega (arith, known (entry (read (c .before .before))))
+
+add-write-entries-3 : tie.Need-add-write-entries-3
+add-write-entries-3 c = omega (arith, known (entry (read (c .before .before))))
 
 write-entries-requires : tie.Need-write-entries-requires
 write-entries-requires c κs =
-    let e = c .before .before .before in
+    let e = c .before .before in
     let r = read e in omega (arith, known (entry r), longer e, r .node-at .ensures, entry r .pre)
 
 guard-table-requires : tie.Need-guard-table-requires
@@ -82,10 +83,10 @@ add-write-guard : tie.Need-add-write-guard
 add-write-guard c = search needs
 
 write-guard-requires : tie.Need-write-guard-requires
-write-guard-requires c κs = let e = c .before .before .before .before .before .before .before .before in omega (arith, longer e, entry (read e) .pre)
+write-guard-requires c κs = let e = c .before .before .before .before .before .before .before in omega (arith, longer e, entry (read e) .pre)
 
 add-result-2 : tie.Need-add-result-2
-add-result-2 c = let e = c .before .before .before .before .before .before .before .before .before .before .before in omega (arith, longer e, entry (read e) .pre)
+add-result-2 c = let e = c .before .before .before .before .before .before .before .before .before .before in omega (arith, longer e, entry (read e) .pre)
 
 same-length-2 : tie.Need-same-length-2
 same-length-2 c = search needs
@@ -93,11 +94,10 @@ same-length-2 c = search needs
 returns-2 : tie.Need-returns-2
 returns-2 c =
     let w = c .before .before .before .before .before .before .before in
-    let e = w .before .before .before .before in
+    let e = w .before .before .before in
     let s = entry (read e) in
     let n = read e .node-at .ensures in
-    wrote-full _ _ (accepted-holds _ _ (s .pre .0 .is-accepted)) _ (s .pre .1 .0) _ _ _ _ (s .pre .0 .starts-hold) (s .pre .0 .names-hold) _
-    _ _ _ _ _ _ _ _ _ (n .0) (n .2) (n .3) (c .before .before .before .guard-table .ensures) (e .if1 .left)
+    wrote-full (s .pre .0) (s .pre .1 .0) _ _ _ _ _ _ _ _ _ _ (n .0) (n .2) (n .3) (c .before .before .before .guard-table .ensures) (e .if1 .left)
     (e .before .before .before .before .write-definition .ensures) (w .write-entries .ensures .0) (c .before .before .write-guard .ensures) (s .pre .1 .1 .fits)
 
 pub write-constraint-spec : {M : Type 1} → statement M
@@ -105,8 +105,8 @@ write-constraint-spec =
     tie.close
     (tie.spec
     node-at-requires
-    mul-mark
-    shared-slice-read-mark
+    mul-definition
+    shared-slice-read-definition
     write-definition-requires
     add-result
     same-length
@@ -115,7 +115,8 @@ write-constraint-spec =
     shared-slice-read-start
     cast-start
     add-write-entries
-    cast-write-entries
+    add-write-entries-2
+    add-write-entries-3
     write-entries-requires
     guard-table-requires
     add-write-guard

@@ -16,14 +16,14 @@ use Rattle.matrix_writer.proofs.write_further.Statement.{statement}
 use Rattle.matrix_writer.proofs.write_further.Tie as tie
 
 abbrev Inv-loop : tie.InvT-loop
-Inv-loop words list nodes₀ nexts starts names copies marks i at next₀ link₀ nodes next link = Rest (tableOf words list) (level (tableOf words list) i) (blocksFrom (tableOf words list) (level (tableOf words list) i) (suc i)) nodes₀ at nodes next link
+Inv-loop words list nodes₀ nexts starts names copies definitions i at next₀ link₀ nodes next link = Rest (tableOf words list) (level (tableOf words list) i) (blocksFrom (tableOf words list) (level (tableOf words list) i) (suc i)) nodes₀ at nodes next link
 
 abbrev μ-loop : tie.MeasureT-loop
-μ-loop words list nodes₀ nexts starts names copies marks i at next₀ link₀ nodes next link = length (linked (tableOf words list) (level (tableOf words list) i) link)
+μ-loop words list nodes₀ nexts starts names copies definitions i at next₀ link₀ nodes next link = length (linked (tableOf words list) (level (tableOf words list) i) link)
 
 -- the function's entry
 abbrev entry : tie.In-loop Inv-loop μ-loop → tie.Start Inv-loop μ-loop
-entry c = c .before .before .before .before .before .before .before .before .before .before .before
+entry c = c .before .before .before .before .before .before .before .before .before
 
 -- the link that the loop has come to, and its block
 at-block : (c : tie.In-loop Inv-loop μ-loop) → c .before .loop .link ≡ suc (c .before .loop .link - 1)
@@ -33,16 +33,16 @@ here : (c : tie.In-loop Inv-loop μ-loop) → BlockOf (tableOf (entry c .args .w
 here c = c .before .loop .inv .block-at _ (at-block c)
 
 mul-link : tie.Need-mul-link Inv-loop μ-loop
-mul-link c = let s = c .before .before .before .before .before .before .before .before in omega (arith, table-few _ _ (s .pre .0 .is-accepted), s .pre)
+mul-link c = let s = c .before .before .before .before .before .before in omega (arith, table-few _ _ (s .pre .0 .is-accepted), s .pre)
 
 shared-slice-read-link : tie.Need-shared-slice-read-link Inv-loop μ-loop
-shared-slice-read-link c = let s = c .before .before .before .before .before .before .before .before .before in omega (arith, table-few _ _ (s .pre .0 .is-accepted), s .pre)
+shared-slice-read-link c = let s = c .before .before .before .before .before .before .before in omega (arith, table-few _ _ (s .pre .0 .is-accepted), s .pre)
+
+cast-link : tie.Need-cast-link Inv-loop μ-loop
+cast-link c = omega (arith, c .shared-slice-known6 .given (c .before .before .before .before .before .before .before .args .i))
 
 loop-holds : tie.Need-loop-holds Inv-loop μ-loop
-loop-holds c = let s = c .before .before .before .before .before .before .before .before .before in rest-all _ _ _ _ _ _ (s .pre .1 .0 .next-is _ (s .pre .1 .1 .0))
-
-cast-block : tie.Need-cast-block Inv-loop μ-loop
-cast-block c = let s = entry c in omega (arith, table-few _ _ (s .pre .0 .is-accepted), c .before .loop .inv .small)
+loop-holds c = let s = c .before .before .before .before .before .before .before in rest-all _ _ _ _ _ _ (s .pre .1 .0 .next-is _ (s .pre .1 .1 .0))
 
 sub-block : tie.Need-sub-block Inv-loop μ-loop
 sub-block c = search needs
@@ -63,6 +63,9 @@ shared-slice-read-link-2 : tie.Need-shared-slice-read-link-2 Inv-loop μ-loop
 shared-slice-read-link-2 c =
     let t = c .before .before .before .before .before in
     omega (arith, table-few _ _ (entry t .pre .0 .is-accepted), t .before .loop .inv .small, at-block t, entry t .pre .1 .0)
+
+cast-link-2 : tie.Need-cast-link-2 Inv-loop μ-loop
+cast-link-2 c = omega (arith, c .shared-slice-known7 .given (c .before .before .before .before .before .before .loop .link - 1))
 
 loop-less : tie.Need-loop-less Inv-loop μ-loop
 loop-less c =
@@ -89,12 +92,13 @@ write-further-spec =
     μ-loop
     mul-link
     shared-slice-read-link
+    cast-link
     loop-holds
-    cast-block
     sub-block
     write-next-requires
     mul-link-2
     shared-slice-read-link-2
+    cast-link-2
     loop-less
     loop-again
     same-length

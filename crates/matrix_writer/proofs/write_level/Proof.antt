@@ -14,7 +14,7 @@ use Rattle.matrix_writer.proofs.write_level.Tie as tie
 
 -- the function's entry, and where the first block's constraint was written
 abbrev entry : tie.After-write-constraint → tie.Start
-entry c = c .before .before .before .before .before .before .before .before .before .before .before .before
+entry c = c .before .before .before .before .before .before .before .before .before .before
 
 abbrev written : tie.After-write-further → tie.After-write-constraint
 written c = c .before .before .before .before
@@ -30,23 +30,23 @@ ended c =
     let e = rw n at (c .write-further .ensures .next-is) in omega (arith, e, known (entry (written c)) .long)
 
 add-first : tie.Need-add-first
-add-first c = omega (arith, known (c .before .before .before .before .before .before .before .before .before))
+add-first c = omega (arith, known (c .before .before .before .before .before .before .before))
 
 mul-first : tie.Need-mul-first
-mul-first c = omega (arith, known (c .before .before .before .before .before .before .before .before .before), c .before .before .before .before .before .before .before .before .before .good)
+mul-first c = omega (arith, known (c .before .before .before .before .before .before .before), c .before .before .before .before .before .before .before .good)
 
 shared-slice-read-first : tie.Need-shared-slice-read-first
-shared-slice-read-first c = omega (arith, known (c .before .before .before .before .before .before .before .before .before .before))
+shared-slice-read-first c = omega (arith, known (c .before .before .before .before .before .before .before .before))
 
 cast-first : tie.Need-cast-first
-cast-first c = omega (arith, c .shared-slice-known9 .given (c .before .before .before .before .before .before .before .before .before .before .args .j + 1))
+cast-first c = omega (arith, c .shared-slice-known7 .given (c .before .before .before .before .before .before .before .before .args .j + 1))
 
 sub-first : tie.Need-sub-first
-sub-first c = omega (arith, known (c .before .before .before .before .before .before .before .before .before .before) .positive)
+sub-first c = omega (arith, known (c .before .before .before .before .before .before .before .before) .positive)
 
 write-constraint-requires : tie.Need-write-constraint-requires
 write-constraint-requires c κs =
-    let s = c .before .before .before .before .before .before .before .before .before .before .before in
+    let s = c .before .before .before .before .before .before .before .before .before in
     (s .pre .0, (known s .block .block, omega (arith, known s .long, s .pre .1 .1 .1)))
 
 write-further-requires : tie.Need-write-further-requires

@@ -10,26 +10,26 @@ use Rattle.matrix_writer.proofs.write_levels.Statement.{statement}
 use Rattle.matrix_writer.proofs.write_levels.Tie as tie
 
 abbrev Inv-loop : tie.InvT-loop
-Inv-loop words list nodes₀ firsts nexts starts names copies marks first deepest kind₀ next₀ j₀ nodes kind next j = (j ≤ deepest) × Levelled (tableOf words list) nodes₀ nodes kind next j
+Inv-loop words list nodes₀ firsts nexts starts names copies definitions first deepest kind₀ next₀ j₀ nodes kind next j = (j ≤ deepest) × Levelled (tableOf words list) nodes₀ nodes kind next j
 
 abbrev μ-loop : tie.MeasureT-loop
-μ-loop words list nodes₀ firsts nexts starts names copies marks first deepest kind₀ next₀ j₀ nodes kind next j = deepest - j
+μ-loop words list nodes₀ firsts nexts starts names copies definitions first deepest kind₀ next₀ j₀ nodes kind next j = deepest - j
 
 -- the function's entry
 abbrev entry : tie.In-loop Inv-loop μ-loop → tie.Start Inv-loop μ-loop
-entry c = c .before .before .before .before .before .before .before .before .before .before .before .before
+entry c = c .before .before .before .before .before .before .before .before .before .before
 
 sub-node-at : tie.Need-sub-node-at Inv-loop μ-loop
-sub-node-at c = omega (arith, table-whole _ _ (c .before .before .before .before .before .before .before .before .before .pre .0 .is-accepted))
+sub-node-at c = omega (arith, table-whole _ _ (c .before .before .before .before .before .before .before .pre .0 .is-accepted))
 
 node-at-requires : tie.Need-node-at-requires Inv-loop μ-loop
-node-at-requires c κs = omega (arith, table-whole _ _ (c .before .before .before .before .before .before .before .before .before .pre .0 .is-accepted))
+node-at-requires c κs = omega (arith, table-whole _ _ (c .before .before .before .before .before .before .before .pre .0 .is-accepted))
 
 cast-next : tie.Need-cast-next Inv-loop μ-loop
 cast-next c = search needs
 
 loop-holds : tie.Need-loop-holds Inv-loop μ-loop
-loop-holds c = (search needs, levelled-none _ _ _ (c .before .before .before .before .before .before .before .before .before .before .pre .1 .1 .0) (root-quantifier _ _ _ (c .node-at .ensures .0)))
+loop-holds c = (search needs, levelled-none _ _ _ (c .before .before .before .before .before .before .before .before .pre .1 .1 .0) (root-quantifier _ _ _ (c .node-at .ensures .0)))
 
 write-level-requires : tie.Need-write-level-requires Inv-loop μ-loop
 write-level-requires c κs =
@@ -66,7 +66,7 @@ loop-again c =
 
 cast-result : tie.Need-cast-result Inv-loop μ-loop
 cast-result c =
-    let p = c .before .before .before .before .before .before .before .before .before .before .before .before .pre .1 .1 in
+    let p = c .before .before .before .before .before .before .before .before .before .before .pre .1 .1 in
     let i = c .before .loop .inv in omega (arith, levelled-small (i .1) _ _ (p .0) (p .1 .1) (i .0))
 
 same-length : tie.Need-same-length Inv-loop μ-loop
@@ -74,7 +74,7 @@ same-length c = c .before .loop .inv .1 .long
 
 returns : tie.Need-returns Inv-loop μ-loop
 returns c =
-    let p = c .before .before .before .before .before .before .before .before .before .before .before .before .pre .1 .1 in
+    let p = c .before .before .before .before .before .before .before .before .before .before .pre .1 .1 in
     let i = c .before .loop .inv in
     levelled-all (i .1) (omega (arith, i .0, c .loop-test .left, p .1 .0))
 

@@ -18,7 +18,7 @@ longer s = length-further-one _ _ _
 
 write-constraint-requires : tie.Need-write-constraint-requires
 write-constraint-requires c κs =
-    let s = c .before .before .before .before .before .before .before .before in
+    let s = c .before .before .before .before .before .before in
     (s .pre .0, (s .pre .1 .0, omega (arith, longer s)))
 
 sub-put-operator : tie.Need-sub-put-operator
@@ -28,16 +28,16 @@ sub-put-operator-2 : tie.Need-sub-put-operator-2
 sub-put-operator-2 c = search needs
 
 put-operator-requires : tie.Need-put-operator-requires
-put-operator-requires c κs = let s = c .before .before .before .before .before .before .before .before .before .before .before .before in omega (arith, longer s, s .pre)
+put-operator-requires c κs = let s = c .before .before .before .before .before .before .before .before .before .before in omega (arith, longer s, s .pre)
 
 add-result : tie.Need-add-result
-add-result c = let s = c .before .before .before .before .before .before .before .before .before .before .before .before .before .before .before in omega (arith, longer s, s .pre)
+add-result c = let s = c .before .before .before .before .before .before .before .before .before .before .before .before .before in omega (arith, longer s, s .pre)
 
 same-length : tie.Need-same-length
 same-length c = search needs
 
 returns : tie.Need-returns
-returns c = wrote-further _ _ _ _ _ _ _ (c .before .before .before .before .before .before .write-constraint .ensures) (c .before .before .put-operator .ensures) (c .before .before .before .before .before .before .before .before .before .before .before .before .before .before .before .pre .1 .1 .1 .fits)
+returns c = wrote-further _ _ _ _ _ _ _ (c .before .before .before .before .before .before .write-constraint .ensures) (c .before .before .put-operator .ensures) (c .before .before .before .before .before .before .before .before .before .before .before .before .before .pre .1 .1 .1 .fits)
 
 pub write-next-spec : {M : Type 1} → statement M
 write-next-spec =

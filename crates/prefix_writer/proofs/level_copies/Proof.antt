@@ -23,74 +23,74 @@ mul-link : tie.Need-mul-link Inv-loop μ-loop
 mul-link c = search needs
 
 shared-slice-read-link : tie.Need-shared-slice-read-link Inv-loop μ-loop
-shared-slice-read-link c = omega (arith, c .before .before .before .before .before .before .before .before .pre .1 .0 .firsts-long)
+shared-slice-read-link c = omega (arith, c .before .before .before .before .before .before .before .pre .1 .0 .firsts-long)
 
 cast-link : tie.Need-cast-link Inv-loop μ-loop
-cast-link c = omega (arith, c .shared-slice-known7 .given (c .before .before .before .before .before .before .before .before .args .level))
+cast-link c = omega (arith, c .shared-slice-known6 .given (c .before .before .before .before .before .before .before .args .level))
 
 loop-holds : tie.Need-loop-holds Inv-loop μ-loop
-loop-holds c = walk-start _ _ _ _ (c .before .before .before .before .before .before .before .before .pre .1 .0) _ _ _ (c .before .before .before .before .before .before .before .before .pre .1 .1 .1 .0 .0)
+loop-holds c = walk-start _ _ _ _ (c .before .before .before .before .before .before .before .pre .1 .0) _ _ _ (c .before .before .before .before .before .before .before .pre .1 .1 .1 .0 .0)
 
 sub-i : tie.Need-sub-i Inv-loop μ-loop
 sub-i c = search needs
 
-mul-copy-entries : tie.Need-mul-copy-entries Inv-loop μ-loop
-mul-copy-entries c =
-    let p = c .before .before .before .before .before .before .before .before .before .before .pre in
+mul-write-entries : tie.Need-mul-write-entries Inv-loop μ-loop
+mul-write-entries c =
+    let p = c .before .before .before .before .before .before .before .before .before .pre in
     omega (arith, walk-room _ _ _ _ (p .1 .0) _ _ _ _ _ _ (c .before .loop .inv) (c .loop-test .taken) (p .1 .1 .1 .1))
 
-sub-copy-entries : tie.Need-sub-copy-entries Inv-loop μ-loop
-sub-copy-entries c =
-    let p = c .before .before .before .before .before .before .before .before .before .before .pre in
+sub-write-entries : tie.Need-sub-write-entries Inv-loop μ-loop
+sub-write-entries c =
+    let p = c .before .before .before .before .before .before .before .before .before .pre in
     omega (arith, walk-room _ _ _ _ (p .1 .0) _ _ _ _ _ _ (c .before .loop .inv) (c .loop-test .taken) (p .1 .1 .1 .1))
 
-part-copy-entries-start : tie.Need-part-copy-entries-start Inv-loop μ-loop
-part-copy-entries-start c =
-    let p = c .before .before .before .before .before .before .before .before .before .before .pre in
+part-write-entries-start : tie.Need-part-write-entries-start Inv-loop μ-loop
+part-write-entries-start c =
+    let p = c .before .before .before .before .before .before .before .before .before .pre in
     omega (arith, walk-room _ _ _ _ (p .1 .0) _ _ _ _ _ _ (c .before .loop .inv) (c .loop-test .taken) (p .1 .1 .1 .1))
 
-part-copy-entries-end : tie.Need-part-copy-entries-end Inv-loop μ-loop
-part-copy-entries-end c = search needs
+part-write-entries-end : tie.Need-part-write-entries-end Inv-loop μ-loop
+part-write-entries-end c = search needs
 
-copy-entries-requires : tie.Need-copy-entries-requires Inv-loop μ-loop
-copy-entries-requires c κs =
-    let p = c .before .before .before .before .before .before .before .before .before .before .before .pre in
+write-entries-requires : tie.Need-write-entries-requires Inv-loop μ-loop
+write-entries-requires c κs =
+    let p = c .before .before .before .before .before .before .before .before .before .before .pre in
     let w = c .before .before .loop .inv in
     let some = c .before .loop-test .taken in
     (p .0, ((walk-lt _ _ _ _ (p .1 .0) _ _ _ _ _ _ w some, p .1 .1 .0), walk-tail _ _ _ _ (p .1 .0) _ _ _ _ _ _ w some (p .1 .1 .1 .1)))
 
 add-at : tie.Need-add-at Inv-loop μ-loop
 add-at c =
-    let p = c .before .before .before .before .before .before .before .before .before .before .before .before .before .before .pre in
-    omega (arith, c .before .before .copy-entries .ensures .1, walk-room _ _ _ _ (p .1 .0) _ _ _ _ _ _ (c .before .before .before .before .before .loop .inv) (c .before .before .before .before .loop-test .taken) (p .1 .1 .1 .1))
+    let p = c .before .before .before .before .before .before .before .before .before .before .before .before .before .pre in
+    omega (arith, c .before .before .write-entries .ensures .1, walk-room _ _ _ _ (p .1 .0) _ _ _ _ _ _ (c .before .before .before .before .before .loop .inv) (c .before .before .before .before .loop-test .taken) (p .1 .1 .1 .1))
 
 mul-link-2 : tie.Need-mul-link-2 Inv-loop μ-loop
 mul-link-2 c =
-    let p = c .before .before .before .before .before .before .before .before .before .before .before .before .before .before .pre in
+    let p = c .before .before .before .before .before .before .before .before .before .before .before .before .before .pre in
     omega (arith, node-lt _ _ _ (p .0) _ (walk-lt _ _ _ _ (p .1 .0) _ _ _ _ _ _ (c .before .before .before .before .before .loop .inv) (c .before .before .before .before .loop-test .taken)))
 
 shared-slice-read-link-2 : tie.Need-shared-slice-read-link-2 Inv-loop μ-loop
 shared-slice-read-link-2 c =
-    let p = c .before .before .before .before .before .before .before .before .before .before .before .before .before .before .before .pre in
+    let p = c .before .before .before .before .before .before .before .before .before .before .before .before .before .before .pre in
     omega (arith, p .1 .0 .nexts-long, node-lt _ _ _ (p .0) _ (walk-lt _ _ _ _ (p .1 .0) _ _ _ _ _ _ (c .before .before .before .before .before .before .loop .inv) (c .before .before .before .before .before .loop-test .taken)))
 
 cast-link-2 : tie.Need-cast-link-2 Inv-loop μ-loop
-cast-link-2 c = omega (arith, c .shared-slice-known8 .given (c .before .before .before .before .before .before .loop .link - 1))
+cast-link-2 c = omega (arith, c .shared-slice-known7 .given (c .before .before .before .before .before .before .loop .link - 1))
 
 loop-less : tie.Need-loop-less Inv-loop μ-loop
-loop-less c = walk-less _ _ _ _ (c .before .before .before .before .before .before .before .before .before .before .before .before .before .before .before .pre .1 .0) _ _ _ _ _ _ (c .before .before .before .before .before .before .loop .inv) (c .before .before .before .before .before .loop-test .taken)
+loop-less c = walk-less _ _ _ _ (c .before .before .before .before .before .before .before .before .before .before .before .before .before .before .pre .1 .0) _ _ _ _ _ _ (c .before .before .before .before .before .before .loop .inv) (c .before .before .before .before .before .loop-test .taken)
 
 loop-again : tie.Need-loop-again Inv-loop μ-loop
 loop-again c =
-    let p = c .before .before .before .before .before .before .before .before .before .before .before .before .before .before .before .pre in
-    let e = c .before .before .before .copy-entries .ensures in
+    let p = c .before .before .before .before .before .before .before .before .before .before .before .before .before .before .pre in
+    let e = c .before .before .before .write-entries .ensures in
     walk-step _ _ _ _ (p .1 .0) _ _ _ _ _ _ (c .before .before .before .before .before .before .loop .inv) (c .before .before .before .before .before .loop-test .taken) (p .1 .1 .1 .1) _ _ (e .0) (e .1)
 
 same-length : tie.Need-same-length Inv-loop μ-loop
 same-length c = c .before .loop .inv .left .kept
 
 returns : tie.Need-returns Inv-loop μ-loop
-returns c = walk-end _ _ _ _ (c .before .before .before .before .before .before .before .before .before .before .pre .1 .0) _ _ _ _ _ _ (c .before .loop .inv) (c .loop-test .left)
+returns c = walk-end _ _ _ _ (c .before .before .before .before .before .before .before .before .before .pre .1 .0) _ _ _ _ _ _ (c .before .loop .inv) (c .loop-test .left)
 
 pub level-copies-spec : {M : Type 1} → statement M
 level-copies-spec =
@@ -103,11 +103,11 @@ level-copies-spec =
     cast-link
     loop-holds
     sub-i
-    mul-copy-entries
-    sub-copy-entries
-    part-copy-entries-start
-    part-copy-entries-end
-    copy-entries-requires
+    mul-write-entries
+    sub-write-entries
+    part-write-entries-start
+    part-write-entries-end
+    write-entries-requires
     add-at
     mul-link-2
     shared-slice-read-link-2

@@ -14,39 +14,39 @@ use Rattle.prefix_writer.proofs.level_variables.Statement.{statement}
 use Rattle.prefix_writer.proofs.level_variables.Tie as tie
 
 abbrev Inv-loop : tie.InvT-loop
-Inv-loop words list out₀ starts names marks firsts nexts level at₀ link₀ out at link = Walked words list level (heldOwn words starts names marks) out₀ out at link
+Inv-loop words list out₀ starts names definitions firsts nexts level at₀ link₀ out at link = Walked words list level (heldOwn words starts names definitions) out₀ out at link
 
 abbrev μ-loop : tie.MeasureT-loop
-μ-loop words list out₀ starts names marks firsts nexts level at₀ link₀ out at link = length (linked (tableOf words list) level link)
+μ-loop words list out₀ starts names definitions firsts nexts level at₀ link₀ out at link = length (linked (tableOf words list) level link)
 
 mul-link : tie.Need-mul-link Inv-loop μ-loop
 mul-link c = search needs
 
 shared-slice-read-link : tie.Need-shared-slice-read-link Inv-loop μ-loop
-shared-slice-read-link c = omega (arith, c .before .before .before .before .before .before .before .before .before .pre .1 .0 .firsts-long)
+shared-slice-read-link c = omega (arith, c .before .before .before .before .before .before .before .before .pre .1 .0 .firsts-long)
 
 cast-link : tie.Need-cast-link Inv-loop μ-loop
-cast-link c = omega (arith, c .shared-slice-known8 .given (c .before .before .before .before .before .before .before .before .before .args .level))
+cast-link c = omega (arith, c .shared-slice-known7 .given (c .before .before .before .before .before .before .before .before .args .level))
 
 loop-holds : tie.Need-loop-holds Inv-loop μ-loop
-loop-holds c = walk-start _ _ _ _ (c .before .before .before .before .before .before .before .before .before .pre .1 .0) _ _ _ (c .before .before .before .before .before .before .before .before .before .pre .1 .1 .1 .0 .0)
+loop-holds c = walk-start _ _ _ _ (c .before .before .before .before .before .before .before .before .pre .1 .0) _ _ _ (c .before .before .before .before .before .before .before .before .pre .1 .1 .1 .0 .0)
 
 sub-i : tie.Need-sub-i Inv-loop μ-loop
 sub-i c = search needs
 
 mul-own-variables : tie.Need-mul-own-variables Inv-loop μ-loop
 mul-own-variables c =
-    let p = c .before .before .before .before .before .before .before .before .before .before .before .pre in
+    let p = c .before .before .before .before .before .before .before .before .before .before .pre in
     omega (arith, walk-room _ _ _ _ (p .1 .0) _ _ _ _ _ _ (c .before .loop .inv) (c .loop-test .taken) (p .1 .1 .1 .1))
 
 sub-own-variables : tie.Need-sub-own-variables Inv-loop μ-loop
 sub-own-variables c =
-    let p = c .before .before .before .before .before .before .before .before .before .before .before .pre in
+    let p = c .before .before .before .before .before .before .before .before .before .before .pre in
     omega (arith, walk-room _ _ _ _ (p .1 .0) _ _ _ _ _ _ (c .before .loop .inv) (c .loop-test .taken) (p .1 .1 .1 .1))
 
 part-own-variables-start : tie.Need-part-own-variables-start Inv-loop μ-loop
 part-own-variables-start c =
-    let p = c .before .before .before .before .before .before .before .before .before .before .before .pre in
+    let p = c .before .before .before .before .before .before .before .before .before .before .pre in
     omega (arith, walk-room _ _ _ _ (p .1 .0) _ _ _ _ _ _ (c .before .loop .inv) (c .loop-test .taken) (p .1 .1 .1 .1))
 
 part-own-variables-end : tie.Need-part-own-variables-end Inv-loop μ-loop
@@ -54,35 +54,35 @@ part-own-variables-end c = search needs
 
 own-variables-requires : tie.Need-own-variables-requires Inv-loop μ-loop
 own-variables-requires c κs =
-    let p = c .before .before .before .before .before .before .before .before .before .before .before .before .pre in
+    let p = c .before .before .before .before .before .before .before .before .before .before .before .pre in
     let w = c .before .before .loop .inv in
     let some = c .before .loop-test .taken in
     (p .0, ((walk-lt _ _ _ _ (p .1 .0) _ _ _ _ _ _ w some, p .1 .1 .0 .0, p .1 .1 .0 .1), walk-tail _ _ _ _ (p .1 .0) _ _ _ _ _ _ w some (p .1 .1 .1 .1)))
 
 add-at : tie.Need-add-at Inv-loop μ-loop
 add-at c =
-    let p = c .before .before .before .before .before .before .before .before .before .before .before .before .before .before .before .pre in
+    let p = c .before .before .before .before .before .before .before .before .before .before .before .before .before .before .pre in
     omega (arith, c .before .before .own-variables .ensures .1, walk-room _ _ _ _ (p .1 .0) _ _ _ _ _ _ (c .before .before .before .before .before .loop .inv) (c .before .before .before .before .loop-test .taken) (p .1 .1 .1 .1))
 
 mul-link-2 : tie.Need-mul-link-2 Inv-loop μ-loop
 mul-link-2 c =
-    let p = c .before .before .before .before .before .before .before .before .before .before .before .before .before .before .before .pre in
+    let p = c .before .before .before .before .before .before .before .before .before .before .before .before .before .before .pre in
     omega (arith, node-lt _ _ _ (p .0) _ (walk-lt _ _ _ _ (p .1 .0) _ _ _ _ _ _ (c .before .before .before .before .before .loop .inv) (c .before .before .before .before .loop-test .taken)))
 
 shared-slice-read-link-2 : tie.Need-shared-slice-read-link-2 Inv-loop μ-loop
 shared-slice-read-link-2 c =
-    let p = c .before .before .before .before .before .before .before .before .before .before .before .before .before .before .before .before .pre in
+    let p = c .before .before .before .before .before .before .before .before .before .before .before .before .before .before .before .pre in
     omega (arith, p .1 .0 .nexts-long, node-lt _ _ _ (p .0) _ (walk-lt _ _ _ _ (p .1 .0) _ _ _ _ _ _ (c .before .before .before .before .before .before .loop .inv) (c .before .before .before .before .before .loop-test .taken)))
 
 cast-link-2 : tie.Need-cast-link-2 Inv-loop μ-loop
-cast-link-2 c = omega (arith, c .shared-slice-known9 .given (c .before .before .before .before .before .before .loop .link - 1))
+cast-link-2 c = omega (arith, c .shared-slice-known8 .given (c .before .before .before .before .before .before .loop .link - 1))
 
 loop-less : tie.Need-loop-less Inv-loop μ-loop
-loop-less c = walk-less _ _ _ _ (c .before .before .before .before .before .before .before .before .before .before .before .before .before .before .before .before .pre .1 .0) _ _ _ _ _ _ (c .before .before .before .before .before .before .loop .inv) (c .before .before .before .before .before .loop-test .taken)
+loop-less c = walk-less _ _ _ _ (c .before .before .before .before .before .before .before .before .before .before .before .before .before .before .before .pre .1 .0) _ _ _ _ _ _ (c .before .before .before .before .before .before .loop .inv) (c .before .before .before .before .before .loop-test .taken)
 
 loop-again : tie.Need-loop-again Inv-loop μ-loop
 loop-again c =
-    let p = c .before .before .before .before .before .before .before .before .before .before .before .before .before .before .before .before .pre in
+    let p = c .before .before .before .before .before .before .before .before .before .before .before .before .before .before .before .pre in
     let e = c .before .before .before .own-variables .ensures in
     walk-step _ _ _ _ (p .1 .0) _ _ _ _ _ _ (c .before .before .before .before .before .before .loop .inv) (c .before .before .before .before .before .loop-test .taken) (p .1 .1 .1 .1) _ _ (e .0) (e .1)
 
@@ -90,7 +90,7 @@ same-length : tie.Need-same-length Inv-loop μ-loop
 same-length c = c .before .loop .inv .left .kept
 
 returns : tie.Need-returns Inv-loop μ-loop
-returns c = walk-end _ _ _ _ (c .before .before .before .before .before .before .before .before .before .before .before .pre .1 .0) _ _ _ _ _ _ (c .before .loop .inv) (c .loop-test .left)
+returns c = walk-end _ _ _ _ (c .before .before .before .before .before .before .before .before .before .before .pre .1 .0) _ _ _ _ _ _ (c .before .loop .inv) (c .loop-test .left)
 
 pub level-variables-spec : {M : Type 1} → statement M
 level-variables-spec =

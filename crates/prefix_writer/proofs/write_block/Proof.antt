@@ -21,14 +21,14 @@ part-write-variables-end c = search needs
 
 write-variables-requires : tie.Need-write-variables-requires
 write-variables-requires c κs =
-    let p = c .before .before .before .before .before .before .before .before .before .before .before .pre in
-    (p .0, (p .1 .0, (p .1 .1 .0, (p .1 .1 .1 .0, tail-room (c .before .before .before .before .before .before .before .before .before .before .before .args .variables .now) _ _ _ refl (p .1 .1 .1 .1 .1 .0)))))
+    let p = c .before .before .before .before .before .before .before .before .before .pre in
+    (p .0, (p .1 .0, (p .1 .1 .0, (p .1 .1 .1 .0, tail-room (c .before .before .before .before .before .before .before .before .before .args .variables .now) _ _ _ refl (p .1 .1 .1 .1 .1 .0)))))
 
 write-words-requires : tie.Need-write-words-requires
 write-words-requires c κs = search needs
 
 add-result : tie.Need-add-result
-add-result c = let p = c .before .before .before .before .before .before .before .before .before .before .before .before .before .before .before .before .before .before .pre in omega (arith, c .before .before .before .before .before .before .write-variables .ensures .1, p .1 .1 .1 .1 .1 .1)
+add-result c = let p = c .before .before .before .before .before .before .before .before .before .before .before .before .before .before .before .before .pre in omega (arith, c .before .before .before .before .before .before .write-variables .ensures .1, p .1 .1 .1 .1 .1 .1)
 
 same-length : tie.Need-same-length
 same-length c = search needs
@@ -38,7 +38,7 @@ same-length-2 c = search needs
 
 returns : tie.Need-returns
 returns c =
-    let p = c .before .before .before .before .before .before .before .before .before .before .before .before .before .before .before .before .before .before .pre in
+    let p = c .before .before .before .before .before .before .before .before .before .before .before .before .before .before .before .before .pre in
     let v = c .before .before .before .before .before .before .write-variables .ensures in (
       rw (← v .1) (c .before .before .write-words .ensures),
       (tail-back _ _ _ _ (omega (arith, p .1 .1 .1 .1 .1 .0)) (v .0), omega (arith, v .1)),

@@ -3,7 +3,8 @@
 use mathlib.Core.Path.{ap}
 use Rattle.prenex_form.proofs.Theorem.{measured}
 use Rattle.prenex_form.specs.declared.Sizes.{Sizes}
-use Rattle.prenex.specs.Arrays.{Placed, Levelled, Room}
+use Rattle.scopes.specs.Passes.{Placed}
+use Rattle.prenex.specs.Arrays.{Room}
 use Rattle.prenex.proofs.Answers.{short-nodes, short-prefix, short-variables, lifted-short, lifted-done}
 use native.Mathlib.Omega.{arith}
 use borrow.Author.Needs.{needs}
@@ -85,9 +86,14 @@ write-form-requires c κs =
       variables-fit = omega (arith, m .entries-measured, ap (λ (z : Sizes). z .entries) z, c .before .before .before .before .before .if3 .left);
     } in
     let f = c .before .before .before .before .before .before .before .before .before .before .before .before .before .before .fill-scopes in
-    let a : Placed (s .args .words .now) (s .args .list .now) _ = record { checked = s .pre; placed = f .ensures .0; parents-long = f .kept .1 .1 .0 } in
-    let l : Levelled (s .args .words .now) (s .args .list .now) _ = record { levelled = f .ensures .1 .0; levels-long = f .kept .1 .1 .1 .0 } in
-    (a, (l, (f .ensures .1 .1, room)))
+    let a : Placed (s .args .words .now) (s .args .list .now) _ _ =
+    record {
+      parents-length = f .kept .1 .1 .0;
+      levels-length = f .kept .1 .1 .1 .0;
+      parents-hold = f .ensures .0;
+      levels-hold = f .ensures .1 .0;
+    } in
+    (s .pre, (a, (f .ensures .1 .1, room)))
 
 done-requires : tie.Need-done-requires
 done-requires c κs = search needs
@@ -103,16 +109,16 @@ same-length-3 c = search needs
 
 returns-4 : tie.Need-returns-4
 returns-4 c =
-    let s = c .before .before .before .before .before .before .before .before .before .before .before .before .before .before .before .before .before .before .before .before .before .before .before .before .before .before .before .before .before .before in
+    let s = c .before .before .before .before .before .before .before .before .before .before .before .before .before .before .before .before .before .before .before .before .before .before .before .before .before .before .before .before .before .before .before in
     let m = measured (s .args .words .now) (s .args .list .now) (s .pre) in
-    let z = c .before .before .before .before .before .before .before .before .before .before .before .before .before .before .before .before .before .before .before .sizes-of .ensures in
+    let z = c .before .before .before .before .before .before .before .before .before .before .before .before .before .before .before .before .before .before .before .before .sizes-of .ensures in
     let room : Room (s .args .words .now) (s .args .list .now) (s .args .nodes .now) (s .args .prefix .now) (s .args .variables .now) =
     record {
-      nodes-fit = omega (arith, m .nodes-measured, ap (λ (z : Sizes). z .nodes) z, c .before .before .before .before .before .before .before .before .before .before .before .before .before .before .before .before .before .if1 .left);
-      prefix-fits = omega (arith, m .blocks-measured, ap (λ (z : Sizes). z .blocks) z, c .before .before .before .before .before .before .before .before .before .before .before .before .before .before .before .if2 .left);
-      variables-fit = omega (arith, m .entries-measured, ap (λ (z : Sizes). z .entries) z, c .before .before .before .before .before .before .before .before .before .before .before .before .before .if3 .left);
+      nodes-fit = omega (arith, m .nodes-measured, ap (λ (z : Sizes). z .nodes) z, c .before .before .before .before .before .before .before .before .before .before .before .before .before .before .before .before .before .before .if1 .left);
+      prefix-fits = omega (arith, m .blocks-measured, ap (λ (z : Sizes). z .blocks) z, c .before .before .before .before .before .before .before .before .before .before .before .before .before .before .before .before .if2 .left);
+      variables-fit = omega (arith, m .entries-measured, ap (λ (z : Sizes). z .entries) z, c .before .before .before .before .before .before .before .before .before .before .before .before .before .before .if3 .left);
     } in
-    lifted-done (s .args .words .now) (s .args .list .now) (s .args .nodes .now) (s .args .prefix .now) (s .args .variables .now) (s .pre) room _ _ (c .done .ensures) z _ _ _ (c .before .before .before .before .before .before .before .write-form .ensures)
+    lifted-done (s .args .words .now) (s .args .list .now) (s .args .nodes .now) (s .args .prefix .now) (s .args .variables .now) (s .pre) room _ _ (c .done .ensures) z _ _ _ (c .before .before .before .before .before .before .before .before .write-form .ensures)
 
 pub lift-accepted-spec : {M : Type 1} → statement M
 lift-accepted-spec =

@@ -1,65 +1,123 @@
 -- `prenex::write_named` meets its contract.
 -- Assumes nothing.
-use mathlib.Core.Path.{refl}
+use mathlib.Core.Path.{refl, ap, _∙_}
+use lib.ListN.{length}
 use Rattle.formula.specs.Words.{tableOf}
-use Rattle.prefix_writer.specs.Held.{Named}
+use Rattle.table_check.proofs.Accepted.{accepted-holds}
+use Rattle.lists.specs.Parts.{sum}
+use Rattle.prenex_form.specs.Names.{boundCount, innerBelow}
+use Rattle.prenex_form.proofs.NameLaws.{innerBound-le}
+use Rattle.prenex_form.proofs.Limits.{bound-limit}
+use Rattle.first_nodes.specs.Given.{Bound, Counted}
+use Rattle.matrix_writer.specs.Added.{addedNodes}
+use Rattle.matrix_writer.specs.Arrays.{BlockArrays, ChainArrays}
+use Rattle.prenex.specs.Arrays.{Written}
+use Rattle.prenex.proofs.Matrix.{kept-is, first-room, added-room, whole}
+use Rattle.prenex.proofs.Measured.{root-le, count-some}
 use native.Mathlib.Omega.{arith}
 use borrow.Author.Needs.{needs}
 use Rattle.prenex.proofs.write_named.Statement.{statement}
 use Rattle.prenex.proofs.write_named.Tie as tie
 
-highest-number-requires : tie.Need-highest-number-requires
-highest-number-requires c κs = search needs
+add-first : tie.Need-add-first
+add-first c = search needs
 
-add-t20 : tie.Need-add-t20
-add-t20 c = search needs
+take-run-requires : tie.Need-take-run-requires
+take-run-requires c κs =
+    let s = c .before .before .before .before .before .before .before .before .before in
+    let a = accepted-holds (s .args .words .now) (s .args .list .now) (s .pre .0 .checked) in
+    omega (arith, s .pre .1 .1 .1 .0 .bound-is, s .pre .1 .1 .1 .1 .0, bound-limit (s .args .words .now) (s .args .list .now) a)
+
+take-run-requires-2 : tie.Need-take-run-requires-2
+unfolding tableOf boundCount
+take-run-requires-2 c κs =
+    let s = c .before .before .before .before .before .before .before .before .before .before in
+    let t = tableOf (s .args .words .now) (s .args .list .now) in
+    let n = s .pre .1 .1 .1 .0 in
+    omega (
+      arith,
+      n .bound-is,
+      n .inner-bound-is,
+      s .pre .1 .1 .1 .1 .0,
+      c .take-run .ensures .1,
+      bound-limit (s .args .words .now) (s .args .list .now) (accepted-holds (s .args .words .now) (s .args .list .now) (s .pre .0 .checked)),
+      innerBound-le t (t .size),
+    )
+
+root-blocks-requires : tie.Need-root-blocks-requires
+root-blocks-requires c κs = search needs
+
+cast-first : tie.Need-cast-first
+cast-first c = search needs
+
+sub-first : tie.Need-sub-first
+unfolding tableOf
+sub-first c =
+    let s = c .before .before .before .before .before .before .before .before .before .before .before .before in
+    omega (arith, c .root-blocks .ensures, root-le (tableOf (s .args .words .now) (s .args .list .now)), count-some (s .args .words .now) (s .args .list .now) (s .pre .0 .checked))
+
+slice-aggregate-write-first : tie.Need-slice-aggregate-write-first
+slice-aggregate-write-first c = search needs
+
+write-first-requires : tie.Need-write-first-requires
+unfolding tableOf innerBelow sum
+write-first-requires c κs =
+    let s = c .before .before .before .before .before .before .before .before .before .before .before .before .before .before in
+    let p = s .pre in
+    let n = p .1 .1 .1 .0 in
+    let x = c .before .before .before .before .take-run .ensures in
+    let y = c .before .before .before .take-run2 .ensures in
+    let k = c .before .before .root-blocks .ensures in
+    let b : Bound (s .args .words .now) (s .args .list .now) (s .args .bindings .now) (c .before .before .before .before .take-run .result .name) =
+    record {
+      accepts = p .0 .checked;
+      bindings-length = p .1 .1 .0 .bindings-length;
+      bindings-hold = p .1 .1 .0 .bindings-hold;
+      names-first = omega (arith, x .0, p .1 .1 .1 .1 .0);
+    } in
+    let d : Counted (s .args .words .now) (s .args .list .now) 0 _ (c .before .before .before .take-run2 .result .counter) =
+    record { definitions-length = refl; next-is = omega (arith, x .1, y .1, p .1 .1 .1 .1 .0, n .bound-is, n .inner-bound-is) } in
+    let e = kept-is (s .args .words .now) (s .args .list .now) (p .0 .checked) in
+    let r = first-room (s .args .words .now) (s .args .list .now) (p .0 .checked) (s .args .nodes .now) (p .1 .1 .1 .1 .1 .nodes-fit) in
+    (b, (d, (omega (arith, k, e), omega (arith, k, e, r))))
 
 cast-deepest : tie.Need-cast-deepest
 cast-deepest c = search needs
 
-cast-bound : tie.Need-cast-bound
-cast-bound c = search needs
+slice-aggregate-write-levels : tie.Need-slice-aggregate-write-levels
+slice-aggregate-write-levels c = search needs
 
-cast-inner-bound : tie.Need-cast-inner-bound
-cast-inner-bound c = search needs
-
-slice-aggregate-give-names : tie.Need-slice-aggregate-give-names
-slice-aggregate-give-names c = search needs
-
-slice-aggregate-give-names-2 : tie.Need-slice-aggregate-give-names-2
-slice-aggregate-give-names-2 c = search needs
-
-slice-aggregate-give-names-3 : tie.Need-slice-aggregate-give-names-3
-slice-aggregate-give-names-3 c = search needs
-
-give-names-requires : tie.Need-give-names-requires
+write-levels-requires : tie.Need-write-levels-requires
 unfolding tableOf
-give-names-requires c κs =
-    let s = c .before .before .before .before .before .before .before .before .before .before .before .before .before .before .before .before in
-    let n = s .pre .1 .1 .1 .0 in
-    (s .pre .0 .checked, (omega (arith, c .before .before .before .before .before .before .highest-number .ensures .0), ((refl, refl, refl), (n .bound-is, n .inner-bound-is))))
-
-slice-aggregate-write-matrix : tie.Need-slice-aggregate-write-matrix
-slice-aggregate-write-matrix c = search needs
-
-slice-aggregate-write-matrix-2 : tie.Need-slice-aggregate-write-matrix-2
-slice-aggregate-write-matrix-2 c = search needs
-
-slice-aggregate-write-matrix-3 : tie.Need-slice-aggregate-write-matrix-3
-slice-aggregate-write-matrix-3 c = search needs
-
-write-matrix-requires : tie.Need-write-matrix-requires
-write-matrix-requires c κs =
-    let s = c .before .before .before .before .before .before .before .before .before .before .before .before .before .before .before .before .before .before .before .before .before .before .before .before in
-    let g = c .before .before .before .before .before .before .before in
+write-levels-requires c κs =
+    let s = c .before .before .before .before .before .before .before .before .before .before .before .before .before .before .before .before .before .before .before .before .before in
     let p = s .pre in
-    let n : Named (s .args .words .now) (s .args .list .now) _ _ _ = record {
-      named = g .give-names .ensures .0;
-      names-long = g .give-names .kept .1 .1 .1 .0;
-      copies-long = g .give-names .kept .1 .1 .1 .1 .0;
-      marks-long = g .give-names .kept .1 .1 .1 .1 .1 .0;
+    let n = p .1 .1 .1 .0 in
+    let f = c .before .before .before .before .before .before .write-first in
+    let x = c .before .before .before .before .before .before .before .before .before .before .before .take-run .ensures in
+    let y = c .before .before .before .before .before .before .before .before .before .before .take-run2 .ensures in
+    let k = c .before .before .before .before .before .before .before .before .before .root-blocks .ensures in
+    let e = kept-is (s .args .words .now) (s .args .list .now) (p .0 .checked) in
+    let blocks : BlockArrays (s .args .words .now) (s .args .list .now) (s .args .starts .now) (c .before .before .before .before .before .before .before .before .before .before .before .take-run .result .name) (c .before .before .before .before .before .before .before .before .before .before .take-run2 .result .name) _ =
+    record {
+      is-accepted = p .0 .checked;
+      starts-hold = p .0 .started;
+      names-first = omega (arith, x .0, p .1 .1 .1 .1 .0);
+      copies-first = omega (arith, x .1, y .0, p .1 .1 .1 .1 .0, n .bound-is);
+      definitions-hold = f .ensures .1 .0;
+      starts-long = omega (arith, p .0 .starts-long);
+      definitions-long = omega (arith, f .kept .1 .1 .1 .1 .1 .0);
     } in
-    (p .0, (p .1 .0, (p .1 .1 .0, (n, (p .1 .1 .1 .0 .deepest-is, p .1 .1 .1 .1 .nodes-fit)))))
+    let chains : ChainArrays (s .args .words .now) (s .args .list .now) (s .args .firsts .now) (s .args .nexts .now) =
+    record { chains-hold = p .1 .0 .chained; nexts-long = omega (arith, p .1 .0 .nexts-long) } in
+    let r = added-room (s .args .words .now) (s .args .list .now) (p .0 .checked) (s .args .nodes .now) (p .1 .1 .1 .1 .1 .nodes-fit) (f .last .0) (f .kept .0) in
+    let q = ap (λ d. length (addedNodes (tableOf (s .args .words .now) (s .args .list .now)) d)) (n .deepest-is) in (
+      blocks,
+      (
+        chains,
+        (omega (arith, k, e), (n .deepest-is, record { fits = omega (arith, r .fits, q, k, e); small = omega (arith, r .small, q, k, e) })),
+      ),
+    )
 
 cast-blocks : tie.Need-cast-blocks
 cast-blocks c = search needs
@@ -67,29 +125,30 @@ cast-blocks c = search needs
 slice-aggregate-write-prefix : tie.Need-slice-aggregate-write-prefix
 slice-aggregate-write-prefix c = search needs
 
-slice-aggregate-write-prefix-2 : tie.Need-slice-aggregate-write-prefix-2
-slice-aggregate-write-prefix-2 c = search needs
-
-slice-aggregate-write-prefix-3 : tie.Need-slice-aggregate-write-prefix-3
-slice-aggregate-write-prefix-3 c = search needs
-
 write-prefix-requires : tie.Need-write-prefix-requires
 write-prefix-requires c κs =
-    let s = c .before .before .before .before .before .before .before .before .before .before .before .before .before .before .before .before .before .before .before .before .before .before .before .before .before .before .before .before .before .before .before .before .before in
-    let g = c .before .before .before .before .before .before .before .before .before .before .before .before .before .before .before .before in
+    let s = c .before .before .before .before .before .before .before .before .before .before .before .before .before .before .before .before .before .before .before .before .before .before .before .before .before .before .before .before in
     let p = s .pre in
-    let h = p .1 .1 .0 in
     let n = p .1 .1 .1 .0 in
-    let r = p .1 .1 .1 .1 in
-    let k = g .give-names .kept .1 .1 .1 in (
+    let f = c .before .before .before .before .before .before .before .before .before .before .before .before .before .write-first in
+    let x = c .before .before .before .before .before .before .before .before .before .before .before .before .before .before .before .before .before .before .take-run .ensures in
+    let y = c .before .before .before .before .before .before .before .before .before .before .before .before .before .before .before .before .before .take-run2 .ensures in
+    let h = p .1 .0 in
+    let r = p .1 .1 .1 .1 .1 in (
       p .0 .checked,
       (
-        p .1 .0 .started,
+        p .0 .started,
         (
-          g .give-names .ensures .0,
+          (omega (arith, x .0, p .1 .1 .1 .1 .0), omega (arith, x .1, y .0, p .1 .1 .1 .1 .0, n .bound-is)),
           (
-            h .chained,
-            ((p .1 .0 .starts-long, k .0, k .1 .0, k .1 .1 .0, h .firsts-long, h .nexts-long), ((n .blocks-is, n .deepest-is), (r .prefix-fits, r .variables-fit))),
+            f .ensures .1 .0,
+            (
+              h .chained,
+              (
+                (p .0 .starts-long, f .kept .1 .1 .1 .1 .1 .0, h .firsts-long, h .nexts-long),
+                ((n .blocks-is, n .deepest-is), (r .prefix-fits, r .variables-fit)),
+              ),
+            ),
           ),
         ),
       ),
@@ -105,29 +164,35 @@ same-length-3 : tie.Need-same-length-3
 same-length-3 c = search needs
 
 returns : tie.Need-returns
-returns c = search needs
+returns c =
+    let s = c .before .before .before .before .before .before .before .before .before .before .before .before .before .before .before .before .before .before .before .before .before .before .before .before .before .before .before .before .before .before .before .before .before in
+    let p = s .pre in
+    let w = c .before .before .before .before .write-prefix .ensures in
+    record {
+      nodes-are =
+          whole (s .args .words .now) (s .args .list .now) (p .0 .checked) (s .args .nodes .now) (p .1 .1 .1 .1 .1 .nodes-fit) _ _ (c .before .before .before .before .before .before .before .before .before .before .before .before .before .before .before .before .before .before .write-first .ensures .0)
+          (c .before .before .before .before .before .before .before .before .before .before .before .write-levels .ensures .0);
+      prefix-is = w .0;
+      variables-are = w .1;
+    }
 
 pub write-named-spec : {M : Type 1} → statement M
 write-named-spec =
     tie.close
     (tie.spec
-    highest-number-requires
-    add-t20
+    add-first
+    take-run-requires
+    take-run-requires-2
+    root-blocks-requires
+    cast-first
+    sub-first
+    slice-aggregate-write-first
+    write-first-requires
     cast-deepest
-    cast-bound
-    cast-inner-bound
-    slice-aggregate-give-names
-    slice-aggregate-give-names-2
-    slice-aggregate-give-names-3
-    give-names-requires
-    slice-aggregate-write-matrix
-    slice-aggregate-write-matrix-2
-    slice-aggregate-write-matrix-3
-    write-matrix-requires
+    slice-aggregate-write-levels
+    write-levels-requires
     cast-blocks
     slice-aggregate-write-prefix
-    slice-aggregate-write-prefix-2
-    slice-aggregate-write-prefix-3
     write-prefix-requires
     same-length
     same-length-2

@@ -1,70 +1,27 @@
--- `scopes::chain_node` meets its contract. One step of the pass is the law `node-skipped` or `block-chained`.
+-- `scopes::chain_node` meets its contract. One step of the pass is the law `variable-passed`, `plain-passed` or `block-passed`.
 -- Assumes nothing.
 use mathlib.Core.Path.{sym, _∙_}
 use native.Mathlib.Omega.{arith}
 use borrow.Author.Needs.{needs}
 use borrow.Author.Tests.{not-true, not-false}
-use Rattle.scopes.proofs.Nodes.{nodes-few}
-use Rattle.scopes.proofs.Chains.{indices, node-skipped, block-chained}
+use Rattle.scopes.proofs.Nodes.{nodes-few, block-member, variable-member}
+use Rattle.scopes.proofs.Chaining.{entries-within, start-fits, variable-passed, plain-passed, block-passed}
 use Rattle.scopes.proofs.chain_node.Statement.{statement}
 use Rattle.scopes.proofs.chain_node.Tie as tie
 
-is-inner-requires : tie.Need-is-inner-requires
-is-inner-requires c κs = search needs
+node-at-requires : tie.Need-node-at-requires
+node-at-requires c κs = search needs
 
-returns : tie.Need-returns
-returns c =
-    let s = c .before .before .before .before .before .before .before in
-    node-skipped (s .args .words .now) (s .args .list .now) (s .pre .0) (s .args .i) (s .pre .1 .0) (s .args .levels .now) (s .pre .1 .1 .1 .0) _ _ (sym (c .before .is-inner .ensures) ∙ not-true _ (c .if1 .taken)) (s .pre .1 .1 .1 .1)
+chain-member-requires : tie.Need-chain-member-requires
+chain-member-requires c κs =
+    let s = c .before .before .before .before .before .before .before .before .before .before .before .before .before .before in
+    let g = s .pre .1 .1 .0 in
+    let f = s .pre .1 .1 .1 in
+    let m = variable-member (s .args .words .now) (s .args .list .now) (s .args .i) _ (c .before .before .before .before .node-at .ensures) (c .before .before .if1 .taken) in
+    (s .pre .0, ((s .pre .1 .0, m), ((g .parents-length, f .member-firsts-length, f .member-nexts-length), (g .parents-hold, f .members-linked))))
 
-mul-level : tie.Need-mul-level
-mul-level c = search needs
-
-shared-slice-read-level : tie.Need-shared-slice-read-level
-shared-slice-read-level c =
-    let s = c .before .before .before .before .before .before .before .before in
-    omega (arith, nodes-few (s .args .words .now) (s .args .list .now) (s .pre .0))
-
-cast-level : tie.Need-cast-level
-cast-level c =
-    let s = c .before .before .before .before .before .before .before .before in
-    omega (arith, indices (s .args .words .now) (s .args .list .now) (s .pre .0) (s .args .i) (s .pre .1 .0) (s .args .levels .now) (s .pre .1 .1 .1 .0))
-
-mul-nexts : tie.Need-mul-nexts
-mul-nexts c =
-    let s = c .before .before .before .before .before .before .before .before in
-    omega (arith, indices (s .args .words .now) (s .args .list .now) (s .pre .0) (s .args .i) (s .pre .1 .0) (s .args .levels .now) (s .pre .1 .1 .1 .0))
-
-slice-read-nexts : tie.Need-slice-read-nexts
-slice-read-nexts c =
-    let s = c .before .before .before .before .before .before .before .before .before in
-    omega (arith, indices (s .args .words .now) (s .args .list .now) (s .pre .0) (s .args .i) (s .pre .1 .0) (s .args .levels .now) (s .pre .1 .1 .1 .0))
-
-mul-nexts-2 : tie.Need-mul-nexts-2
-mul-nexts-2 c = search needs
-
-slice-write-nexts : tie.Need-slice-write-nexts
-slice-write-nexts c =
-    let s = c .before .before .before .before .before .before .before .before .before in
-    omega (arith, nodes-few (s .args .words .now) (s .args .list .now) (s .pre .0))
-
-add-firsts : tie.Need-add-firsts
-add-firsts c = search needs
-
-cast-firsts : tie.Need-cast-firsts
-cast-firsts c =
-    let s = c .before .before .before .before .before .before .before .before .before in
-    omega (arith, nodes-few (s .args .words .now) (s .args .list .now) (s .pre .0))
-
-mul-firsts : tie.Need-mul-firsts
-mul-firsts c =
-    let s = c .before .before .before .before .before .before .before .before .before in
-    omega (arith, indices (s .args .words .now) (s .args .list .now) (s .pre .0) (s .args .i) (s .pre .1 .0) (s .args .levels .now) (s .pre .1 .1 .1 .0))
-
-slice-write-firsts : tie.Need-slice-write-firsts
-slice-write-firsts c =
-    let s = c .before .before .before .before .before .before .before .before .before in
-    omega (arith, indices (s .args .words .now) (s .args .list .now) (s .pre .0) (s .args .i) (s .pre .1 .0) (s .args .levels .now) (s .pre .1 .1 .1 .0))
+larger-requires : tie.Need-larger-requires
+larger-requires c κs = search needs
 
 same-length : tie.Need-same-length
 same-length c = search needs
@@ -72,28 +29,125 @@ same-length c = search needs
 same-length-2 : tie.Need-same-length-2
 same-length-2 c = search needs
 
+returns : tie.Need-returns
+returns c =
+    let s = c .before .before .before .before .before .before .before .before .before .before .before .before .before .before .before .before .before .before .before .before in
+    let m = c .before .before .before .before .before .chain-member in
+    rw (c .larger .ensures) (variable-passed (s .args .words .now) (s .args .list .now) (s .pre .0) (s .args .i) (s .pre .1 .0) _ _ _ _ _ _ (s .pre .1 .1 .1) _ _ (m .kept .1 .1 .1 .0) (m .kept .1 .1 .1 .1 .0) (m .ensures) _ (c .before .before .before .before .before .before .before .before .before .before .node-at .ensures) (c .before .before .before .before .before .before .before .before .if1 .taken))
+
+is-block-requires : tie.Need-is-block-requires
+is-block-requires c κs = search needs
+
 returns-2 : tie.Need-returns-2
 returns-2 c =
-    let s = c .before .before .before .before .before .before .before .before .before in
-    block-chained (s .args .words .now) (s .args .list .now) (s .pre .0) (s .args .i) (s .pre .1 .0) (s .args .levels .now) (s .pre .1 .1 .1 .0) _ _ (sym (c .before .before .before .is-inner .ensures) ∙ not-false _ (c .before .before .if1 .left)) (s .pre .1 .1 .0 .1) (s .pre .1 .1 .0 .2) (s .pre .1 .1 .1 .1)
+    let s = c .before .before .before .before .before .before .before .before .before .before .before .before .before .before in
+    plain-passed (s .args .words .now) (s .args .list .now) (s .pre .0) (s .args .i) (s .pre .1 .0) _ _ _ _ _ _ (s .pre .1 .1 .1) _ (c .before .before .before .before .node-at .ensures) (c .before .before .if1 .left) (sym (c .before .is-block .ensures) ∙ not-true _ (c .if2 .taken))
+
+chain-member-requires-2 : tie.Need-chain-member-requires-2
+chain-member-requires-2 c κs =
+    let s = c .before .before .before .before .before .before .before .before .before .before .before .before .before .before .before .before in
+    let g = s .pre .1 .1 .0 in
+    let f = s .pre .1 .1 .1 in
+    let e = sym (c .before .before .before .is-block .ensures) ∙ not-false _ (c .before .before .if2 .left) in
+    (s .pre .0, ((s .pre .1 .0, block-member _ e), ((g .parents-length, f .member-firsts-length, f .member-nexts-length), (g .parents-hold, f .members-linked))))
+
+chain-level-requires : tie.Need-chain-level-requires
+chain-level-requires c κs =
+    let s = c .before .before .before .before .before .before .before .before .before .before .before .before .before .before .before .before .before .before .before .before .before .before .before in
+    let g = s .pre .1 .1 .0 in
+    let f = s .pre .1 .1 .1 in
+    let e = sym (c .before .before .before .before .before .before .before .before .before .before .is-block .ensures) ∙ not-false _ (c .before .before .before .before .before .before .before .before .before .if2 .left) in
+    (s .pre .0, ((s .pre .1 .0, e), ((g .levels-length, f .level-firsts-length, f .level-nexts-length), (g .levels-hold, f .levels-linked))))
+
+cast-before : tie.Need-cast-before
+cast-before c = search needs
+
+sub-before : tie.Need-sub-before
+sub-before c =
+    let s = c .before .before .before .before .before .before .before .before .before .before .before .before .before .before .before .before .before .before .before .before .before .before .before .before .before .before .before .before .before .before in
+    let e = sym (c .before .before .before .before .before .before .before .before .before .before .before .before .before .before .before .before .before .is-block .ensures) ∙ not-false _ (c .before .before .before .before .before .before .before .before .before .before .before .before .before .before .before .before .if2 .left) in
+    start-fits (s .args .words .now) (s .args .list .now) (s .pre .0) (s .args .i) (s .pre .1 .0) _ _ _ _ _ _ (s .pre .1 .1 .1) _ (c .before .before .before .before .before .before .before .before .before .before .before .before .before .before .before .before .before .before .before .before .node-at .ensures) e .0
+
+cast-starts : tie.Need-cast-starts
+cast-starts c =
+    let s = c .before .before .before .before .before .before .before .before .before .before .before .before .before .before .before .before .before .before .before .before .before .before .before .before .before .before .before .before .before .before in
+    let e = sym (c .before .before .before .before .before .before .before .before .before .before .before .before .before .before .before .before .before .is-block .ensures) ∙ not-false _ (c .before .before .before .before .before .before .before .before .before .before .before .before .before .before .before .before .if2 .left) in
+    omega (arith, start-fits (s .args .words .now) (s .args .list .now) (s .pre .0) (s .args .i) (s .pre .1 .0) _ _ _ _ _ _ (s .pre .1 .1 .1) _ (c .before .before .before .before .before .before .before .before .before .before .before .before .before .before .before .before .before .before .before .before .node-at .ensures) e .1)
+
+mul-starts : tie.Need-mul-starts
+mul-starts c =
+    let s = c .before .before .before .before .before .before .before .before .before .before .before .before .before .before .before .before .before .before .before .before .before .before .before .before .before .before .before .before .before .before in
+    omega (arith, nodes-few (s .args .words .now) (s .args .list .now) (s .pre .0))
+
+slice-write-starts : tie.Need-slice-write-starts
+slice-write-starts c =
+    let s = c .before .before .before .before .before .before .before .before .before .before .before .before .before .before .before .before .before .before .before .before .before .before .before .before .before .before .before .before .before .before in
+    omega (arith, nodes-few (s .args .words .now) (s .args .list .now) (s .pre .0), s .pre .1 .1 .1 .starts-length)
+
+cast-highest-entry : tie.Need-cast-highest-entry
+cast-highest-entry c = search needs
+
+cast-highest-entry-2 : tie.Need-cast-highest-entry-2
+cast-highest-entry-2 c = search needs
+
+highest-entry-requires : tie.Need-highest-entry-requires
+highest-entry-requires c κs =
+    let s = c .before .before .before .before .before .before .before .before .before .before .before .before .before .before .before .before .before .before .before .before .before .before .before .before .before .before .before .before .before .before .before .before in
+    let e = sym (c .before .before .before .before .before .before .before .before .before .before .before .before .before .before .before .before .before .before .before .is-block .ensures) ∙ not-false _ (c .before .before .before .before .before .before .before .before .before .before .before .before .before .before .before .before .before .before .if2 .left) in
+    entries-within (s .args .words .now) (s .args .list .now) (s .pre .0) (s .args .i) (s .pre .1 .0) _ (c .before .before .before .before .before .before .before .before .before .before .before .before .before .before .before .before .before .before .before .before .before .before .node-at .ensures) e
+
+larger-requires-2 : tie.Need-larger-requires-2
+larger-requires-2 c κs = search needs
+
+same-length-3 : tie.Need-same-length-3
+same-length-3 c = search needs
+
+same-length-4 : tie.Need-same-length-4
+same-length-4 c = search needs
+
+same-length-5 : tie.Need-same-length-5
+same-length-5 c = search needs
+
+same-length-6 : tie.Need-same-length-6
+same-length-6 c = search needs
+
+same-length-7 : tie.Need-same-length-7
+same-length-7 c = search needs
+
+returns-3 : tie.Need-returns-3
+returns-3 c =
+    let s = c .before .before .before .before .before .before .before .before .before .before .before .before .before .before .before .before .before .before .before .before .before .before .before .before .before .before .before .before .before .before .before .before .before .before in
+    let m = c .before .before .before .before .before .before .before .before .before .before .before .before .before .before .before .before .before .chain-member2 in
+    let l = c .before .before .before .before .before .before .before .before .before .before .chain-level in
+    let e = sym (c .before .before .before .before .before .before .before .before .before .before .before .before .before .before .before .before .before .before .before .before .before .is-block .ensures) ∙ not-false _ (c .before .before .before .before .before .before .before .before .before .before .before .before .before .before .before .before .before .before .before .before .if2 .left) in
+    rw (c .larger2 .ensures, c .before .highest-entry .ensures) (block-passed (s .args .words .now) (s .args .list .now) (s .pre .0) (s .args .i) (s .pre .1 .0) _ _ _ _ _ _ (s .pre .1 .1 .1) _ _ (m .kept .1 .1 .1 .0) (m .kept .1 .1 .1 .1 .0) (m .ensures) _ _ (l .kept .1 .1 .1 .0) (l .kept .1 .1 .1 .1 .0) (l .ensures) _ (c .before .before .before .before .before .before .before .before .before .before .before .before .before .before .before .before .before .before .before .before .before .before .before .before .node-at .ensures) e)
 
 pub chain-node-spec : {M : Type 1} → statement M
 chain-node-spec =
     tie.close
     (tie.spec
-    is-inner-requires
-    returns
-    mul-level
-    shared-slice-read-level
-    cast-level
-    mul-nexts
-    slice-read-nexts
-    mul-nexts-2
-    slice-write-nexts
-    add-firsts
-    cast-firsts
-    mul-firsts
-    slice-write-firsts
+    node-at-requires
+    chain-member-requires
+    larger-requires
     same-length
     same-length-2
-    returns-2)
+    returns
+    is-block-requires
+    returns-2
+    chain-member-requires-2
+    chain-level-requires
+    cast-before
+    sub-before
+    cast-starts
+    mul-starts
+    slice-write-starts
+    cast-highest-entry
+    cast-highest-entry-2
+    highest-entry-requires
+    larger-requires-2
+    same-length-3
+    same-length-4
+    same-length-5
+    same-length-6
+    same-length-7
+    returns-3)

@@ -80,6 +80,11 @@ hand-down-requires-2 c κs =
     let r = c .before .before .before .before .node-at .ensures in
     (operand-lt (s .args .words .now) (s .args .list .now) (s .pre .0) (s .args .i) _ _ (s .pre .1 .0 .0) (body-read (s .args .words .now) (s .args .list .now) (s .args .i) _ r (s .pre .1 .0 .1)) (mem-head _ _), s .pre .1 .1 .0 .0, simp length-set (s .pre .1 .1 .0 .1))
 
+cast-count-inner : tie.Need-cast-count-inner
+cast-count-inner c =
+    let s = c .before .before .before .before .before .before .before .before .before .before .before .before .before .before in
+    omega (arith, inherited-small (s .args .words .now) (s .args .list .now) (s .pre .0) (s .args .i) (s .pre .1 .0 .0) _ _ (s .pre .1 .1 .1 .0))
+
 count-inner-requires : tie.Need-count-inner-requires
 count-inner-requires c κs =
     let s = c .before .before .before .before .before .before .before .before .before .before .before .before .before .before in
@@ -123,6 +128,7 @@ fill-block-spec =
     slice-write-levels
     cast-hand-down-2
     hand-down-requires-2
+    cast-count-inner
     count-inner-requires
     same-length-3
     same-length-4

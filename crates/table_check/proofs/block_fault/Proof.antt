@@ -30,28 +30,22 @@ same-length c = search needs
 same-length-2 : tie.Need-same-length-2
 same-length-2 c = search needs
 
-same-length-3 : tie.Need-same-length-3
-same-length-3 c = search needs
-
 returns-3 : tie.Need-returns-3
 returns-3 c =
-    let g = sym (c .before .before .before .before .before .before .before .good-range .ensures .0) ∙ not-true _ (c .if3 .taken) in
-    (sym (block-bad _ _ _ _ (c .before .before .before .before .before .before .before .before .before .before .before .before .if1 .left) (c .before .before .before .before .before .before .before .before .before .before .before .if2 .left) g), λ z. absurd (omega arith))
+    let g = sym (c .before .before .before .before .before .good-range .ensures .0) ∙ not-true _ (c .if3 .taken) in
+    (sym (block-bad _ _ _ _ (c .before .before .before .before .before .before .before .before .before .if1 .left) (c .before .before .before .before .before .before .before .before .if2 .left) g), λ z. absurd (omega arith))
+
+same-length-3 : tie.Need-same-length-3
+same-length-3 c = search needs
 
 same-length-4 : tie.Need-same-length-4
 same-length-4 c = search needs
 
-same-length-5 : tie.Need-same-length-5
-same-length-5 c = search needs
-
-same-length-6 : tie.Need-same-length-6
-same-length-6 c = search needs
-
 returns-4 : tie.Need-returns-4
 returns-4 c =
-    let r = c .before .before .before .before .before .before .before .good-range .ensures in
+    let r = c .before .before .before .before .before .good-range .ensures in
     let t = not-false _ (c .if3 .left) in
-    (sym (block-none _ _ _ _ (c .before .before .before .before .before .before .before .before .before .before .before .before .if1 .left) (c .before .before .before .before .before .before .before .before .before .before .before .if2 .left) (sym (r .0) ∙ t)), λ z. r .1 t)
+    (sym (block-none _ _ _ _ (c .before .before .before .before .before .before .before .before .before .if1 .left) (c .before .before .before .before .before .before .before .before .if2 .left) (sym (r .0) ∙ t)), λ z. r .1 t)
 
 pub block-fault-spec : {M : Type 1} → statement M
 block-fault-spec =
@@ -64,9 +58,7 @@ block-fault-spec =
     good-range-requires
     same-length
     same-length-2
-    same-length-3
     returns-3
+    same-length-3
     same-length-4
-    same-length-5
-    same-length-6
     returns-4)

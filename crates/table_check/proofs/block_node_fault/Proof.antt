@@ -15,7 +15,7 @@ returns c = (sym (block-forward _ _ _ _ _ _ (c .if1 .taken)), (λ z. absurd (ome
 
 count-name-requires : tie.Need-count-name-requires
 count-name-requires c κs =
-    (omega (arith, c .before .before .before .before .before .before .before .before .pre .1 .1 .wide), omega (arith, c .before .before .before .before .before .before .before .before .pre .1 .1 .room (c .before .before .before .before .before .before .before .before .args .node .c)))
+    (omega (arith, c .before .before .before .before .before .before .before .pre .1 .1 .wide), omega (arith, c .before .before .before .before .before .before .before .pre .1 .1 .room (c .before .before .before .before .before .before .before .args .node .c)))
 
 block-fault-requires : tie.Need-block-fault-requires
 block-fault-requires c κs = search needs
@@ -29,13 +29,10 @@ same-length-2 c = search needs
 same-length-3 : tie.Need-same-length-3
 same-length-3 c = search needs
 
-same-length-4 : tie.Need-same-length-4
-same-length-4 c = search needs
-
 returns-2 : tie.Need-returns-2
 returns-2 c =
-    let r = c .before .before .before .before .before .before .block-fault .ensures in
-    (r .0 ∙ sym (block-backward _ _ _ _ _ _ (c .before .before .before .before .before .before .before .before .before .before .before .before .before .before .if1 .left)), (r .1, λ z x. c .before .before .before .before .before .before .before .before .before .before .before .before .count-name .ensures x))
+    let r = c .before .before .before .before .block-fault .ensures in
+    (r .0 ∙ sym (block-backward _ _ _ _ _ _ (c .before .before .before .before .before .before .before .before .before .before .before .if1 .left)), (r .1, λ z x. c .before .before .before .before .before .before .before .before .before .count-name .ensures x))
 
 pub block-node-fault-spec : {M : Type 1} → statement M
 block-node-fault-spec =
@@ -48,5 +45,4 @@ block-node-fault-spec =
     same-length
     same-length-2
     same-length-3
-    same-length-4
     returns-2)

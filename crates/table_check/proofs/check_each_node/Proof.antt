@@ -6,7 +6,7 @@ use Prim.Native.Nat.{_≤_, _-_}
 use Rattle.formula.specs.Words.{nodeCount}
 use Rattle.table_check.specs.Verdict.{refusal}
 use Rattle.table_check.specs.declared.Verdict.{Verdict}
-use Rattle.table_check.specs.Steps.{Chains, Counted}
+use Rattle.table_check.specs.Steps.{Earlier, Counted}
 use Rattle.table_check.proofs.Faults.{Checked, checked-none, checked-more, nodes-refused, nodes-passed}
 use borrow.Author.Needs.{needs}
 use native.Mathlib.Omega.{arith}
@@ -14,19 +14,19 @@ use Rattle.table_check.proofs.check_each_node.Statement.{statement}
 use Rattle.table_check.proofs.check_each_node.Tie as tie
 
 abbrev Inv-loop : tie.InvT-loop
-Inv-loop words list numbers₀ heads₀ prevs₀ named₀ n before₀ i₀ numbers heads prevs named before i =
-    (i ≤ nodeCount words) × Checked words list before i × Chains numbers heads prevs before × Counted words named i
+Inv-loop words list heads₀ prevs₀ named₀ n before₀ i₀ heads prevs named before i =
+    (i ≤ nodeCount words) × Checked words list before i × Earlier heads prevs before × Counted words named i
 
 abbrev μ-loop : tie.MeasureT-loop
-μ-loop words list numbers₀ heads₀ prevs₀ named₀ n before₀ i₀ numbers heads prevs named before i = nodeCount words - i
+μ-loop words list heads₀ prevs₀ named₀ n before₀ i₀ heads prevs named before i = nodeCount words - i
 
 loop-holds : tie.Need-loop-holds Inv-loop μ-loop
-loop-holds c = (omega arith, checked-none _ _, c .before .before .before .before .before .before .pre .1 .0, c .before .before .before .before .before .before .pre .1 .1)
+loop-holds c = (omega arith, checked-none _ _, c .before .before .before .before .before .pre .1 .0, c .before .before .before .before .before .pre .1 .1)
 
 node-fault-requires : tie.Need-node-fault-requires Inv-loop μ-loop
 node-fault-requires c κs =
-    let inv = c .before .before .before .before .before .before .loop .inv in
-    ((c .before .before .before .before .before .loop-test .taken, c .before .before .before .before .before .before .before .before .before .before .before .before .before .pre .0), ((inv .1 .counted, inv .1 .few), (inv .2, inv .3)))
+    let inv = c .before .before .before .before .before .loop .inv in
+    ((c .before .before .before .before .loop-test .taken, c .before .before .before .before .before .before .before .before .before .before .before .pre .0), ((inv .1 .counted, inv .1 .few), (inv .2, inv .3)))
 
 cast-answer : tie.Need-cast-answer Inv-loop μ-loop
 cast-answer c = search needs
@@ -43,18 +43,15 @@ same-length-2 c = search needs
 same-length-3 : tie.Need-same-length-3 Inv-loop μ-loop
 same-length-3 c = search needs
 
-same-length-4 : tie.Need-same-length-4 Inv-loop μ-loop
-same-length-4 c = search needs
-
 returns : tie.Need-returns Inv-loop μ-loop
 unfolding refusal
 returns c =
-    let i = c .before .before .before .before .before .before .before .before .before .before .before .before .before .before .before .before .before .loop .i in
-    let n = c .before .before .before .before .before .before .before .before .before .before .node-fault .ensures .0 in
+    let i = c .before .before .before .before .before .before .before .before .before .before .before .before .before .before .loop .i in
+    let n = c .before .before .before .before .before .before .before .before .node-fault .ensures .0 in
     let f = c .before .if1 .taken in (
       c .answer .ensures
           ∙ ap (λ f. refusal f i) n
-          ∙ sym (nodes-refused _ _ i (c .before .before .before .before .before .before .before .before .before .before .before .before .before .before .before .before .loop-test .taken) (c .before .before .before .before .before .before .before .before .before .before .before .before .before .before .before .before .before .loop .inv .1 .faultless) (λ z. f (n ∙ z))),
+          ∙ sym (nodes-refused _ _ i (c .before .before .before .before .before .before .before .before .before .before .before .before .before .loop-test .taken) (c .before .before .before .before .before .before .before .before .before .before .before .before .before .before .loop .inv .1 .faultless) (λ z. f (n ∙ z))),
       λ z. absurd (f (sym (ap (λ (v : Verdict). v .number) (c .answer .ensures)) ∙ z)),
     )
 
@@ -66,12 +63,15 @@ loop-less c = search needs
 
 loop-again : tie.Need-loop-again Inv-loop μ-loop
 loop-again c =
-    let r = c .before .before .before .before .before .before .before .before .before .node-fault .ensures in
+    let r = c .before .before .before .before .before .before .before .node-fault .ensures in
     let z = c .if1 .left in
-    (omega arith, checked-more _ _ _ _ _ (c .before .before .before .before .before .before .before .before .before .before .before .before .before .before .before .before .loop .inv .1) (sym (r .0) ∙ z) (r .1 .0 z), r .1 .1 .0 z, r .1 .1 .1 z)
+    (omega arith, checked-more _ _ _ _ _ (c .before .before .before .before .before .before .before .before .before .before .before .before .before .loop .inv .1) (sym (r .0) ∙ z) (r .1 .0 z), r .1 .1 .0 z, r .1 .1 .1 z)
 
 answer-requires-2 : tie.Need-answer-requires-2 Inv-loop μ-loop
 answer-requires-2 c κs = search needs
+
+same-length-4 : tie.Need-same-length-4 Inv-loop μ-loop
+same-length-4 c = search needs
 
 same-length-5 : tie.Need-same-length-5 Inv-loop μ-loop
 same-length-5 c = search needs
@@ -79,15 +79,9 @@ same-length-5 c = search needs
 same-length-6 : tie.Need-same-length-6 Inv-loop μ-loop
 same-length-6 c = search needs
 
-same-length-7 : tie.Need-same-length-7 Inv-loop μ-loop
-same-length-7 c = search needs
-
-same-length-8 : tie.Need-same-length-8 Inv-loop μ-loop
-same-length-8 c = search needs
-
 returns-2 : tie.Need-returns-2 Inv-loop μ-loop
 returns-2 c =
-    let all : nodeCount (c .before .before .before .before .before .before .before .before .before .args .words .now) ≡ c .before .before .loop .i = omega arith in
+    let all : nodeCount (c .before .before .before .before .before .before .before .before .args .words .now) ≡ c .before .before .loop .i = omega arith in
     (c .answer2 .ensures ∙ sym (nodes-passed _ _ (rw all (c .before .before .loop .inv .1 .faultless))), λ z. rw all (c .before .before .loop .inv .3))
 
 pub check-each-node-spec : {M : Type 1} → statement M
@@ -103,14 +97,12 @@ check-each-node-spec =
     same-length
     same-length-2
     same-length-3
-    same-length-4
     returns
     add-i
     loop-less
     loop-again
     answer-requires-2
+    same-length-4
     same-length-5
     same-length-6
-    same-length-7
-    same-length-8
     returns-2)

@@ -1,6 +1,6 @@
--- `table_check::check_nodes` meets its contract: three new arrays chain no entry.
+-- `table_check::check_nodes` meets its contract: two new arrays chain no entry.
 -- Assumes nothing.
-use Rattle.table_check.proofs.Chains.{chains-new}
+use Rattle.table_check.proofs.Chains.{earlier-new}
 use borrow.Author.Needs.{needs}
 use Rattle.table_check.proofs.check_nodes.Statement.{statement}
 use Rattle.table_check.proofs.check_nodes.Tie as tie
@@ -11,11 +11,8 @@ slice-aggregate-check-each-node c = search needs
 slice-aggregate-check-each-node-2 : tie.Need-slice-aggregate-check-each-node-2
 slice-aggregate-check-each-node-2 c = search needs
 
-slice-aggregate-check-each-node-3 : tie.Need-slice-aggregate-check-each-node-3
-slice-aggregate-check-each-node-3 c = search needs
-
 check-each-node-requires : tie.Need-check-each-node-requires
-check-each-node-requires c κs = (c .before .before .before .before .before .before .before .pre .0, (chains-new, c .before .before .before .before .before .before .before .pre .1))
+check-each-node-requires c κs = (c .before .before .before .before .before .before .pre .0, (earlier-new, c .before .before .before .before .before .before .pre .1))
 
 same-length : tie.Need-same-length
 same-length c = search needs
@@ -29,7 +26,6 @@ check-nodes-spec =
     (tie.spec
     slice-aggregate-check-each-node
     slice-aggregate-check-each-node-2
-    slice-aggregate-check-each-node-3
     check-each-node-requires
     same-length
     returns)

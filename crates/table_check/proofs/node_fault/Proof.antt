@@ -23,14 +23,14 @@ variable-fault-requires c κs = search needs
 returns : tie.Need-returns
 unfolding isBlockKind namedBy pick
 returns c =
-    let a = c .before .before .before .before .before .before .before .before .before .before .args in
+    let a = c .before .before .before .before .before .before .before .before .before .args in
     let e = c .before .before .before .node-at .ensures in
     let k = sym (e .0) ∙ c .before .if1 .taken in
     let r = rw (e .1, e .2, e .3) at (c .variable-fault .ensures (a .i)) in
-    (r ∙ sym (fault-words _ _ _ 2 k refl), (λ z. sym (binds-none (a .words .now) (a .i) (a .before .now) 2 k refl), (λ z. c .before .before .before .before .before .before .before .before .before .before .pre .1 .1 .0, λ z. counted-still _ _ _ 2 k refl (c .before .before .before .before .before .before .before .before .before .before .pre .1 .1 .1))))
+    (r ∙ sym (fault-words _ _ _ 2 k refl), (λ z. sym (binds-none (a .words .now) (a .i) (a .before .now) 2 k refl), (λ z. c .before .before .before .before .before .before .before .before .before .pre .1 .1 .0, λ z. counted-still _ _ _ 2 k refl (c .before .before .before .before .before .before .before .before .before .pre .1 .1 .1))))
 
 operator-fault-requires : tie.Need-operator-fault-requires
-operator-fault-requires c κs = counted-room _ _ _ (omega (arith, c .before .before .before .before .before .before .before .before .before .before .before .before .pre .0)) (c .before .before .before .before .before .before .before .before .before .before .before .before .pre .1 .1 .1)
+operator-fault-requires c κs = counted-room _ _ _ (omega (arith, c .before .before .before .before .before .before .before .before .before .before .before .pre .0)) (c .before .before .before .before .before .before .before .before .before .before .before .pre .1 .1 .1)
 
 same-length : tie.Need-same-length
 same-length c = search needs
@@ -38,23 +38,23 @@ same-length c = search needs
 returns-2 : tie.Need-returns-2
 unfolding isBlockKind
 returns-2 c =
-    let a = c .before .before .before .before .before .before .before .before .before .before .before .before .before .before .before .args in
+    let a = c .before .before .before .before .before .before .before .before .before .before .before .before .before .before .args in
     let e = c .before .before .before .before .before .before .before .before .node-at .ensures in
     let k = sym (e .0) ∙ c .before .before .before .before .if2 .taken in
     let r = rw (e .1, e .2, e .3) at (c .before .before .operator-fault .ensures) in
-    (r .0 ∙ sym (fault-words _ _ _ 4 k refl), (λ z. sym (binds-none (a .words .now) (a .i) (a .before .now) 4 k refl), (λ z. c .before .before .before .before .before .before .before .before .before .before .before .before .before .before .before .pre .1 .1 .0, λ z. counted-more _ _ _ _ 4 k (c .before .before .operator-fault .kept .1 .1 .1 .1 .0) (c .before .before .before .before .before .before .before .before .before .before .before .before .before .before .before .pre .1 .1 .1) (r .1 z))))
+    (r .0 ∙ sym (fault-words _ _ _ 4 k refl), (λ z. sym (binds-none (a .words .now) (a .i) (a .before .now) 4 k refl), (λ z. c .before .before .before .before .before .before .before .before .before .before .before .before .before .before .pre .1 .1 .0, λ z. counted-more _ _ _ _ 4 k (c .before .before .operator-fault .kept .1 .1 .1 .1 .0) (c .before .before .before .before .before .before .before .before .before .before .before .before .before .before .pre .1 .1 .1) (r .1 z))))
 
 is-block-kind-requires : tie.Need-is-block-kind-requires
 is-block-kind-requires c κs = search needs
 
 block-node-fault-requires : tie.Need-block-node-fault-requires
-block-node-fault-requires c κs = (c .before .before .before .before .before .before .before .before .before .before .before .before .before .before .before .before .before .before .pre .1 .0 .1, (c .before .before .before .before .before .before .before .before .before .before .before .before .before .before .before .before .before .before .pre .1 .1 .0, counted-room _ _ _ (omega (arith, c .before .before .before .before .before .before .before .before .before .before .before .before .before .before .before .before .before .before .pre .0)) (c .before .before .before .before .before .before .before .before .before .before .before .before .before .before .before .before .before .before .pre .1 .1 .1)))
+block-node-fault-requires c κs = (c .before .before .before .before .before .before .before .before .before .before .before .before .before .before .before .before .pre .1 .0 .1, (c .before .before .before .before .before .before .before .before .before .before .before .before .before .before .before .before .pre .1 .1 .0, counted-room _ _ _ (omega (arith, c .before .before .before .before .before .before .before .before .before .before .before .before .before .before .before .before .pre .0)) (c .before .before .before .before .before .before .before .before .before .before .before .before .before .before .before .before .pre .1 .1 .1)))
 
 cast-before : tie.Need-cast-before
 cast-before c = search needs
 
 add-before : tie.Need-add-before
-add-before c = omega (arith, c .before .before .before .before .before .before .before .before .before .before .before .before .before .before .before .before .before .before .before .before .before .before .before .before .before .before .before .before .pre .1 .0 .1, c .struct-known3)
+add-before c = omega (arith, c .before .before .before .before .before .before .before .before .before .before .before .before .before .before .before .before .before .before .before .before .before .before .before .before .pre .1 .0 .1, c .struct-known3)
 
 same-length-2 : tie.Need-same-length-2
 same-length-2 c = search needs
@@ -65,33 +65,30 @@ same-length-3 c = search needs
 same-length-4 : tie.Need-same-length-4
 same-length-4 c = search needs
 
-same-length-5 : tie.Need-same-length-5
-same-length-5 c = search needs
-
 returns-3 : tie.Need-returns-3
 returns-3 c =
-    let a = c .before .before .before .before .before .before .before .before .before .before .before .before .before .before .before .before .before .before .before .before .before .before .before .before .before .before .before .before .args in
-    let e = c .before .before .before .before .before .before .before .before .before .before .before .before .before .before .before .before .before .before .before .before .before .node-at .ensures in
-    let k = rw (e .0) at (sym (c .before .before .before .before .before .before .before .before .before .before .before .before .before .before .before .before .is-block-kind .ensures) ∙ c .before .before .before .before .before .before .before .before .before .before .before .before .before .before .before .if3 .taken) in
-    let r = c .before .before .before .before .before .before .before .before .before .block-node-fault in
-    let f = rw (e .1, e .2, e .3, c .before .before .before .before .before .before .before .before .before .before .before .before .before .before .before .before .before .before .before .before .before .before .before .before .before .before .before .before .pre .1 .0 .0) at (r .ensures .0) in
+    let a = c .before .before .before .before .before .before .before .before .before .before .before .before .before .before .before .before .before .before .before .before .before .before .before .before .args in
+    let e = c .before .before .before .before .before .before .before .before .before .before .before .before .before .before .before .before .before .before .node-at .ensures in
+    let k = rw (e .0) at (sym (c .before .before .before .before .before .before .before .before .before .before .before .before .before .is-block-kind .ensures) ∙ c .before .before .before .before .before .before .before .before .before .before .before .before .if3 .taken) in
+    let r = c .before .before .before .before .before .before .before .block-node-fault in
+    let f = rw (e .1, e .2, e .3, c .before .before .before .before .before .before .before .before .before .before .before .before .before .before .before .before .before .before .before .before .before .before .before .before .pre .1 .0 .0) at (r .ensures .0) in
     let named = rw (e .3, ← names-block (field (a .words .now) (a .i) 0) (field (a .words .now) (a .i) 1) (field (a .words .now) (a .i) 2) (field (a .words .now) (a .i) 3) k) at (r .ensures .1 .1) in
-    (f ∙ sym (fault-block _ _ _ k), (λ z. ap (λ n. a .before .now + n) (e .2 ∙ sym (count-block _ _ k)), (r .ensures .1 .0, λ z. counted-more _ _ _ _ _ refl (r .kept .1 .1 .1 .1 .0) (c .before .before .before .before .before .before .before .before .before .before .before .before .before .before .before .before .before .before .before .before .before .before .before .before .before .before .before .before .pre .1 .1 .1) (named z))))
+    (f ∙ sym (fault-block _ _ _ k), (λ z. ap (λ n. a .before .now + n) (e .2 ∙ sym (count-block _ _ k)), (r .ensures .1 .0, λ z. counted-more _ _ _ _ _ refl (r .kept .1 .1 .1 .0) (c .before .before .before .before .before .before .before .before .before .before .before .before .before .before .before .before .before .before .before .before .before .before .before .before .pre .1 .1 .1) (named z))))
 
 negation-fault-requires : tie.Need-negation-fault-requires
-negation-fault-requires c κs = counted-room _ _ _ (omega (arith, c .before .before .before .before .before .before .before .before .before .before .before .before .before .before .before .before .pre .0)) (c .before .before .before .before .before .before .before .before .before .before .before .before .before .before .before .before .pre .1 .1 .1)
+negation-fault-requires c κs = counted-room _ _ _ (omega (arith, c .before .before .before .before .before .before .before .before .before .before .before .before .before .before .before .pre .0)) (c .before .before .before .before .before .before .before .before .before .before .before .before .before .before .before .pre .1 .1 .1)
 
-same-length-6 : tie.Need-same-length-6
-same-length-6 c = search needs
+same-length-5 : tie.Need-same-length-5
+same-length-5 c = search needs
 
 returns-4 : tie.Need-returns-4
 unfolding isBlockKind
 returns-4 c =
-    let a = c .before .before .before .before .before .before .before .before .before .before .before .before .before .before .before .before .before .before .before .args in
+    let a = c .before .before .before .before .before .before .before .before .before .before .before .before .before .before .before .before .before .before .args in
     let e = c .before .before .before .before .before .before .before .before .before .before .before .before .node-at .ensures in
     let k = sym (e .0) ∙ c .before .before .before .before .if4 .taken in
     let r = rw (e .1, e .2, e .3) at (c .before .before .negation-fault .ensures) in
-    (r .0 ∙ sym (fault-words _ _ _ 3 k refl), (λ z. sym (binds-none (a .words .now) (a .i) (a .before .now) 3 k refl), (λ z. c .before .before .before .before .before .before .before .before .before .before .before .before .before .before .before .before .before .before .before .pre .1 .1 .0, λ z. counted-more _ _ _ _ 3 k (c .before .before .negation-fault .kept .1 .1 .1 .1 .0) (c .before .before .before .before .before .before .before .before .before .before .before .before .before .before .before .before .before .before .before .pre .1 .1 .1) (r .1 z))))
+    (r .0 ∙ sym (fault-words _ _ _ 3 k refl), (λ z. sym (binds-none (a .words .now) (a .i) (a .before .now) 3 k refl), (λ z. c .before .before .before .before .before .before .before .before .before .before .before .before .before .before .before .before .before .before .pre .1 .1 .0, λ z. counted-more _ _ _ _ 3 k (c .before .before .negation-fault .kept .1 .1 .1 .1 .0) (c .before .before .before .before .before .before .before .before .before .before .before .before .before .before .before .before .before .before .pre .1 .1 .1) (r .1 z))))
 
 constant-fault-requires : tie.Need-constant-fault-requires
 constant-fault-requires c κs = search needs
@@ -99,11 +96,11 @@ constant-fault-requires c κs = search needs
 returns-5 : tie.Need-returns-5
 unfolding isBlockKind namedBy pick
 returns-5 c =
-    let a = c .before .before .before .before .before .before .before .before .before .before .before .before .before .before .before .before .before .before .args in
+    let a = c .before .before .before .before .before .before .before .before .before .before .before .before .before .before .before .before .before .args in
     let e = c .before .before .before .before .before .before .before .before .before .before .before .node-at .ensures in
     let k = sym (e .0) ∙ c .before .if5 .taken in
     let r = rw (e .1, e .2, e .3) at (c .constant-fault .ensures (a .i)) in
-    (r ∙ sym (fault-words _ _ _ 1 k refl), (λ z. sym (binds-none (a .words .now) (a .i) (a .before .now) 1 k refl), (λ z. c .before .before .before .before .before .before .before .before .before .before .before .before .before .before .before .before .before .before .pre .1 .1 .0, λ z. counted-still _ _ _ 1 k refl (c .before .before .before .before .before .before .before .before .before .before .before .before .before .before .before .before .before .before .pre .1 .1 .1))))
+    (r ∙ sym (fault-words _ _ _ 1 k refl), (λ z. sym (binds-none (a .words .now) (a .i) (a .before .now) 1 k refl), (λ z. c .before .before .before .before .before .before .before .before .before .before .before .before .before .before .before .before .before .pre .1 .1 .0, λ z. counted-still _ _ _ 1 k refl (c .before .before .before .before .before .before .before .before .before .before .before .before .before .before .before .before .before .pre .1 .1 .1))))
 
 returns-6 : tie.Need-returns-6
 returns-6 c =
@@ -132,10 +129,9 @@ node-fault-spec =
     same-length-2
     same-length-3
     same-length-4
-    same-length-5
     returns-3
     negation-fault-requires
-    same-length-6
+    same-length-5
     returns-4
     constant-fault-requires
     returns-5

@@ -1,8 +1,7 @@
--- `table_check::push` meets its contract: the three stores are those that `chains-more` speaks of.
+-- `table_check::push` meets its contract: its stores are the two that it speaks of.
 -- Assumes nothing.
 use mathlib.Core.Path.{refl}
 use borrow.Author.Needs.{needs}
-use Rattle.table_check.proofs.Chains.{chains-more}
 use Rattle.table_check.proofs.push.Statement.{statement}
 use Rattle.table_check.proofs.push.Tie as tie
 
@@ -17,12 +16,6 @@ mul-prevs c = search needs
 
 slice-write-prevs : tie.Need-slice-write-prevs
 slice-write-prevs c = search needs
-
-mul-numbers : tie.Need-mul-numbers
-mul-numbers c = search needs
-
-slice-write-numbers : tie.Need-slice-write-numbers
-slice-write-numbers c = search needs
 
 add-heads : tie.Need-add-heads
 add-heads c = search needs
@@ -42,11 +35,8 @@ same-length c = search needs
 same-length-2 : tie.Need-same-length-2
 same-length-2 c = search needs
 
-same-length-3 : tie.Need-same-length-3
-same-length-3 c = search needs
-
 returns : tie.Need-returns
-returns c = (refl, chains-more _ _ _ _ (c .before .pre .0) (c .before .pre .1) _)
+returns c = (refl, refl)
 
 pub push-spec : {M : Type 1} → statement M
 push-spec =
@@ -56,13 +46,10 @@ push-spec =
     slice-read-head
     mul-prevs
     slice-write-prevs
-    mul-numbers
-    slice-write-numbers
     add-heads
     cast-heads
     mul-heads
     slice-write-heads
     same-length
     same-length-2
-    same-length-3
     returns)

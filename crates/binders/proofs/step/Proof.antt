@@ -1,0 +1,227 @@
+-- `binders::step` meets its contract: it leaves a block, passes a variable node, or enters a block.
+-- Assumes nothing.
+use mathlib.Core.Path.{_≡_, refl, sym, _∙_}
+use mathlib.Core.Bool.{true}
+use Prim.Native.Nat.{ℕ, suc, _-_}
+use native.Mathlib.Omega.{arith}
+use borrow.Author.Needs.{needs}
+use Rattle.formula.specs.Node.{isBlock}
+use Rattle.formula.specs.Words.{tableOf}
+use Rattle.binders.proofs.Tables.{kind-block}
+use Rattle.binders.proofs.Walked.{block-left, Indexed, indexed, start-at, leaves, link-lt, link-is-member, link-open, passes, enters}
+use Rattle.binders.proofs.step.Statement.{statement}
+use Rattle.binders.proofs.step.Tie as tie
+
+-- the function's entry
+abbrev entry : tie.After-struct-known → tie.Start
+entry c = c .before .before .before .before .before .before .before .before .before .before .before
+
+-- what the arrays have a place for
+abbrev Known : tie.Start → ℕ → Type 0
+Known s i = Indexed (s .args .words .now) (s .args .parents .now) (s .args .firsts .now) (s .args .nexts .now) (s .args .starts .now) i
+
+-- the block that it leaves
+left : (c : tie.Then1) → Known (entry (c .before)) (entry (c .before) .args .place .scope)
+left c =
+    let s = entry (c .before) in
+    indexed (s .pre .0) _ (block-left (s .pre .1 .0) (s .pre .1 .1) (c .if1 .taken))
+
+-- the node that it comes by
+at-node : (c : tie.Else1) → entry (c .before) .args .place .link ≡ suc (entry (c .before) .args .place .link - 1)
+at-node c = let n = c .if1 .left in omega arith
+
+come-by : (c : tie.Else1) → Known (entry (c .before)) (entry (c .before) .args .place .link - 1)
+come-by c =
+    let s = entry (c .before) in
+    indexed (s .pre .0) _ (link-lt (s .pre .1 .0) (at-node c))
+
+-- where its words have been read
+abbrev read : tie.After-struct-known3 → tie.Else1
+read c = c .before .before .before
+
+-- it is a block
+block-here : (c : tie.Else2) → isBlock (tableOf (entry (read (c .before) .before) .args .words .now) (entry (read (c .before) .before) .args .list .now) .node (entry (read (c .before) .before) .args .place .link - 1)) ≡ true
+unfolding tableOf
+block-here c =
+    let e = read (c .before) in
+    let s = entry (e .before) in
+    kind-block _ _ _ (λ k. c .if2 .left (c .before .before .node-at .ensures .0 ∙ k)) (link-is-member (s .pre .1 .0) (at-node e))
+
+mul-leave : tie.Need-mul-leave
+mul-leave c = search needs
+
+shared-slice-read-leave : tie.Need-shared-slice-read-leave
+shared-slice-read-leave c = omega (arith, left (c .before .before .before .before))
+
+cast-leave : tie.Need-cast-leave
+cast-leave c = omega (arith, c .shared-slice-known7 .given (entry (c .before .before .before .before .before) .args .place .scope))
+
+leave-requires : tie.Need-leave-requires
+unfolding tableOf
+leave-requires c κs =
+    let k = left (c .before .before .before .before) in
+    let s = entry (c .before .before .before .before .before) in
+    let b = s .pre .1 .0 .scope-block (k .below) in
+    (s .pre .0 .accepts, ((k .below, b), (start-at (s .pre .0) _ (k .below) b, s .pre .1 .0 .opened)))
+
+mul-t23 : tie.Need-mul-t23
+mul-t23 c = search needs
+
+shared-slice-read-t25 : tie.Need-shared-slice-read-t25
+shared-slice-read-t25 c = omega (arith, left (c .before .before .before .before .before .before .before .before))
+
+cast-t26 : tie.Need-cast-t26
+cast-t26 c = omega (arith, c .shared-slice-known8 .given (entry (c .before .before .before .before .before .before .before .before .before) .args .place .scope))
+
+mul-t28 : tie.Need-mul-t28
+mul-t28 c = search needs
+
+shared-slice-read-t30 : tie.Need-shared-slice-read-t30
+shared-slice-read-t30 c = omega (arith, left (c .before .before .before .before .before .before .before .before .before))
+
+same-length : tie.Need-same-length
+same-length c = search needs
+
+same-length-2 : tie.Need-same-length-2
+same-length-2 c = search needs
+
+same-length-3 : tie.Need-same-length-3
+same-length-3 c = search needs
+
+returns : tie.Need-returns
+returns c =
+    let t = c .before .before .before .before .before .before .before .before .before in
+    let s = entry (t .before) in
+    leaves (s .pre .0) (s .pre .1 .0) _ (t .if1 .taken) (left t .below) refl refl (c .before .before .before .before .leave .ensures)
+
+cast-i : tie.Need-cast-i
+cast-i c = search needs
+
+sub-i : tie.Need-sub-i
+sub-i c = search needs
+
+node-at-requires : tie.Need-node-at-requires
+node-at-requires c κs = come-by (c .before) .in-words
+
+look-up-requires : tie.Need-look-up-requires
+look-up-requires c κs =
+    let e = read (c .before .before .before .before) in
+    let s = entry (e .before) in
+    let k = sym (c .before .before .before .before .before .node-at .ensures .0) ∙ c .before .before .before .if2 .taken in
+    (s .pre .0 .accepts, ((come-by e .below, k), link-open (s .pre .1 .0) (at-node e)))
+
+mul-bindings : tie.Need-mul-bindings
+mul-bindings c = search needs
+
+slice-write-bindings : tie.Need-slice-write-bindings
+slice-write-bindings c =
+    let e = read (c .before .before .before .before .before .before .before) in
+    let s = entry (e .before) in omega (arith, come-by e, s .pre .1 .0 .bindings-length, s .pre .0)
+
+mul-t39 : tie.Need-mul-t39
+mul-t39 c = search needs
+
+shared-slice-read-t32 : tie.Need-shared-slice-read-t32
+shared-slice-read-t32 c = omega (arith, come-by (read (c .before .before .before .before .before .before .before .before)))
+
+same-length-4 : tie.Need-same-length-4
+same-length-4 c = search needs
+
+same-length-5 : tie.Need-same-length-5
+same-length-5 c = search needs
+
+same-length-6 : tie.Need-same-length-6
+same-length-6 c = search needs
+
+same-length-7 : tie.Need-same-length-7
+same-length-7 c = search needs
+
+returns-2 : tie.Need-returns-2
+returns-2 c =
+    let y = c .before .before .before .before .before .before .before in
+    let e = read (y .before) in
+    let s = entry (e .before) in
+    let f = c .before .before .before .look-up .ensures in
+    passes (s .pre .0) (s .pre .1 .0) _ (at-node e) _
+    (sym (y .before .before .node-at .ensures .0) ∙ y .if2 .taken) (f .0) (f .1) refl refl
+
+mul-enter : tie.Need-mul-enter
+mul-enter c = search needs
+
+shared-slice-read-enter : tie.Need-shared-slice-read-enter
+shared-slice-read-enter c = omega (arith, come-by (read (c .before .before .before .before .before)))
+
+cast-enter : tie.Need-cast-enter
+cast-enter c = omega (arith, c .shared-slice-known11 .given (entry (read (c .before .before .before .before .before) .before) .args .place .link - 1))
+
+enter-requires : tie.Need-enter-requires
+unfolding tableOf
+enter-requires c κs =
+    let e = read (c .before .before .before .before .before) in
+    let s = entry (e .before) in
+    let k = come-by e .below in
+    let b = block-here (c .before .before .before .before) in
+    (s .pre .0 .accepts, ((k, b), (start-at (s .pre .0) _ k b, link-open (s .pre .1 .0) (at-node e))))
+
+mul-t31 : tie.Need-mul-t31
+mul-t31 c = search needs
+
+shared-slice-read-t50 : tie.Need-shared-slice-read-t50
+shared-slice-read-t50 c = omega (arith, come-by (read (c .before .before .before .before .before .before .before .before .before .before .before .before .before)))
+
+same-length-8 : tie.Need-same-length-8
+same-length-8 c = search needs
+
+same-length-9 : tie.Need-same-length-9
+same-length-9 c = search needs
+
+same-length-10 : tie.Need-same-length-10
+same-length-10 c = search needs
+
+returns-3 : tie.Need-returns-3
+returns-3 c =
+    let n = c .before .before .before .before .before .before .before .before .before .before .before .before in
+    let e = read (n .before) in
+    let s = entry (e .before) in
+    enters (s .pre .0) (s .pre .1 .0) _ (at-node e) (block-here n) refl refl (c .before .before .before .before .before .before .before .enter .ensures)
+
+pub step-spec : {M : Type 1} → statement M
+step-spec =
+    tie.close
+    (tie.spec
+    mul-leave
+    shared-slice-read-leave
+    cast-leave
+    leave-requires
+    mul-t23
+    shared-slice-read-t25
+    cast-t26
+    mul-t28
+    shared-slice-read-t30
+    same-length
+    same-length-2
+    same-length-3
+    returns
+    cast-i
+    sub-i
+    node-at-requires
+    look-up-requires
+    mul-bindings
+    slice-write-bindings
+    mul-t39
+    shared-slice-read-t32
+    same-length-4
+    same-length-5
+    same-length-6
+    same-length-7
+    returns-2
+    mul-enter
+    shared-slice-read-enter
+    cast-enter
+    enter-requires
+    mul-t31
+    shared-slice-read-t50
+    same-length-8
+    same-length-9
+    same-length-10
+    returns-3)

@@ -1,0 +1,201 @@
+-- The pass that chains the nodes of an accepted table, step by step.
+-- Assumes nothing.
+use mathlib.Core.Path.{_≡_, _∙_}
+use mathlib.Core.Bool.{true, false}
+use mathlib.Core.List.{List}
+use Prim.Native.Nat.{ℕ, suc, _+_, _-_, _<_, _≤_, max}
+use native.Mathlib.Numerals.{add-one}
+use native.Mathlib.Omega.{arith}
+use lib.ListN.{length, getD, set, length-set}
+use lib.Seq.{getD-set-same, getD-set-other}
+use Rattle.lists.specs.Choice.{clash}
+use Rattle.lists.specs.Parts.{highest}
+use Rattle.formula.specs.Node.{isBlock}
+use Rattle.formula.specs.declared.NodeWords.{NodeWords}
+use Rattle.formula.specs.Words.{nodeCount, range, nodeAt, tableOf}
+use Rattle.formula.specs.Tree.{count, boundBelow}
+use Rattle.table_check.specs.Verdict.{limit, verdict, accepted}
+use Rattle.table_check.proofs.Accepted.{accepted-holds}
+use Rattle.prenex_form.specs.Scope.{inner, level}
+use Rattle.prenex_form.specs.Names.{maximum, highestAt, highestNumber, boundCount}
+use Rattle.arrays.specs.Held.{enclosing, isMember, Parents, NodeLevels, LevelChains, MemberChains, Starts}
+use Rattle.arrays.proofs.Enclosing.{enclosing-le}
+use Rattle.arrays.proofs.Entries.{boundBelow-next, boundBelow-grows}
+use Rattle.scopes.specs.declared.Passed.{Passed}
+use Rattle.scopes.specs.Passes.{Cleared, LevelsFrom, MembersFrom, ChainedFrom}
+use Rattle.scopes.proofs.Nodes.{accepted-tree, nodes-few, ReadAt, kind-read, variable-read, plain-member, plain-highest, block-highest}
+use Rattle.scopes.proofs.Scopes.{level-small, outer-plain, outer-root, inner-rest}
+use Rattle.scopes.proofs.Counting.{bound-none, from-here, count-read}
+use Rattle.scopes.proofs.Chains.{chains-start, chains-skip, chains-put, chains-end}
+use Rattle.scopes.proofs.Highest.{highest-next}
+
+module _ (ws ls : List ℕ) (ok : verdict ws ls ≡ accepted) (i : ℕ) (h : i < nodeCount ws) where
+  -- the keys of a node as the arrays hold them, which index the arrays of the first nodes
+
+  module _ (ps : List ℕ) (held : Parents (tableOf ws ls) ps) where
+    parent-read : getD ps i 0 ≡ enclosing (tableOf ws ls) i
+    unfolding tableOf
+    parent-read = held .parent-is i h
+
+    pub parent-small : getD ps i 0 ≤ limit
+    unfolding tableOf
+    parent-small = omega (arith, parent-read, enclosing-le (tableOf ws ls) (accepted-tree ws ls ok) i, nodes-few ws ls ok)
+
+    pub member-chained : (fs ns fs' ns' : List ℕ) → isMember (nodeAt ws ls i) ≡ true → length fs ≡ suc limit → length ns ≡ limit
+        → MembersFrom (tableOf ws ls) (i + 1) fs ns → fs' ≡ set fs (getD ps i 0) (suc i) → ns' ≡ set ns i (getD fs (getD ps i 0) 0)
+        → MembersFrom (tableOf ws ls) i fs' ns'
+    unfolding tableOf
+    member-chained fs ns fs' ns' m w v s =
+        chains-put (λ j. isMember (nodeAt ws ls j)) (enclosing (tableOf ws ls)) (nodeCount ws) i fs ns h m
+        (omega (arith, parent-read, parent-small)) (omega (arith, nodes-few ws ls ok)) (rw add-one at s) (getD ps i 0) fs' ns' parent-read
+
+  module _ (vs : List ℕ) (held : NodeLevels (tableOf ws ls) vs) where
+    level-read : getD vs i 0 ≡ level (tableOf ws ls) i
+    unfolding tableOf
+    level-read = held .level-is i h
+
+    pub level-index : getD vs i 0 < limit
+    level-index = rw level-read (level-small ws ls ok i h)
+
+    pub inner-chained : (fs ns fs' ns' : List ℕ) → isBlock (nodeAt ws ls i) ≡ true → (i + 1 ≡ nodeCount ws → ⊥) → length fs ≡ limit → length ns ≡ limit
+        → LevelsFrom (tableOf ws ls) (i + 1) fs ns → fs' ≡ set fs (getD vs i 0) (suc i) → ns' ≡ set ns i (getD fs (getD vs i 0) 0)
+        → LevelsFrom (tableOf ws ls) i fs' ns'
+    unfolding tableOf
+    inner-chained fs ns fs' ns' e n w v s =
+        chains-put (inner (tableOf ws ls)) (level (tableOf ws ls)) (nodeCount ws) i fs ns h (inner-rest (tableOf ws ls) i e (rw add-one at n))
+        (omega (arith, level-small ws ls ok i h)) (omega (arith, nodes-few ws ls ok)) (rw add-one at s) (getD vs i 0) fs' ns' level-read
+
+  outer-chained : (fs ns : List ℕ) → inner (tableOf ws ls) i ≡ false → LevelsFrom (tableOf ws ls) (i + 1) fs ns → LevelsFrom (tableOf ws ls) i fs ns
+  outer-chained fs ns o s = chains-skip (inner (tableOf ws ls)) (level (tableOf ws ls)) (tableOf ws ls .size) i fs ns o (rw add-one at s)
+
+  pub root-chained : (fs ns : List ℕ) → i + 1 ≡ nodeCount ws → LevelsFrom (tableOf ws ls) (i + 1) fs ns → LevelsFrom (tableOf ws ls) i fs ns
+  unfolding tableOf
+  root-chained fs ns z s = outer-chained fs ns (outer-root (tableOf ws ls) i (rw add-one at z)) s
+
+  -- a block's entries lie within the list, and there are no more than entries up to it
+  module _ (w : NodeWords) (r : ReadAt ws i w) (e : isBlock (nodeAt ws ls i) ≡ true) where
+    pub entries-within : w .a + w .b ≤ length ls
+    entries-within = omega (arith, r .1, r .2, accepted-holds ws ls ok .fits i h (kind-read ws ls i w r e))
+
+    start-before : boundBelow (tableOf ws ls) (i + 1) ≡ boundBelow (tableOf ws ls) i + w .b
+    start-before = rw (add-one, count-read ws ls ok i h w r e) (boundBelow-next (tableOf ws ls) i)
+
+  start-small : boundBelow (tableOf ws ls) (i + 1) ≤ limit
+  start-small = omega (arith, boundBelow-grows (tableOf ws ls) (i + 1) (nodeCount ws) (omega arith), accepted-holds ws ls ok .counts-limit)
+
+  module _ (lfs lns mfs mns starts : List ℕ) (p : Passed) (s : ChainedFrom (tableOf ws ls) (i + 1) lfs lns mfs mns starts p) where
+    -- what the nodes above were given stays
+    above-same : isBlock (nodeAt ws ls i) ≡ false
+        → (j : ℕ) → i ≤ j → j < tableOf ws ls .size → isBlock (tableOf ws ls .node j) ≡ true → getD starts j 0 ≡ boundBelow (tableOf ws ls) j
+    unfolding tableOf
+    above-same e =
+        from-here (tableOf ws ls) (λ j. isBlock (nodeAt ws ls j) ≡ true → getD starts j 0 ≡ boundBelow (tableOf ws ls) j) i (λ y. clash y e)
+        (λ j k l y. s .start-is j (omega arith) l y)
+
+    start-same : isBlock (nodeAt ws ls i) ≡ false → p .start ≡ boundBelow (tableOf ws ls) i
+    unfolding tableOf count
+    start-same e =
+        let q : boundBelow (tableOf ws ls) (i + 1) ≡ boundBelow (tableOf ws ls) i + count (tableOf ws ls) i = rw add-one (boundBelow-next (tableOf ws ls) i) in
+        omega (arith, s .start-here, q, bound-none (nodeAt ws ls i) e)
+
+    highest-with : (x : ℕ) → highestAt (nodeAt ws ls i) ≡ x
+        → max (highest (λ j. highestAt (tableOf ws ls .node j)) i) (max (p .highest) x) ≡ highestNumber (tableOf ws ls)
+    unfolding tableOf
+    highest-with x e = omega (arith, e, s .highest-is, highest-next (λ j. highestAt (nodeAt ws ls j)) i)
+
+    pub plain-passed : (w : NodeWords) → ReadAt ws i w → (w .kind ≡ 2 → ⊥) → isBlock (nodeAt ws ls i) ≡ false
+        → ChainedFrom (tableOf ws ls) i lfs lns mfs mns starts p
+    unfolding tableOf
+    plain-passed w r n e =
+        let m = plain-member ws ls i w r n e in
+        record {
+          level-firsts-length = s .level-firsts-length;
+          level-nexts-length = s .level-nexts-length;
+          member-firsts-length = s .member-firsts-length;
+          member-nexts-length = s .member-nexts-length;
+          starts-length = s .starts-length;
+          levels-linked = outer-chained lfs lns (outer-plain (tableOf ws ls) i e) (s .levels-linked);
+          members-linked = chains-skip (λ j. isMember (nodeAt ws ls j)) (enclosing (tableOf ws ls)) (nodeCount ws) i mfs mns m (rw add-one at (s .members-linked));
+          start-is = above-same e;
+          start-here = start-same e;
+          highest-is = omega (arith, highest-with 0 (plain-highest (nodeAt ws ls i) m));
+        }
+
+    module _ (mfs' mns' : List ℕ) (fl : length mfs' ≡ length mfs) (nl : length mns' ≡ length mns) (members : MembersFrom (tableOf ws ls) i mfs' mns') where
+      pub variable-passed : (w : NodeWords) → ReadAt ws i w → w .kind ≡ 2
+          → ChainedFrom (tableOf ws ls) i lfs lns mfs' mns' starts (record { start = p .start; highest = max (p .highest) (w .a) })
+      unfolding tableOf isBlock highestAt
+      variable-passed w r k =
+          let v = variable-read ws ls i w r k in
+          let e : isBlock (nodeAt ws ls i) ≡ false = rw v in
+          record {
+            level-firsts-length = s .level-firsts-length;
+            level-nexts-length = s .level-nexts-length;
+            member-firsts-length = fl ∙ s .member-firsts-length;
+            member-nexts-length = nl ∙ s .member-nexts-length;
+            starts-length = s .starts-length;
+            levels-linked = outer-chained lfs lns (outer-plain (tableOf ws ls) i e) (s .levels-linked);
+            members-linked = members;
+            start-is = above-same e;
+            start-here = start-same e;
+            highest-is = highest-with (w .a) (rw v);
+          }
+
+      pub block-passed : (lfs' lns' : List ℕ) → length lfs' ≡ length lfs → length lns' ≡ length lns → LevelsFrom (tableOf ws ls) i lfs' lns'
+          → (w : NodeWords) → ReadAt ws i w → isBlock (nodeAt ws ls i) ≡ true
+          → ChainedFrom (tableOf ws ls) i lfs' lns' mfs' mns' (set starts i (p .start - w .b))
+          (record { start = p .start - w .b; highest = max (p .highest) (maximum (range ls (w .a) (w .b))) })
+      unfolding tableOf
+      block-passed lfs' lns' fl' nl' levels w r e =
+          let v : p .start - w .b ≡ boundBelow (tableOf ws ls) i = omega (arith, s .start-here, start-before w r e) in
+          record {
+            level-firsts-length = fl' ∙ s .level-firsts-length;
+            level-nexts-length = nl' ∙ s .level-nexts-length;
+            member-firsts-length = fl ∙ s .member-firsts-length;
+            member-nexts-length = nl ∙ s .member-nexts-length;
+            starts-length = length-set starts i (p .start - w .b) ∙ s .starts-length;
+            levels-linked = levels;
+            members-linked = members;
+            start-is =
+                from-here (tableOf ws ls) (λ j. isBlock (nodeAt ws ls j) ≡ true → getD (set starts i (p .start - w .b)) j 0 ≡ boundBelow (tableOf ws ls) j) i
+                (λ y. getD-set-same starts i (p .start - w .b) 0 (omega (arith, s .starts-length, nodes-few ws ls ok)) ∙ v)
+                (λ j k l y. getD-set-other starts i j (p .start - w .b) 0 (λ q. omega arith) ∙ s .start-is j (omega arith) l y);
+            start-here = v;
+            highest-is = highest-with (maximum (range ls (w .a) (w .b))) (block-highest ws ls i w r e);
+          }
+
+    -- the block's entries are among those counted
+    pub start-fits : (w : NodeWords) → ReadAt ws i w → isBlock (nodeAt ws ls i) ≡ true → (w .b ≤ p .start) × (p .start ≤ limit)
+    start-fits w r e = (omega (arith, s .start-here, start-before w r e), omega (arith, s .start-here, start-small))
+
+module _ (ws ls : List ℕ) (lfs lns mfs mns starts : List ℕ) where
+  pub passed-none : (q : ℕ) → q ≡ boundCount (tableOf ws ls) → Cleared lfs lns mfs mns starts
+      → ChainedFrom (tableOf ws ls) (nodeCount ws) lfs lns mfs mns starts (record { start = q; highest = 0 })
+  unfolding tableOf boundCount highestNumber
+  passed-none q e c =
+      record {
+        level-firsts-length = c .level-firsts-length;
+        level-nexts-length = c .level-nexts-length;
+        member-firsts-length = c .member-firsts-length;
+        member-nexts-length = c .member-nexts-length;
+        starts-length = c .starts-length;
+        levels-linked = chains-start (inner (tableOf ws ls)) (level (tableOf ws ls)) (nodeCount ws) lfs lns (c .level-firsts-clear);
+        members-linked = chains-start (λ j. isMember (nodeAt ws ls j)) (enclosing (tableOf ws ls)) (nodeCount ws) mfs mns (c .member-firsts-clear);
+        start-is = λ j k l y. absurd (omega arith);
+        start-here = e;
+        highest-is = omega arith;
+      }
+
+  module _ (i : ℕ) (p : Passed) (z : i ≡ 0) (s : ChainedFrom (tableOf ws ls) i lfs lns mfs mns starts p) where
+    pub levels-done : LevelChains (tableOf ws ls) lfs lns
+    levels-done = chains-end (inner (tableOf ws ls)) (level (tableOf ws ls)) (tableOf ws ls .size) i lfs lns z (s .levels-linked)
+
+    pub members-done : MemberChains (tableOf ws ls) mfs mns
+    members-done = chains-end (λ j. isMember (tableOf ws ls .node j)) (enclosing (tableOf ws ls)) (tableOf ws ls .size) i mfs mns z (s .members-linked)
+
+    pub starts-done : Starts (tableOf ws ls) starts
+    starts-done = record { start-is = λ j h y. s .start-is j (omega arith) h y }
+
+    pub highest-done : p .highest ≡ highestNumber (tableOf ws ls)
+    unfolding highest
+    highest-done = let s' : ChainedFrom (tableOf ws ls) 0 lfs lns mfs mns starts p = rw z at s in omega (arith, s' .highest-is)

@@ -1,0 +1,62 @@
+-- `scopes::chain_level` meets its contract. The root is the law `root-chained`, an inner block `inner-chained`.
+-- Assumes nothing.
+use native.Mathlib.Omega.{arith}
+use borrow.Author.Needs.{needs}
+use Rattle.scopes.proofs.Nodes.{nodes-few}
+use Rattle.scopes.proofs.Chaining.{level-index, inner-chained, root-chained}
+use Rattle.scopes.proofs.chain_level.Statement.{statement}
+use Rattle.scopes.proofs.chain_level.Tie as tie
+
+add-if1 : tie.Need-add-if1
+add-if1 c = search needs
+
+returns : tie.Need-returns
+returns c =
+    let s = c .before .before .before .before .before .before in
+    root-chained (s .args .words .now) (s .args .list .now) (s .pre .0) (s .args .i) (s .pre .1 .0 .0) _ _ (omega arith) (s .pre .1 .1 .1 .1)
+
+mul-level : tie.Need-mul-level
+mul-level c = search needs
+
+shared-slice-read-level : tie.Need-shared-slice-read-level
+shared-slice-read-level c =
+    let s = c .before .before .before .before .before .before .before in
+    omega (arith, nodes-few (s .args .words .now) (s .args .list .now) (s .pre .0))
+
+cast-level : tie.Need-cast-level
+cast-level c =
+    let s = c .before .before .before .before .before .before .before in
+    omega (arith, level-index (s .args .words .now) (s .args .list .now) (s .pre .0) (s .args .i) (s .pre .1 .0 .0) _ (s .pre .1 .1 .1 .0))
+
+put-first-requires : tie.Need-put-first-requires
+put-first-requires c κs =
+    let s = c .before .before .before .before .before .before .before .before .before in
+    let l = level-index (s .args .words .now) (s .args .list .now) (s .pre .0) (s .args .i) (s .pre .1 .0 .0) _ (s .pre .1 .1 .1 .0) in
+    let n = nodes-few (s .args .words .now) (s .args .list .now) (s .pre .0) in
+    (omega (arith, l, s .pre .1 .1 .0 .1), omega (arith, n, s .pre .1 .1 .0 .2), omega (arith, n))
+
+same-length : tie.Need-same-length
+same-length c = search needs
+
+same-length-2 : tie.Need-same-length-2
+same-length-2 c = search needs
+
+returns-2 : tie.Need-returns-2
+returns-2 c =
+    let s = c .before .before .before .before .before .before .before .before .before .before .before .before .before .before in
+    let f = c .before .before .before .before .put-first .ensures in
+    inner-chained (s .args .words .now) (s .args .list .now) (s .pre .0) (s .args .i) (s .pre .1 .0 .0) _ (s .pre .1 .1 .1 .0) _ _ _ _ (s .pre .1 .0 .1) (λ e. omega arith) (s .pre .1 .1 .0 .1) (s .pre .1 .1 .0 .2) (s .pre .1 .1 .1 .1) (f .0) (f .1)
+
+pub chain-level-spec : {M : Type 1} → statement M
+chain-level-spec =
+    tie.close
+    (tie.spec
+    add-if1
+    returns
+    mul-level
+    shared-slice-read-level
+    cast-level
+    put-first-requires
+    same-length
+    same-length-2
+    returns-2)
