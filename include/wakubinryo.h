@@ -60,7 +60,7 @@
  *
  * All lengths count 32-bit words. A call reads the words and the list lent to
  * it, writes the answer and the buffers lent to it, and touches nothing else:
- * it allocates nothing, keeps nothing and uses less than 256 KiB of stack. On
+ * it allocates nothing, keeps nothing and uses less than 128 KiB of stack. On
  * refusal no buffer has changed, whatever the buffers held. If done, a
  * buffer's words after the last one written keep their content. Pointers are
  * aligned and not null, even where the length is 0, and what is written must

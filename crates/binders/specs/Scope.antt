@@ -15,9 +15,9 @@ use Rattle.prenex_form.specs.Names.{boundCount}
 use Rattle.arrays.specs.Held.{entries}
 use Rattle.arrays.specs.Link.{link}
 
--- How many remainders the entries are chained by: at most 16 variable numbers share one.
+-- How many remainders the entries are chained by: at most 64 variable numbers share one.
 abbrev pub buckets : ℕ
-buckets = 4096
+buckets = 1024
 
 -- The block that entry e is of: the lowest node with whose entries it has been counted.
 unfoldable pub owner : Table → ℕ → ℕ

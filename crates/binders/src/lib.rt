@@ -3,8 +3,9 @@
 // A walk through the table, scope by scope from the outermost in: it enters each block, comes by the
 // variable nodes and blocks whose parent block it is, and leaves it. The entries of the block and of
 // those above it are chained by the remainder of their numbers, the nearest first: entering a block
-// puts its entries before the others, leaving it takes them away. So every variable node finds its
-// entry at the head of a chain, and a number that no block above covers finds none: nothing climbs.
+// puts its entries before the others, leaving it takes them away. So the entry that binds a variable
+// node's number is the first in its chain that has the number, and a number that no block above
+// covers has none there: nothing climbs.
 ghost use mathlib.Core.Bool.{true};
 ghost use mathlib.Core.Path.{_≡_};
 ghost use Prim.Native.Nat.{ℕ, suc, _+_, _%_, _≤_, _<_};
@@ -19,7 +20,7 @@ ghost use Rattle.binders.specs.Walk.{Scopes, todo, Walking, Unfinished};
 use formula::VARIABLE;
 
 // `buckets` of specs/Scope.antt: how many remainders the entries are chained by.
-const BUCKETS: usize = 4096;
+const BUCKETS: usize = 1024;
 
 // One slot for each entry, and slot 0 for none.
 const ENTRIES: usize = 4097;
@@ -28,7 +29,7 @@ const ENTRIES: usize = 4097;
 pub fn find_binders(
     words: &[u32],
     list: &[u32],
-    parents: &[u16],
+    parents: &[u32],
     firsts: &[u16],
     nexts: &[u16],
     starts: &[u16],
@@ -65,7 +66,7 @@ pub struct Place {
 fn walk(
     words: &[u32],
     list: &[u32],
-    parents: &[u16],
+    parents: &[u32],
     firsts: &[u16],
     nexts: &[u16],
     starts: &[u16],
@@ -106,7 +107,7 @@ fn walk(
 fn step(
     words: &[u32],
     list: &[u32],
-    parents: &[u16],
+    parents: &[u32],
     firsts: &[u16],
     nexts: &[u16],
     starts: &[u16],

@@ -89,7 +89,7 @@ fn measure_accepted(words: &[u32], list: &[u32]) -> Sizes
     requires { ⌜ verdict (now words) (now list) ≡ accepted ⌝ }
     ensures { λ r. ⌜ r ≡ sizesOf (tableOf (now (words .entry)) (now (list .entry))) ⌝ }
 {
-    let mut parents = [0u16; LIMIT];
+    let mut parents = [0u32; LIMIT];
     let mut levels = [0u16; LIMIT];
     sizes_of(
         words,
@@ -152,7 +152,7 @@ fn lift_accepted(
     requires { ⌜ verdict (now words) (now list) ≡ accepted ⌝ }
     ensures { λ r. ⌜ after r (now (nodes .exit)) (now (prefix .exit)) (now (variables .exit)) ≡ lifted (now (words .entry)) (now (list .entry)) (now (nodes .entry)) (now (prefix .entry)) (now (variables .entry)) ⌝ }
 {
-    let mut parents = [0u16; LIMIT];
+    let mut parents = [0u32; LIMIT];
     let mut levels = [0u16; LIMIT];
     let counts = scopes::fill_scopes(words, list, &mut parents, &mut levels);
     let sizes = sizes_of(words, list, counts);
@@ -186,7 +186,7 @@ fn write_form(
     nodes: &mut [u32],
     prefix: &mut [u32],
     variables: &mut [u32],
-    parents: &[u16],
+    parents: &[u32],
     levels: &mut [u16],
     counts: Counts,
 )
@@ -230,7 +230,7 @@ fn write_form(
 fn find_bindings(
     words: &[u32],
     list: &[u32],
-    parents: &[u16],
+    parents: &[u32],
     levels: &mut [u16],
     firsts: &mut [u16],
     nexts: &mut [u16],

@@ -63,6 +63,10 @@ LevelsFrom t i firsts nexts = LinkedFrom (inner t) (level t) (t .size) i firsts 
 abbrev pub MembersFrom : Table → ℕ → List ℕ → List ℕ → Type 0
 MembersFrom t i firsts nexts = LinkedFrom (λ j. isMember (t .node j)) (enclosing t) (t .size) i firsts nexts
 
+-- What it has found, with a variable node's number x.
+abbrev pub withNumber : ℕ → Passed → Passed
+withNumber x p = record { start = p .start; highest = max (p .highest) x }
+
 -- The chaining pass has done the nodes from i up.
 pub record ChainedFrom (t : Table) (i : ℕ) (lfs lns mfs mns starts : List ℕ) (p : Passed) : Type 0 where
   pub level-firsts-length : length lfs ≡ limit

@@ -28,6 +28,7 @@ ghost use Rattle.scopes.specs.Passes.{
   MembersFrom,
   ChainedFrom,
   Small,
+  withNumber,
   withRoot,
   withInner,
   CountsFrom,
@@ -57,10 +58,7 @@ fn is_block(words: &[u32], list: &[u32], i: usize) -> bool
 fn larger(a: u32, b: u32) -> u32
     ensures { λ r. ⌜ r ≡ max a b ⌝ }
 {
-    if a < b {
-        return b;
-    }
-    a
+    if a < b { b } else { a }
 }
 
 // How many blocks a table has and how many variables they bind, the same of the inner blocks, the
@@ -76,7 +74,7 @@ pub struct Counts {
 
 // The parent block and the level of each node, and the counts. Each node hands down to its operands,
 // so one pass from the root down suffices.
-pub fn fill_scopes(words: &[u32], list: &[u32], parents: &mut [u16], levels: &mut [u16]) -> Counts
+pub fn fill_scopes(words: &[u32], list: &[u32], parents: &mut [u32], levels: &mut [u16]) -> Counts
     requires { ⌜ verdict (now words) (now list) ≡ accepted ⌝ }
     requires { ⌜ (length (now parents) ≡ limit) × (length (now levels) ≡ limit) ⌝ }
     ensures { λ r. ⌜ Parents (tableOf (now (words .entry)) (now (list .entry))) (now (parents .exit)) ⌝ }
@@ -84,7 +82,7 @@ pub fn fill_scopes(words: &[u32], list: &[u32], parents: &mut [u16], levels: &mu
     ensures { λ r. ⌜ BlockCounts (tableOf (now (words .entry)) (now (list .entry))) r ⌝ }
 {
     let mut i = words.len() / formula::WIDTH;
-    parents[i - 1] = i as u16;
+    parents[i - 1] = i as u32;
     levels[i - 1] = 0;
     let mut counts = Counts {
         blocks: 0,
@@ -106,7 +104,7 @@ pub fn fill_scopes(words: &[u32], list: &[u32], parents: &mut [u16], levels: &mu
 fn fill_node(
     words: &[u32],
     list: &[u32],
-    parents: &mut [u16],
+    parents: &mut [u32],
     levels: &mut [u16],
     counts: Counts,
     i: usize,
@@ -141,7 +139,7 @@ fn fill_node(
 fn fill_block(
     words: &[u32],
     list: &[u32],
-    parents: &mut [u16],
+    parents: &mut [u32],
     levels: &mut [u16],
     counts: Counts,
     i: usize,
@@ -157,17 +155,17 @@ fn fill_block(
     let node = formula::node_at(words, i);
     let inherited = levels[i];
     if i + 1 == words.len() / formula::WIDTH {
-        hand_down(parents, levels, node.c, i as u16, inherited);
+        hand_down(parents, levels, node.c, i as u32, inherited);
         return count_root(counts, node.b);
     }
     let level = inherited + 1;
     levels[i] = level;
-    hand_down(parents, levels, node.c, i as u16, level);
+    hand_down(parents, levels, node.c, i as u32, level);
     count_inner(counts, node.b, level as u32)
 }
 
 // Operand x of a node inherits a parent block and a level.
-fn hand_down(parents: &mut [u16], levels: &mut [u16], x: u32, block: u16, level: u16)
+fn hand_down(parents: &mut [u32], levels: &mut [u16], x: u32, block: u32, level: u16)
     requires { ⌜ (x < limit) × (length (now parents) ≡ limit) × (length (now levels) ≡ limit) ⌝ }
     ensures { λ r. ⌜ Stored (x ∷ []) block (now (parents .entry)) (now (parents .exit)) ⌝ }
     ensures { λ r. ⌜ Stored (x ∷ []) level (now (levels .entry)) (now (levels .exit)) ⌝ }
@@ -245,7 +243,7 @@ fn put_first(firsts: &mut [u16], nexts: &mut [u16], key: usize, i: usize)
 fn chain_member(
     words: &[u32],
     list: &[u32],
-    parents: &[u16],
+    parents: &[u32],
     firsts: &mut [u16],
     nexts: &mut [u16],
     i: usize,
@@ -291,13 +289,26 @@ pub struct Passed {
     pub highest: u32,
 }
 
+// The same with a variable node's number.
+fn with_number(passed: Passed, x: u32) -> Passed
+    ensures { λ r. ⌜ r ≡ withNumber x passed ⌝ }
+{
+    if passed.highest < x {
+        return Passed {
+            start: passed.start,
+            highest: x,
+        };
+    }
+    passed
+}
+
 // Chains the inner blocks by level and the variable nodes and blocks by parent block, and writes how
 // many entries stand before each block's. The result is the highest number of the table. One pass
 // from the root down puts each node before those with its key that stand above it.
 pub fn chain_nodes(
     words: &[u32],
     list: &[u32],
-    parents: &[u16],
+    parents: &[u32],
     levels: &[u16],
     level_firsts: &mut [u16],
     level_nexts: &mut [u16],
@@ -343,7 +354,7 @@ pub fn chain_nodes(
 fn chain_node(
     words: &[u32],
     list: &[u32],
-    parents: &[u16],
+    parents: &[u32],
     levels: &[u16],
     level_firsts: &mut [u16],
     level_nexts: &mut [u16],
@@ -362,10 +373,7 @@ fn chain_node(
     let node = formula::node_at(words, i);
     if node.kind == VARIABLE {
         chain_member(words, list, parents, member_firsts, member_nexts, i);
-        return Passed {
-            start: passed.start,
-            highest: larger(passed.highest, node.a),
-        };
+        return with_number(passed, node.a);
     }
     if !is_block(words, list, i) {
         return passed;

@@ -418,6 +418,9 @@ fn lowest_not_once(named: &[u16], last: usize) -> usize
     requires { ⌜ last ≤ length (now named) ⌝ }
     ensures { λ r. ⌜ r ≡ lowest (λ j. not (eqb (getD (now (named .entry)) j 0) 1)) last ⌝ }
 {
+    if all_once(named, last) {
+        return last;
+    }
     let mut j = 0;
     while j < last {
         if named[j] != 1 {
@@ -426,4 +429,19 @@ fn lowest_not_once(named: &[u16], last: usize) -> usize
         j += 1;
     }
     last
+}
+
+// Whether all nodes below the last are named exactly once. A loop that looks at all of them is much
+// faster than one that may stop, so that a tree is found to be one by this alone.
+fn all_once(named: &[u16], last: usize) -> bool
+    requires { ⌜ last ≤ length (now named) ⌝ }
+    ensures { λ r. ⌜ (r ≡ true → (j : ℕ) → j < last → getD (now (named .entry)) j 0 ≡ 1) ⌝ }
+{
+    let mut once = true;
+    let mut j = 0;
+    while j < last {
+        once = once & (named[j] == 1);
+        j += 1;
+    }
+    once
 }

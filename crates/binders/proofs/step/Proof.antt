@@ -67,17 +67,17 @@ leave-requires c κs =
 mul-t23 : tie.Need-mul-t23
 mul-t23 c = search needs
 
-shared-slice-read-t25 : tie.Need-shared-slice-read-t25
-shared-slice-read-t25 c = omega (arith, left (c .before .before .before .before .before .before .before .before))
+shared-slice-read-t28 : tie.Need-shared-slice-read-t28
+shared-slice-read-t28 c = omega (arith, left (c .before .before .before .before .before .before .before .before))
 
 cast-t26 : tie.Need-cast-t26
 cast-t26 c = omega (arith, c .shared-slice-known8 .given (entry (c .before .before .before .before .before .before .before .before .before) .args .place .scope))
 
-mul-t28 : tie.Need-mul-t28
-mul-t28 c = search needs
+mul-t29 : tie.Need-mul-t29
+mul-t29 c = search needs
 
-shared-slice-read-t30 : tie.Need-shared-slice-read-t30
-shared-slice-read-t30 c = omega (arith, left (c .before .before .before .before .before .before .before .before .before))
+shared-slice-read-t25 : tie.Need-shared-slice-read-t25
+shared-slice-read-t25 c = omega (arith, left (c .before .before .before .before .before .before .before .before .before))
 
 same-length : tie.Need-same-length
 same-length c = search needs
@@ -194,10 +194,10 @@ step-spec =
     cast-leave
     leave-requires
     mul-t23
-    shared-slice-read-t25
+    shared-slice-read-t28
     cast-t26
-    mul-t28
-    shared-slice-read-t30
+    mul-t29
+    shared-slice-read-t25
     same-length
     same-length-2
     same-length-3

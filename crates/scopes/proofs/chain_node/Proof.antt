@@ -20,8 +20,8 @@ chain-member-requires c κs =
     let m = variable-member (s .args .words .now) (s .args .list .now) (s .args .i) _ (c .before .before .before .before .node-at .ensures) (c .before .before .if1 .taken) in
     (s .pre .0, ((s .pre .1 .0, m), ((g .parents-length, f .member-firsts-length, f .member-nexts-length), (g .parents-hold, f .members-linked))))
 
-larger-requires : tie.Need-larger-requires
-larger-requires c κs = search needs
+with-number-requires : tie.Need-with-number-requires
+with-number-requires c κs = search needs
 
 same-length : tie.Need-same-length
 same-length c = search needs
@@ -33,7 +33,7 @@ returns : tie.Need-returns
 returns c =
     let s = c .before .before .before .before .before .before .before .before .before .before .before .before .before .before .before .before .before .before .before .before in
     let m = c .before .before .before .before .before .chain-member in
-    rw (c .larger .ensures) (variable-passed (s .args .words .now) (s .args .list .now) (s .pre .0) (s .args .i) (s .pre .1 .0) _ _ _ _ _ _ (s .pre .1 .1 .1) _ _ (m .kept .1 .1 .1 .0) (m .kept .1 .1 .1 .1 .0) (m .ensures) _ (c .before .before .before .before .before .before .before .before .before .before .node-at .ensures) (c .before .before .before .before .before .before .before .before .if1 .taken))
+    rw (c .with-number .ensures) (variable-passed (s .args .words .now) (s .args .list .now) (s .pre .0) (s .args .i) (s .pre .1 .0) _ _ _ _ _ _ (s .pre .1 .1 .1) _ _ (m .kept .1 .1 .1 .0) (m .kept .1 .1 .1 .1 .0) (m .ensures) _ (c .before .before .before .before .before .before .before .before .before .before .node-at .ensures) (c .before .before .before .before .before .before .before .before .if1 .taken))
 
 is-block-requires : tie.Need-is-block-requires
 is-block-requires c κs = search needs
@@ -96,8 +96,8 @@ highest-entry-requires c κs =
     let e = sym (c .before .before .before .before .before .before .before .before .before .before .before .before .before .before .before .before .before .before .before .is-block .ensures) ∙ not-false _ (c .before .before .before .before .before .before .before .before .before .before .before .before .before .before .before .before .before .before .if2 .left) in
     entries-within (s .args .words .now) (s .args .list .now) (s .pre .0) (s .args .i) (s .pre .1 .0) _ (c .before .before .before .before .before .before .before .before .before .before .before .before .before .before .before .before .before .before .before .before .before .before .node-at .ensures) e
 
-larger-requires-2 : tie.Need-larger-requires-2
-larger-requires-2 c κs = search needs
+larger-requires : tie.Need-larger-requires
+larger-requires c κs = search needs
 
 same-length-3 : tie.Need-same-length-3
 same-length-3 c = search needs
@@ -120,7 +120,7 @@ returns-3 c =
     let m = c .before .before .before .before .before .before .before .before .before .before .before .before .before .before .before .before .before .chain-member2 in
     let l = c .before .before .before .before .before .before .before .before .before .before .chain-level in
     let e = sym (c .before .before .before .before .before .before .before .before .before .before .before .before .before .before .before .before .before .before .before .before .before .is-block .ensures) ∙ not-false _ (c .before .before .before .before .before .before .before .before .before .before .before .before .before .before .before .before .before .before .before .before .if2 .left) in
-    rw (c .larger2 .ensures, c .before .highest-entry .ensures) (block-passed (s .args .words .now) (s .args .list .now) (s .pre .0) (s .args .i) (s .pre .1 .0) _ _ _ _ _ _ (s .pre .1 .1 .1) _ _ (m .kept .1 .1 .1 .0) (m .kept .1 .1 .1 .1 .0) (m .ensures) _ _ (l .kept .1 .1 .1 .0) (l .kept .1 .1 .1 .1 .0) (l .ensures) _ (c .before .before .before .before .before .before .before .before .before .before .before .before .before .before .before .before .before .before .before .before .before .before .before .before .node-at .ensures) e)
+    rw (c .larger .ensures, c .before .highest-entry .ensures) (block-passed (s .args .words .now) (s .args .list .now) (s .pre .0) (s .args .i) (s .pre .1 .0) _ _ _ _ _ _ (s .pre .1 .1 .1) _ _ (m .kept .1 .1 .1 .0) (m .kept .1 .1 .1 .1 .0) (m .ensures) _ _ (l .kept .1 .1 .1 .0) (l .kept .1 .1 .1 .1 .0) (l .ensures) _ (c .before .before .before .before .before .before .before .before .before .before .before .before .before .before .before .before .before .before .before .before .before .before .before .before .node-at .ensures) e)
 
 pub chain-node-spec : {M : Type 1} → statement M
 chain-node-spec =
@@ -128,7 +128,7 @@ chain-node-spec =
     (tie.spec
     node-at-requires
     chain-member-requires
-    larger-requires
+    with-number-requires
     same-length
     same-length-2
     returns
@@ -144,7 +144,7 @@ chain-node-spec =
     cast-highest-entry
     cast-highest-entry-2
     highest-entry-requires
-    larger-requires-2
+    larger-requires
     same-length-3
     same-length-4
     same-length-5

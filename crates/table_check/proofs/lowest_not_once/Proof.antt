@@ -18,19 +18,25 @@ Inv-loop named last j₀ j = (j ≤ last) × ((k : ℕ) → k < j → getD named
 abbrev μ-loop : tie.MeasureT-loop
 μ-loop named last j₀ j = last - j
 
+all-once-requires : tie.Need-all-once-requires Inv-loop μ-loop
+all-once-requires c κs = search needs
+
+returns : tie.Need-returns Inv-loop μ-loop
+returns c = sym (lowest-none _ _ (λ k l. ap not (eq-eqb _ 1 (c .before .all-once .ensures (c .if1 .taken) k l))))
+
 loop-holds : tie.Need-loop-holds Inv-loop μ-loop
 loop-holds c = search needs
 
-mul-if1 : tie.Need-mul-if1 Inv-loop μ-loop
-mul-if1 c = search needs
+mul-if2 : tie.Need-mul-if2 Inv-loop μ-loop
+mul-if2 c = search needs
 
-shared-slice-read-if1 : tie.Need-shared-slice-read-if1 Inv-loop μ-loop
-shared-slice-read-if1 c = search needs
+shared-slice-read-if2 : tie.Need-shared-slice-read-if2 Inv-loop μ-loop
+shared-slice-read-if2 c = search needs
 
-returns : tie.Need-returns Inv-loop μ-loop
-returns c =
+returns-2 : tie.Need-returns-2 Inv-loop μ-loop
+returns-2 c =
     sym
-    (lowest-is _ _ _ (c .before .before .loop-test .taken) (ap not (ne-eqb _ 1 (c .if1 .taken))) (λ k l. ap not (eq-eqb _ 1 (c .before .before .before .loop .inv .1 k l))))
+    (lowest-is _ _ _ (c .before .before .loop-test .taken) (ap not (ne-eqb _ 1 (c .if2 .taken))) (λ k l. ap not (eq-eqb _ 1 (c .before .before .before .loop .inv .1 k l))))
 
 add-j : tie.Need-add-j Inv-loop μ-loop
 add-j c = search needs
@@ -39,10 +45,10 @@ loop-less : tie.Need-loop-less Inv-loop μ-loop
 loop-less c = search needs
 
 loop-again : tie.Need-loop-again Inv-loop μ-loop
-loop-again c = (omega arith, below-more _ _ (c .before .before .before .loop .inv .1) (c .if1 .left))
+loop-again c = (omega arith, below-more _ _ (c .before .before .before .loop .inv .1) (c .if2 .left))
 
-returns-2 : tie.Need-returns-2 Inv-loop μ-loop
-returns-2 c =
+returns-3 : tie.Need-returns-3 Inv-loop μ-loop
+returns-3 c =
     sym (lowest-none _ _ (λ k l. ap not (eq-eqb _ 1 (c .before .loop .inv .1 k (omega arith)))))
 
 pub lowest-not-once-spec : {M : Type 1} → statement M
@@ -51,11 +57,13 @@ lowest-not-once-spec =
     (tie.spec
     Inv-loop
     μ-loop
-    loop-holds
-    mul-if1
-    shared-slice-read-if1
+    all-once-requires
     returns
+    loop-holds
+    mul-if2
+    shared-slice-read-if2
+    returns-2
     add-j
     loop-less
     loop-again
-    returns-2)
+    returns-3)
