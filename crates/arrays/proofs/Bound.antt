@@ -12,7 +12,7 @@ use Rattle.formula.specs.Node.{Table, bound}
 use Rattle.formula.specs.Tree.{Proper, count, boundBelow}
 use Rattle.prenex_form.specs.Scope.{binder}
 use Rattle.prenex_form.specs.Names.{boundCount}
-use Rattle.prenex_form.proofs.Paths.{binder-binds}
+use Rattle.prenex_form.proofs.NameLaws.{binder-covers}
 use Rattle.arrays.specs.Held.{boundEntry}
 use Rattle.arrays.proofs.Entries.{boundBelow-end}
 
@@ -37,5 +37,5 @@ module _ (t : Table) (proper : Proper t) (i x : ℕ) where
       go (is-false f) = absurd (omega (arith, entry-free (ltb-false b (t .size) f)))
       go (is-true f) =
           let l : b < t .size = ltb-true b (t .size) f in
-          let k : place x (bound (t .node b)) < count t b = place-lt x (bound (t .node b)) (binder-binds t (proper .tree) i x l) in
+          let k : place x (bound (t .node b)) < count t b = place-lt x (bound (t .node b)) (binder-covers t i x l) in
           omega (arith, entry-bound l, boundBelow-end t b l)

@@ -1,25 +1,20 @@
 -- Laws of `enclosing`, the nearest block above a node of a tree.
 -- Assumes nothing.
-use mathlib.Core.Path.{_≡_, refl, sym, _∙_, subst}
-use mathlib.Core.Bool.{Bool, true, false, _&&_, _||_}
+use mathlib.Core.Path.{_≡_}
+use mathlib.Core.Bool.{Bool, true, _&&_}
 use mathlib.Core.Logic.{_⊎_, inl, inr}
 use Prim.Native.Nat.{ℕ, suc, _≤_, _<_}
 use native.Mathlib.Omega.{arith}
 use lib.Dec.{eqb, ltb}
-use borrow.Author.Tests.{ltb-true, ltb-false, eqb-true, eqb-false, eq-eqb}
-use Rattle.lists.specs.Choice.{pick, pick-yes, pick-no, Is, is-true, is-false, look, and-left, and-right, and-both, or-neither}
-use Rattle.lists.specs.Search.{lowest}
+use borrow.Author.Tests.{ltb-true, ltb-false, eqb-true, eqb-false}
+use Rattle.lists.specs.Choice.{pick, Is, is-true, is-false, look, and-left, and-right, and-both}
 use Rattle.lists.specs.Members.{mem}
-use Rattle.lists.proofs.Search.{lowest-le, lowest-holds, lowest-least, lowest-is, lowest-none, lowest-cong}
+use Rattle.lists.proofs.Search.{lowest-le, lowest-holds, lowest-least}
 use Rattle.formula.specs.Node.{Table, operands, isBlock}
 use Rattle.formula.specs.Tree.{Tree}
-use Rattle.prenex_form.specs.Scope.{parent, above}
-use Rattle.prenex_form.proofs.Paths.{parent-is, above-root, above-step, above-higher, above-line}
+use Rattle.prenex_form.specs.Scope.{above}
+use Rattle.prenex_form.proofs.Paths.{above-higher, above-line, nearest-root, nearest-step}
 use Rattle.arrays.specs.Held.{enclosing}
-
-off-right : (a b : Bool) → b ≡ false → (a && b) ≡ false
-off-right true b h = h
-off-right false b h = refl
 
 -- node b is a block above node i
 abbrev encloses : Table → ℕ → ℕ → Bool
@@ -32,38 +27,13 @@ module _ (t : Table) (tree : Tree t) where
 
   pub enclosing-root : (i : ℕ) → suc i ≡ t .size → enclosing t i ≡ t .size
   unfolding enclosing
-  enclosing-root i h =
-      lowest-none (encloses t i) (t .size) (λ b l. off-right (isBlock (t .node b)) (above t b i) (above-root t tree b i h))
+  enclosing-root i h = nearest-root t tree (λ b. isBlock (t .node b)) i h
 
   -- the parent, if it is a block, or else the block that encloses the parent
   pub enclosing-step : (j i : ℕ) → j < t .size → mem i (operands (t .node j)) ≡ true
       → enclosing t i ≡ pick (isBlock (t .node j)) j (enclosing t j)
   unfolding enclosing
-  enclosing-step j i h m = go (look (isBlock (t .node j)))
-    where
-      p : parent t i ≡ j
-      p = parent-is t tree j i h m
-
-      up : (b : ℕ) → above t b i ≡ (eqb b j || above t b j)
-      up b = subst (λ k. above t b i ≡ (eqb b k || above t b k)) p (above-step t tree b i (omega (arith, tree .lower j i h m)))
-
-      -- nothing between a node and its parent is above either
-      under : (b : ℕ) → b < j → Is (eqb b j) → Is (above t b j) → above t b i ≡ false
-      under b k (is-true e) a = absurd (omega (arith, eqb-true b j e))
-      under b k (is-false e) (is-true a) = absurd (omega (arith, above-higher t tree b j h a))
-      under b k (is-false e) (is-false a) = up b ∙ or-neither (eqb b j) (above t b j) e a
-
-      alike : isBlock (t .node j) ≡ false → (b : ℕ) → Is (eqb b j) → encloses t i b ≡ encloses t j b
-      alike n b (is-true e) = subst (λ c. encloses t i c ≡ encloses t j c) (sym (eqb-true b j e)) (rw n)
-      alike n b (is-false e) = rw (up b, e)
-
-      go : Is (isBlock (t .node j)) → lowest (encloses t i) (t .size) ≡ pick (isBlock (t .node j)) j (lowest (encloses t j) (t .size))
-      go (is-true e) =
-          lowest-is (encloses t i) (t .size) j h
-          (and-both _ _ e (up j ∙ rw (eq-eqb j j refl)))
-          (λ b k. off-right (isBlock (t .node b)) (above t b i) (under b k (look (eqb b j)) (look (above t b j)))) ∙ sym (pick-yes _ _ _ e)
-      go (is-false e) =
-          lowest-cong (encloses t i) (encloses t j) (t .size) (λ b k. alike e b (look (eqb b j))) ∙ sym (pick-no _ _ _ e)
+  enclosing-step j i h m = nearest-step t tree (λ b. isBlock (t .node b)) j i h m
 
   holds : (i : ℕ) → enclosing t i < t .size → encloses t i (enclosing t i) ≡ true
   unfolding enclosing

@@ -1,5 +1,6 @@
 pub mod Link
 pub mod Enclosing
+pub mod Members
 pub mod Entries
 pub mod Chains
 pub mod Bound

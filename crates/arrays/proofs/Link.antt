@@ -6,7 +6,7 @@ use Prim.Native.Nat.{ℕ, suc, _≤_, _<_}
 use native.Mathlib.Omega.{arith}
 use lib.Dec.{leb, ltb}
 use borrow.Author.Tests.{ltb-true, ltb-false, lt-ltb, le-ltb, leb-true, leb-false, le-leb, lt-leb}
-use Rattle.lists.specs.Choice.{pick-yes, pick-no, Is, is-true, is-false, look, clash, and-left, and-right, and-both}
+use Rattle.lists.specs.Choice.{pick-yes, pick-no, Is, is-true, is-false, look, clash, and-left, and-right, and-both, and-off-left, and-off-right}
 use Rattle.lists.specs.Search.{lowest}
 use Rattle.lists.proofs.Search.{lowest-holds, lowest-before, lowest-is, lowest-none, lowest-cong}
 use Rattle.arrays.specs.Link.{link}
@@ -15,16 +15,8 @@ use Rattle.arrays.specs.Link.{link}
 abbrev from : (ℕ → Bool) → ℕ → ℕ → Bool
 from p i j = leb i j && p j
 
-off-left : (a b : Bool) → a ≡ false → (a && b) ≡ false
-off-left true b h = clash refl h
-off-left false b h = refl
-
-off-right : (a b : Bool) → b ≡ false → (a && b) ≡ false
-off-right true b h = h
-off-right false b h = refl
-
 from-below : (p : ℕ → Bool) (i j : ℕ) → j < i → from p i j ≡ false
-from-below p i j h = off-left (leb i j) (p j) (lt-leb i j h)
+from-below p i j h = and-off-left (leb i j) (p j) (lt-leb i j h)
 
 from-at : (p : ℕ → Bool) (i j : ℕ) → i ≤ j → p j ≡ true → from p i j ≡ true
 from-at p i j h e = and-both (leb i j) (p j) (le-leb i j h) e
@@ -41,8 +33,8 @@ link-stops p i n h =
     rw e (pick-no _ _ _ (le-ltb n n (omega arith)))
   where
     go : (k : ℕ) → k < n → Is (leb i k) → from p i k ≡ false
-    go k l (is-true e) = off-right (leb i k) (p k) (h k (leb-true i k e) l)
-    go k l (is-false e) = off-left (leb i k) (p k) e
+    go k l (is-true e) = and-off-right (leb i k) (p k) (h k (leb-true i k e) l)
+    go k l (is-false e) = and-off-left (leb i k) (p k) e
 
 pub link-end : (p : ℕ → Bool) (i n : ℕ) → n ≤ i → link p i n ≡ 0
 link-end p i n h = link-stops p i n (λ k a b. absurd (omega arith))
@@ -72,7 +64,7 @@ link-skip p i n h = rw (lowest-cong (from p i) (from p (suc i)) n (λ k l. go k 
     go k (is-true a) (is-false b) =
         let x = leb-true i k a in
         let y = leb-false (suc i) k b in
-        let e : k ≡ i = omega arith in rw e (off-right (leb i i) (p i) h ∙ sym (off-right (leb (suc i) i) (p i) h))
+        let e : k ≡ i = omega arith in rw e (and-off-right (leb i i) (p i) h ∙ sym (and-off-right (leb (suc i) i) (p i) h))
 
 -- What a step finds: the next number that passes the test.
 pub record Next (p : ℕ → Bool) (i n j : ℕ) : Type 0 where

@@ -1,6 +1,6 @@
 -- The chains of entries as the scope changes, and as entries are put before them and taken away.
 -- Assumes nothing.
-use mathlib.Core.Path.{_≡_, refl, sym, _∙_, ap, subst}
+use mathlib.Core.Path.{_≡_, sym, _∙_, ap, subst}
 use mathlib.Core.Bool.{Bool, true, false, _&&_, and-assoc, and-false}
 use mathlib.Core.List.{List}
 use Prim.Native.Nat.{ℕ, suc, _%_, _≤_, _<_}
@@ -11,7 +11,7 @@ use lib.Seq.{getD-set-other}
 use borrow.Author.Tests.{leb-true, le-leb, eq-eqb, ne-eqb}
 use Rattle.lists.specs.Choice.{and-left, and-right, and-both}
 use Rattle.lists.proofs.Search.{lowest-cong}
-use Rattle.lists.proofs.Stores.{set-cases}
+use Rattle.lists.proofs.Stores.{set-cases, set-all}
 use Rattle.formula.specs.Node.{Table}
 use Rattle.table_check.specs.Verdict.{limit}
 use Rattle.prenex_form.specs.Names.{boundCount}
@@ -29,8 +29,7 @@ link-same p q i k n h = rw (lowest-cong (λ j. leb i j && p j) (λ j. leb k j &&
 entry-cases : (xs : List ℕ) (e v : ℕ) → suc e < length xs → (P : ℕ → ℕ → Type 0) → P e v → ((k : ℕ) → (k ≡ e → ⊥) → P k (getD xs (suc k) 0))
     → (k : ℕ) → P k (getD (set xs (suc e) v) (suc k) 0)
 entry-cases xs e v h P f g k =
-    set-cases xs (suc e) v h (λ j w. (k : ℕ) → j ≡ suc k → P k w) (λ k q. subst (λ j. P j v) (omega arith) f)
-    (λ j n k q. subst (λ j. P k (getD xs j 0)) (sym q) (g k (λ r. n (omega arith)))) (suc k) k refl
+    set-cases xs (suc e) v 0 h (λ w. P k w) (suc k) (λ q. subst (λ j. P j v) (omega arith) f) (λ n. g k (λ r. n (omega arith)))
 
 module _ (t : Table) where
   -- what stands at the index of no entry does not matter
@@ -99,7 +98,7 @@ module _ (t : Table) where
             nexts-length = length-set nexts (suc e) (getD heads (x % buckets) 0) ∙ o .nexts-length;
             numbers-length = length-set numbers (suc e) x ∙ o .numbers-length;
             head-is =
-                set-cases heads (x % buckets) (suc e) (omega (arith, o .heads-length))
+                set-all heads (x % buckets) (suc e) 0 (omega (arith, o .heads-length))
                 (λ h w. h < buckets → w ≡ link (inChain t b h) e (boundCount t))
                 (λ _. sym (link-here (inChain t b (x % buckets)) e (boundCount t) below chained))
                 (λ h n r. o .head-is h r ∙ sym (link-skip (inChain t b h) e (boundCount t) (apart h n)));
@@ -123,7 +122,7 @@ module _ (t : Table) where
             nexts-length = o .nexts-length;
             numbers-length = o .numbers-length;
             head-is =
-                set-cases heads (x % buckets) (getD nexts (suc e) 0) (omega (arith, o .heads-length))
+                set-all heads (x % buckets) (getD nexts (suc e) 0) 0 (omega (arith, o .heads-length))
                 (λ h w. h < buckets → w ≡ link (inChain t b h) (suc e) (boundCount t))
                 (λ _. o .next-is e (omega arith) below inside ∙ rw number)
                 (λ h n r. o .head-is h r ∙ link-skip (inChain t b h) e (boundCount t) (apart h n));

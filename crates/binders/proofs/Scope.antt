@@ -1,46 +1,28 @@
 -- Which block an entry is of, and which entries are in a block's scope.
 -- Assumes nothing.
 use mathlib.Core.Path.{_≡_, refl, sym, _∙_, ap, subst}
-use mathlib.Core.Bool.{Bool, true, false, not, _&&_, _||_, and-not-self}
+use mathlib.Core.Bool.{Bool, true, false, _&&_, _||_, and-not-self}
 use mathlib.Core.List.{List, [], _∷_}
 use mathlib.Core.Logic.{_⊎_, inl, inr}
 use Prim.Native.Nat.{ℕ, zero, suc, _-_, _≤_, _<_}
 use native.Mathlib.Omega.{arith}
 use lib.Dec.{eqb, leb, ltb}
-use lib.ListN.{length}
 use borrow.Author.Tests.{ltb-true, ltb-false, lt-ltb, le-ltb, leb-true, leb-false, le-leb, eqb-true, eq-eqb, ne-eqb}
-use Rattle.lists.specs.Choice.{pick-no, Is, is-true, is-false, look, clash, or-left, or-right, or-neither, or-cases}
+use Rattle.lists.specs.Choice.{pick-no, Is, is-true, is-false, look, clash, or-left, or-right, or-neither, or-cases, absent, same-test}
 use Rattle.lists.specs.Parts.{sum}
 use Rattle.lists.specs.Members.{mem}
 use Rattle.lists.proofs.Search.{lowest-holds, lowest-before, lowest-least, lowest-is, lowest-none}
 use Rattle.lists.proofs.Members.{mem-one}
-use Rattle.formula.specs.Node.{Node, constant, variable, negation, operator, block, Table, operands, isBlock, bound}
+use Rattle.formula.specs.Node.{Table, operands, isBlock}
 use Rattle.formula.specs.Tree.{Tree, count, boundBelow}
 use Rattle.prenex_form.specs.Scope.{parent, pathUp, path, above}
 use Rattle.prenex_form.specs.Names.{boundCount}
 use Rattle.prenex_form.proofs.Paths.{above-higher, above-trans}
+use Rattle.prenex_form.proofs.NameLaws.{binds-block}
 use Rattle.arrays.specs.Held.{enclosing}
 use Rattle.arrays.proofs.Enclosing.{enclosing-le, enclosing-above, enclosing-next}
 use Rattle.arrays.proofs.Entries.{boundBelow-next, boundBelow-grows}
 use Rattle.binders.specs.Scope.{owner, inScope}
-
-same-test : (a b : Bool) → (a ≡ true → b ≡ true) → (b ≡ true → a ≡ true) → a ≡ b
-same-test true b f g = sym (f refl)
-same-test false true f g = g refl
-same-test false false f g = refl
-
-absent : (b : Bool) → (b ≡ true → ⊥) → b ≡ false
-absent true h = absurd (h refl)
-absent false h = refl
-
--- only blocks bind
-binds-block : (n : Node) → 0 < length (bound n) → isBlock n ≡ true
-unfolding bound isBlock
-binds-block (constant b) h = absurd (omega arith)
-binds-block (variable x) h = absurd (omega arith)
-binds-block (negation a) h = absurd (omega arith)
-binds-block (operator f a b) h = absurd (omega arith)
-binds-block (block q xs a) h = refl
 
 -- Entry e is one of block b's.
 pub record OwnedBy (t : Table) (e b : ℕ) : Type 0 where

@@ -20,7 +20,8 @@ use Rattle.table_check.specs.Verdict.{limit, verdict, accepted}
 use Rattle.table_check.proofs.Accepted.{accepted-holds}
 use Rattle.prenex_form.specs.Scope.{above, binder}
 use Rattle.prenex_form.specs.Names.{boundCount}
-use Rattle.prenex_form.proofs.Paths.{binder-binds, binder-above}
+use Rattle.prenex_form.proofs.Paths.{binder-above}
+use Rattle.prenex_form.proofs.NameLaws.{binder-covers}
 use Rattle.prenex_form.proofs.Limits.{bound-limit}
 use Rattle.arrays.specs.Link.{link}
 use Rattle.arrays.specs.Held.{enclosing, entries, boundEntry}
@@ -63,7 +64,7 @@ module _ (t : Table) (proper : Proper t) (i x : ℕ) (inside : i < t .size) wher
   unfolding count
   entry-covers l =
       let b : ℕ = binder t i x in
-      let m = binder-binds t tree i x l in
+      let m = binder-covers t i x l in
       let k : place x (bound (t .node b)) < count t b = place-lt x (bound (t .node b)) m in
       record {
         owned = record { lt = l; from = omega arith; below = omega (arith, boundBelow-next t b) };

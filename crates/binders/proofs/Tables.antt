@@ -1,6 +1,6 @@
 -- What the words of an accepted table say of its nodes.
 -- Assumes nothing.
-use mathlib.Core.Path.{_≡_, refl, sym, _∙_, ap}
+use mathlib.Core.Path.{_≡_, sym, _∙_, ap}
 use mathlib.Core.Bool.{true, false}
 use mathlib.Core.List.{List}
 use mathlib.Core.Logic.{_⊎_, inl, inr}
@@ -16,14 +16,7 @@ use Rattle.table_check.proofs.Accepted.{accepted-holds}
 use Rattle.prenex_form.proofs.NameLaws.{variable-le}
 use Rattle.prenex_form.proofs.Limits.{highest-limit}
 use Rattle.arrays.specs.Held.{isMember}
-
-pub block-member : (n : Node) → isBlock n ≡ true → isMember n ≡ true
-unfolding isBlock isMember
-block-member (constant b) h = h
-block-member (variable x) h = refl
-block-member (negation a) h = h
-block-member (operator f a b) h = h
-block-member (block q xs a) h = refl
+use Rattle.arrays.proofs.Members.{block-member}
 
 pub variable-no-block : (n : Node) (x : ℕ) → n ≡ variable x → isBlock n ≡ false
 unfolding isBlock

@@ -19,9 +19,9 @@ use Rattle.arrays.specs.Held.{enclosing, isMember, member}
 use Rattle.arrays.proofs.Link.{link-here, link-some}
 use Rattle.arrays.proofs.Chains.{between-all, between-end, passing-none, passing-some}
 use Rattle.arrays.proofs.Enclosing.{enclosing-le, enclosing-higher, enclosing-block}
+use Rattle.arrays.proofs.Members.{block-member}
 use Rattle.binders.specs.declared.Place.{Place}
 use Rattle.binders.specs.Walk.{within, rest, around, from, todo}
-use Rattle.binders.proofs.Tables.{block-member}
 
 pick-same : {A : Type 0} (b : Bool) (x y z : A) → (b ≡ true → x ≡ y) → pick b x z ≡ pick b y z
 unfolding pick

@@ -21,10 +21,11 @@ use Rattle.arrays.specs.Link.{link}
 use Rattle.arrays.specs.Held.{enclosing, isMember, member, boundEntry, Bindings}
 use Rattle.arrays.proofs.Link.{link-le, link-some}
 use Rattle.arrays.proofs.Enclosing.{enclosing-le, enclosing-block}
+use Rattle.arrays.proofs.Members.{block-member}
 use Rattle.binders.specs.declared.Place.{Place}
 use Rattle.binders.specs.Scope.{Open}
 use Rattle.binders.specs.Walk.{Scopes, todo, Walking, Unfinished}
-use Rattle.binders.proofs.Tables.{block-member, variable-no-block, variable-member, kind-no-block, node-within}
+use Rattle.binders.proofs.Tables.{variable-no-block, variable-member, kind-no-block, node-within}
 use Rattle.binders.proofs.Todo.{todo-leave, todo-pass, todo-enter, todo-all, todo-end}
 
 -- every variable node has its binding or is still to come by

@@ -11,14 +11,15 @@ use lib.ListN.{getD, set, length-set}
 use borrow.Author.Tests.{eqb-true, eqb-false, not-true}
 use Rattle.lists.specs.Choice.{pick, pick-yes, pick-no, Is, is-true, is-false, look, clash, and-right}
 use Rattle.lists.specs.Parts.{sum}
-use Rattle.lists.proofs.Stores.{set-cases}
+use Rattle.lists.proofs.Stores.{set-all}
+use Rattle.lists.proofs.Parts.{pick-le}
 use Rattle.formula.specs.Node.{Table, isBlock}
 use Rattle.formula.specs.Words.{tableOf}
 use Rattle.table_check.specs.Accepted.{Accepted}
 use Rattle.prenex_form.specs.Scope.{inner}
 use Rattle.prenex_form.specs.Names.{boundCount, innerBelow, definitionVariable}
 use Rattle.prenex_form.specs.Matrix.{kept}
-use Rattle.prenex_form.proofs.NameLaws.{innerBound-le, pick-le}
+use Rattle.prenex_form.proofs.NameLaws.{innerBound-le}
 use Rattle.prenex_form.proofs.Limits.{highest-limit, bound-limit, size-limit}
 use Rattle.arrays.specs.Held.{Definitions}
 use Rattle.names.specs.declared.NameCounter.{NameCounter}
@@ -95,7 +96,7 @@ module _ (ws ls : List ℕ) (i : ℕ) {definitions : List ℕ} {counter : NameCo
       },
       record {
         definition-is =
-            set-cases definitions i name (omega (arith, size-limit ws ls a, c .definitions-length))
+            set-all definitions i name 0 (omega (arith, size-limit ws ls a, c .definitions-length))
             (λ j w. j < suc i → inner t j ≡ true → w ≡ definitionVariable t j)
             (λ _ _. is-definition) (λ j m l q. d .definition-is j (omega arith) q);
       },

@@ -9,8 +9,9 @@ use native.Mathlib.Nat.{le-of-suc-le-suc, not-suc-le-zero}
 use lib.Dec.{eqb}
 use lib.ListN.{length, getD}
 use borrow.Author.Tests.{eqb-true, eq-eqb, ne-eqb, not-true}
-use Rattle.lists.specs.Choice.{pick, pick-yes, pick-no, Is, is-true, is-false, look, clash, and-left, and-right, or-neither, or-neither-left, or-neither-right}
+use Rattle.lists.specs.Choice.{pick, pick-yes, pick-no, Is, is-true, is-false, look, clash, and-left, or-neither, or-neither-left, or-neither-right}
 use Rattle.lists.specs.Members.{mem, distinct}
+use Rattle.lists.proofs.Members.{distinct-tail}
 use Rattle.formula.specs.Node.{Quantifier, exists, for-all, dual}
 use Rattle.formula.specs.Valuation.{Valuation, update, join, quant}
 
@@ -151,10 +152,6 @@ kept : (x : ℕ) (b : Bool) (xs : List ℕ) (v v' : Valuation)
     → distinct (x ∷ xs) ≡ true → Outside xs v' (update v x b) → v' x ≡ b
 unfolding distinct
 kept x b xs v v' d out = out x (not-true (mem x xs) (and-left (not (mem x xs)) (distinct xs) d)) ∙ update-same v x b
-
-distinct-tail : (x : ℕ) (xs : List ℕ) → distinct (x ∷ xs) ≡ true → distinct xs ≡ true
-unfolding distinct
-distinct-tail x xs d = and-right (not (mem x xs)) (distinct xs) d
 
 -- Equal values at equal places of the tails, and at the heads, are equal values at equal places.
 places-cons : (x y : ℕ) (xs ys : List ℕ) (v w : Valuation)

@@ -9,15 +9,16 @@ use native.Mathlib.Numerals.{add-one}
 use native.Mathlib.Omega.{arith}
 use lib.Dec.{eqb, leb, ltb}
 use lib.ListN.{length, getD, set, drop, replicate, length-set, length-drop, length-replicate}
-use lib.Seq.{take-suc, getD-drop, getD-set-same, getD-set-other}
-use borrow.Author.Tests.{eqb-true, eqb-false, ne-eqb, ltb-true, ltb-false, lt-ltb, le-ltb, leb-true, not-true, not-false}
-use Rattle.lists.specs.Choice.{pick, pick-yes, pick-no, Is, is-true, is-false, look, clash, and-left, and-right}
+use lib.Seq.{take-suc, getD-drop}
+use borrow.Author.Tests.{eqb-true, ne-eqb, ltb-true, ltb-false, lt-ltb, le-ltb, leb-true, not-true, not-false}
+use Rattle.lists.specs.Choice.{pick, pick-yes, pick-no, Is, is-true, is-false, look, clash, and-left, and-right, absent}
 use Rattle.lists.specs.Search.{lowest}
 use Rattle.lists.specs.Members.{mem}
 use Rattle.lists.specs.Parts.{upTo}
 use Rattle.lists.proofs.Search.{lowest-holds, lowest-cong}
 use Rattle.lists.proofs.Members.{mem-append, mem-one, mem-getD, all-mem}
 use Rattle.lists.proofs.Parts.{upTo-cong}
+use Rattle.lists.proofs.Stores.{getD-set}
 use Rattle.formula.specs.Node.{bound}
 use Rattle.formula.specs.Words.{nodeCount, field, range, nodeAt, tableOf}
 use Rattle.formula.proofs.Nodes.{Kind, kind-constant, kind-variable, kind-negation, kind-operator, kind-exists, kind-for-all, kind-none, kind-of, node-constant, node-variable, node-negation, node-operator, node-exists, node-for-all, node-none}
@@ -87,23 +88,21 @@ upTo-rest g m (suc n) h empty = go (look (ltb n m)) (upTo-rest g m n)
 
 -- Flags after a store.
 
+pick-or : (a b : Bool) → pick a true b ≡ (b || a)
+unfolding pick
+pick-or true b = sym (or-true b)
+pick-or false b = sym (or-false b)
+
+pick-and : (a b : Bool) → pick a false b ≡ (b && not a)
+unfolding pick
+pick-and true b = sym (and-false b)
+pick-and false b = sym (and-true b)
+
 set-flag : (flags : List Bool) (y : ℕ) → y < length flags → (x : ℕ) → getD (set flags y true) x false ≡ (getD flags x false || eqb x y)
-set-flag flags y h x = go (look (eqb x y))
-  where
-    go : Is (eqb x y) → getD (set flags y true) x false ≡ (getD flags x false || eqb x y)
-    go (is-true e) =
-        let q : x ≡ y = eqb-true x y e in
-        rw (e, or-true (getD flags x false), q) (getD-set-same flags y true false h)
-    go (is-false e) = rw (e, or-false (getD flags x false)) (getD-set-other flags y x true false (eqb-false x y e))
+set-flag flags y h x = getD-set flags y true false h x ∙ pick-or (eqb x y) (getD flags x false)
 
 unset-flag : (flags : List Bool) (y : ℕ) → y < length flags → (x : ℕ) → getD (set flags y false) x false ≡ (getD flags x false && not (eqb x y))
-unset-flag flags y h x = go (look (eqb x y))
-  where
-    go : Is (eqb x y) → getD (set flags y false) x false ≡ (getD flags x false && not (eqb x y))
-    go (is-true e) =
-        let q : x ≡ y = eqb-true x y e in
-        rw (e, and-false (getD flags x false), q) (getD-set-same flags y false false h)
-    go (is-false e) = rw (e, and-true (getD flags x false)) (getD-set-other flags y x false false (eqb-false x y e))
+unset-flag flags y h x = getD-set flags y false false h x ∙ pick-and (eqb x y) (getD flags x false)
 
 -- Marking the variable nodes.
 
@@ -248,10 +247,6 @@ entry-in-range ls first count k fits h =
 
 -- Nodes of an accepted table.
 
-absent : (b : Bool) → Is b → (b ≡ true → ⊥) → b ≡ false
-absent b (is-true e) h = absurd (h e)
-absent b (is-false e) h = e
-
 number-below : (x : ℕ) → isNumber x ≡ true → x < 65536
 unfolding isNumber
 number-below x h = let l : x ≤ 65535 = leb-true x 65535 (and-right (leb 1 x) (leb x 65535) h) in omega arith
@@ -327,7 +322,7 @@ module _ (ws ls : List ℕ) where
         let free : ℕ → Bool = isFreeVariable (tableOf ws ls) in
         let g : ℕ → List ℕ = λ x. pick (free x) (x ∷ []) [] in
         let same : (x : ℕ) → getD flags x false ≡ free x = λ x. u .marks x ∙ sym (free-is x) in
-        let above-end : (x : ℕ) → end ≤ x → free x ≡ false = λ x h. absent (free x) (look (free x)) (λ f. omega (arith, m .under x (and-left _ _ (sym (free-is x) ∙ f)))) in
+        let above-end : (x : ℕ) → end ≤ x → free x ≡ false = λ x h. absent (free x) (λ f. omega (arith, m .under x (and-left _ _ (sym (free-is x) ∙ f)))) in
         upTo-cong _ g end (λ x h. ap (λ b. pick b (x ∷ []) []) (same x))
         ∙ sym (upTo-rest g end 65536 (m .low) (λ x h. pick-no _ _ _ (above-end x h)))
         ∙ upTo-rest g (suc (highestNumber (tableOf ws ls))) 65536 (omega (arith, highest-limit ws ls a)) (λ x h. pick-no _ _ _ (above-highest x h))

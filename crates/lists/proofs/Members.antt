@@ -1,36 +1,24 @@
 -- Laws of membership, distinctness, places and counts in lists of numbers.
 -- Assumes nothing.
 use mathlib.Core.Path.{_≡_, refl, sym, _∙_, ap, subst}
-use mathlib.Core.Bool.{Bool, true, false, not, _||_, true≢false}
+use mathlib.Core.Bool.{Bool, true, false, not, _||_, true≢false, or-false}
 use mathlib.Core.List.{List, [], _∷_, _++_, flatMap}
 use Prim.Native.Nat.{ℕ, zero, suc, _<_}
 use native.Mathlib.Omega.{arith}
 use native.Mathlib.Nat.{le-of-suc-le-suc, not-suc-le-zero}
 use lib.Dec.{eqb}
 use lib.ListN.{length, getD}
-use borrow.Author.Tests.{eqb-true, eq-eqb, ne-eqb}
-use Rattle.lists.specs.Choice.{pick-yes, pick-no, Is, is-true, is-false, look, clash, and-left, and-right, and-both, or-left, or-right, or-neither-left, or-neither-right, or-neither}
+use borrow.Author.Tests.{eqb-true, eq-eqb, ne-eqb, not-true}
+use Rattle.lists.specs.Choice.{pick-yes, pick-no, Is, is-true, is-false, look, clash, and-left, and-right, and-both, or-left, or-right, or-neither-left, or-neither-right, or-neither, absent}
 use Rattle.lists.specs.Members.{mem, all, distinct, times, place}
 
-or-group : (a b c d : Bool) → b ≡ (c || d) → (a || b) ≡ ((a || c) || d)
+pub or-group : (a b c d : Bool) → b ≡ (c || d) → (a || b) ≡ ((a || c) || d)
 or-group true b c d h = refl
 or-group false b c d h = h
 
 or-second : (a b : Bool) → (a || b) ≡ true → a ≡ false → b ≡ true
 or-second true b h e = absurd (true≢false e)
 or-second false b h e = h
-
-or-false : (a : Bool) → (a || false) ≡ a
-or-false true = refl
-or-false false = refl
-
-not-true : (a : Bool) → not a ≡ true → a ≡ false
-not-true true h = sym h
-not-true false h = refl
-
-not-false : (a : Bool) → a ≡ false → not a ≡ true
-not-false true h = sym h
-not-false false h = refl
 
 pub mem-append : (x : ℕ) (xs ys : List ℕ) → mem x (xs ++ ys) ≡ (mem x xs || mem x ys)
 unfolding mem
@@ -71,9 +59,9 @@ found-from x y ys (is-false e) h = later e (or-second (eqb x y) (mem x ys) h e)
 found : (x y : ℕ) (ys : List ℕ) → mem x (y ∷ ys) ≡ true → Found x y ys
 found x y ys h = found-from x y ys (look (eqb x y)) h
 
-mem-nil {ℓ} : {A : Type ℓ} (x : ℕ) → mem x [] ≡ true → A
+pub mem-nil : (x : ℕ) → mem x [] ≡ false
 unfolding mem
-mem-nil x h = absurd (true≢false (sym h))
+mem-nil x = refl
 
 pub mem-getD : (xs : List ℕ) (k d : ℕ) → k < length xs → mem (getD xs k d) xs ≡ true
 mem-getD [] k d h = absurd (not-suc-le-zero h)
@@ -93,7 +81,7 @@ place-lt-cons x y ys (first e) r = rw (place-first x y ys e) (omega arith)
 place-lt-cons x y ys (later e m) r = let l = r m in rw (place-later x y ys e) (omega arith)
 
 pub place-lt : (x : ℕ) (xs : List ℕ) → mem x xs ≡ true → place x xs < length xs
-place-lt x [] h = mem-nil x h
+place-lt x [] h = clash h (mem-nil x)
 place-lt x (y ∷ ys) h = place-lt-cons x y ys (found x y ys h) (place-lt x ys)
 
 getD-place-cons : (x y : ℕ) (ys : List ℕ) (d : ℕ) → Found x y ys → (mem x ys ≡ true → getD ys (place x ys) d ≡ x) → getD (y ∷ ys) (place x (y ∷ ys)) d ≡ x
@@ -101,20 +89,20 @@ getD-place-cons x y ys d (first e) r = rw (place-first x y ys e) (sym e)
 getD-place-cons x y ys d (later e m) r = rw (place-later x y ys e) (r m)
 
 pub getD-place : (x : ℕ) (xs : List ℕ) (d : ℕ) → mem x xs ≡ true → getD xs (place x xs) d ≡ x
-getD-place x [] d h = mem-nil x h
+getD-place x [] d h = clash h (mem-nil x)
 getD-place x (y ∷ ys) d h = getD-place-cons x y ys d (found x y ys h) (getD-place x ys d)
 
 distinct-head : (x : ℕ) (xs : List ℕ) → distinct (x ∷ xs) ≡ true → mem x xs ≡ false
 unfolding distinct
 distinct-head x xs u = not-true (mem x xs) (and-left (not (mem x xs)) (distinct xs) u)
 
-distinct-tail : (x : ℕ) (xs : List ℕ) → distinct (x ∷ xs) ≡ true → distinct xs ≡ true
+pub distinct-tail : (x : ℕ) (xs : List ℕ) → distinct (x ∷ xs) ≡ true → distinct xs ≡ true
 unfolding distinct
 distinct-tail x xs u = and-right (not (mem x xs)) (distinct xs) u
 
 distinct-cons : (x : ℕ) (xs : List ℕ) → mem x xs ≡ false → distinct xs ≡ true → distinct (x ∷ xs) ≡ true
 unfolding distinct
-distinct-cons x xs m u = and-both (not (mem x xs)) (distinct xs) (not-false (mem x xs) m) u
+distinct-cons x xs m u = and-both (not (mem x xs)) (distinct xs) (ap not m) u
 
 -- a number in the list differs from one that is not
 apart-eqb : (x y : ℕ) (ys : List ℕ) → mem x ys ≡ true → mem y ys ≡ false → eqb x y ≡ false
@@ -132,7 +120,7 @@ all-mem-cons p x y ys (later e m) h r = r m
 
 pub all-mem : (p : ℕ → Bool) (xs : List ℕ) (x : ℕ) → all p xs ≡ true → mem x xs ≡ true → p x ≡ true
 unfolding all
-all-mem p [] x h m = mem-nil x m
+all-mem p [] x h m = clash m (mem-nil x)
 all-mem p (y ∷ ys) x h m = all-mem-cons p x y ys (found x y ys m) (and-left (p y) (all p ys) h) (all-mem p ys x (and-right (p y) (all p ys) h))
 
 pub all-intro : (p : ℕ → Bool) (xs : List ℕ) → ((x : ℕ) → mem x xs ≡ true → p x ≡ true) → all p xs ≡ true
@@ -146,7 +134,7 @@ mem-flatMap-cons g x i j is (later e k) m r = mem-right x (g j) (flatMap g is) (
 
 pub mem-flatMap : (g : ℕ → List ℕ) (x i : ℕ) (is : List ℕ) → mem i is ≡ true → mem x (g i) ≡ true → mem x (flatMap g is) ≡ true
 unfolding flatMap
-mem-flatMap g x i [] h m = mem-nil i h
+mem-flatMap g x i [] h m = clash h (mem-nil i)
 mem-flatMap g x i (j ∷ is) h m = mem-flatMap-cons g x i j is (found i j is h) m (λ k. mem-flatMap g x i is k m)
 
 flatMap-from-cons : (g : ℕ → List ℕ) (x j : ℕ) (is : List ℕ) → Is (mem x (g j)) → mem x (g j ++ flatMap g is) ≡ true → (mem x (flatMap g is) ≡ true → (i : ℕ) × (mem i is ≡ true) × (mem x (g i) ≡ true)) → (i : ℕ) × (mem i (j ∷ is) ≡ true) × (mem x (g i) ≡ true)
@@ -156,7 +144,7 @@ flatMap-from-cons g x j is (is-false m) h r =
 
 pub mem-flatMap-from : (g : ℕ → List ℕ) (x : ℕ) (is : List ℕ) → mem x (flatMap g is) ≡ true → (i : ℕ) × (mem i is ≡ true) × (mem x (g i) ≡ true)
 unfolding flatMap
-mem-flatMap-from g x [] h = mem-nil x h
+mem-flatMap-from g x [] h = clash h (mem-nil x)
 mem-flatMap-from g x (j ∷ is) h = flatMap-from-cons g x j is (look (mem x (g j))) h (mem-flatMap-from g x is)
 
 pub times-zero : (x : ℕ) (xs : List ℕ) → mem x xs ≡ false → times x xs ≡ 0
@@ -174,13 +162,9 @@ times-positive-cons x y ys (later e m) r =
     let a = r m in omega arith
 
 pub times-positive : (x : ℕ) (xs : List ℕ) → mem x xs ≡ true → 0 < times x xs
-times-positive x [] h = mem-nil x h
+times-positive x [] h = clash h (mem-nil x)
 times-positive x (y ∷ ys) h = times-positive-cons x y ys (found x y ys h) (times-positive x ys)
-
-absent : (b : Bool) → Is b → (b ≡ true → ⊥) → b ≡ false
-absent b (is-true e) h = absurd (h e)
-absent b (is-false e) h = e
 
 pub distinct-append : (xs ys : List ℕ) → distinct xs ≡ true → distinct ys ≡ true → ((x : ℕ) → mem x xs ≡ true → mem x ys ≡ true → ⊥) → distinct (xs ++ ys) ≡ true
 distinct-append [] ys p q apart = q
-distinct-append (x ∷ xs) ys p q apart = distinct-cons x (xs ++ ys) (mem-neither x xs ys (distinct-head x xs p) (absent (mem x ys) (look (mem x ys)) (apart x (mem-head x xs)))) (distinct-append xs ys (distinct-tail x xs p) q (λ z m. apart z (mem-tail z x xs m)))
+distinct-append (x ∷ xs) ys p q apart = distinct-cons x (xs ++ ys) (mem-neither x xs ys (distinct-head x xs p) (absent (mem x ys) (apart x (mem-head x xs)))) (distinct-append xs ys (distinct-tail x xs p) q (λ z m. apart z (mem-tail z x xs m)))

@@ -10,9 +10,10 @@ use lib.Dec.{ltb, eqb}
 use lib.ListN.{length, getD, length-append, List·getD-append}
 use lib.Seq.{getD-at}
 use borrow.Author.Tests.{ltb-true, ltb-false, eqb-true, eqb-false, eq-eqb, ne-eqb}
-use Rattle.lists.specs.Choice.{pick-yes, pick-no, Is, is-true, is-false, look, clash, and-both, or-right}
+use Rattle.lists.specs.Choice.{pick-yes, pick-no, Is, is-true, is-false, look, clash, and-both, or-cases, pick}
 use Rattle.lists.specs.Members.{mem, distinct, place}
 use Rattle.lists.specs.Parts.{upTo, numbers, sum, highest}
+use Rattle.lists.proofs.Members.{mem-nil, mem-tail, mem-left, mem-right, mem-append}
 
 pub flatMap-append : {A B : Type 0} (g : A → List B) (xs ys : List A) → flatMap g (xs ++ ys) ≡ flatMap g xs ++ flatMap g ys
 unfolding flatMap
@@ -31,11 +32,6 @@ getD-numbers s zero k d h = absurd (not-suc-le-zero h)
 getD-numbers s (suc c) zero d h = omega arith
 getD-numbers s (suc c) (suc k) d h = getD-numbers (suc s) c k d (le-of-suc-le-suc h) ∙ omega arith
 
--- membership in a longer list
-mem-cons : (x y : ℕ) (ys : List ℕ) → mem x ys ≡ true → mem x (y ∷ ys) ≡ true
-unfolding mem
-mem-cons x y ys h = or-right (eqb x y) (mem x ys) h
-
 mem-first : (x y : ℕ) (ys : List ℕ) → x ≡ y → mem x (y ∷ ys) ≡ true
 unfolding mem
 mem-first x y ys e = rw (eq-eqb x y e)
@@ -49,22 +45,8 @@ mem-cases {P} x y ys f g m = go (eqb x y) refl m
     go true e m = f (eqb-true x y e)
     go false e m = g m
 
-mem-nil : (x : ℕ) → mem x [] ≡ false
-unfolding mem
-mem-nil x = refl
-
-mem-append-left : (x : ℕ) (xs ys : List ℕ) → mem x xs ≡ true → mem x (xs ++ ys) ≡ true
-mem-append-left x [] ys h = clash h (mem-nil x)
-mem-append-left x (y ∷ xs) ys h = mem-cases x y xs (mem-first x y (xs ++ ys)) (λ m. mem-cons x y (xs ++ ys) (mem-append-left x xs ys m)) h
-
-mem-append-right : (x : ℕ) (xs ys : List ℕ) → mem x ys ≡ true → mem x (xs ++ ys) ≡ true
-mem-append-right x [] ys h = h
-mem-append-right x (y ∷ xs) ys h = mem-cons x y (xs ++ ys) (mem-append-right x xs ys h)
-
 mem-append-cases : {P : Type 0} (x : ℕ) (xs ys : List ℕ) → (mem x xs ≡ true → P) → (mem x ys ≡ true → P) → mem x (xs ++ ys) ≡ true → P
-mem-append-cases x [] ys f g m = g m
-mem-append-cases x (y ∷ xs) ys f g m =
-    mem-cases x y (xs ++ ys) (λ e. f (mem-first x y xs e)) (λ k. mem-append-cases x xs ys (λ l. f (mem-cons x y xs l)) g k) m
+mem-append-cases x xs ys f g m = or-cases (mem x xs) (mem x ys) (sym (mem-append x xs ys) ∙ m) f g
 
 pub mem-numbers : (s c x : ℕ) → s ≤ x → x < s + c → mem x (numbers s c) ≡ true
 unfolding numbers
@@ -74,7 +56,7 @@ mem-numbers s (suc c) x h k = go (look (eqb x s)) (mem-numbers (suc s) c x)
     go : Is (eqb x s) → (suc s ≤ x → x < suc s + c → mem x (numbers (suc s) c) ≡ true) → mem x (s ∷ numbers (suc s) c) ≡ true
     go (is-true e) next = mem-first x s (numbers (suc s) c) (eqb-true x s e)
     go (is-false e) next =
-        let n : x ≡ s → ⊥ = eqb-false x s e in mem-cons x s (numbers (suc s) c) (next (omega arith) (omega arith))
+        let n : x ≡ s → ⊥ = eqb-false x s e in mem-tail x s (numbers (suc s) c) (next (omega arith) (omega arith))
 
 pub numbers-from : (s c x : ℕ) → mem x (numbers s c) ≡ true → s ≤ x
 unfolding numbers
@@ -156,8 +138,8 @@ unfolding upTo
 mem-upTo g zero i x h m = absurd (not-suc-le-zero h)
 mem-upTo g (suc n) i x h m =
     below-suc (λ j. mem x (g j) ≡ true → mem x (upTo g (suc n)) ≡ true) n i
-    (λ l k. mem-append-left x (upTo g n) (g n) (mem-upTo g n i x l k))
-    (mem-append-right x (upTo g n) (g n)) h m
+    (λ l k. mem-left x (upTo g n) (g n) (mem-upTo g n i x l k))
+    (mem-right x (upTo g n) (g n)) h m
 
 pub mem-upTo-from : (g : ℕ → List ℕ) (n x : ℕ) → mem x (upTo g n) ≡ true → (i : ℕ) × (i < n) × (mem x (g i) ≡ true)
 unfolding upTo
@@ -229,3 +211,14 @@ pub highest-le : (f : ℕ → ℕ) (n m : ℕ) → ((i : ℕ) → i < n → f i 
 unfolding highest
 highest-le f zero m h = omega arith
 highest-le f (suc n) m h = omega (arith, highest-le f n m (λ i l. h i (omega arith)), h n (omega arith))
+
+-- all of whose terms are 0
+pub sum-zero : (f : ℕ → ℕ) (n : ℕ) → ((i : ℕ) → i < n → f i ≡ 0) → sum f n ≡ 0
+unfolding sum
+sum-zero f zero h = refl
+sum-zero f (suc n) h = omega (arith, sum-zero f n (λ i l. h i (omega arith)), h n (omega arith))
+
+pub pick-le : (b : Bool) (n : ℕ) → pick b n 0 ≤ n
+unfolding pick
+pick-le true n = omega arith
+pick-le false n = omega arith

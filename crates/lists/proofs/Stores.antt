@@ -1,26 +1,37 @@
--- What an array holds after one store.
+-- What an array holds after one store within it.
 -- Assumes nothing.
-use mathlib.Core.Path.{_≡_, sym, subst}
+use mathlib.Core.Path.{_≡_, sym, _∙_, ap, subst}
 use mathlib.Core.List.{List}
-use Prim.Native.Nat.{ℕ, _+_, _<_}
-use native.Mathlib.Omega.{arith}
+use Prim.Native.Nat.{ℕ, _<_}
 use lib.Dec.{eqb}
 use lib.ListN.{length, getD, set}
 use lib.Seq.{getD-set-same, getD-set-other}
 use borrow.Author.Tests.{eqb-true, eqb-false}
-use Rattle.lists.specs.Choice.{Is, is-true, is-false, look}
+use Rattle.lists.specs.Choice.{Is, is-true, is-false, look, pick, pick-yes, pick-no}
 
-module _ (xs : List ℕ) (e v : ℕ) (h : e < length xs) where
-  -- what holds of v at e, and of each other element at its index, holds of all after the store
-  pub set-cases : (P : ℕ → ℕ → Type 0) → P e v → ((k : ℕ) → (k ≡ e → ⊥) → P k (getD xs k 0)) → (k : ℕ) → P k (getD (set xs e v) k 0)
-  set-cases P f g k = go (look (eqb k e))
+module _ {ℓ} {A : Type ℓ} (xs : List A) (e : ℕ) (v d : A) (h : e < length xs) where
+  -- what holds of v where k is e, and of the old element where it is not, holds of the element at k
+  pub set-cases {m} : (P : A → Type m) (k : ℕ) → (k ≡ e → P v) → ((k ≡ e → ⊥) → P (getD xs k d)) → P (getD (set xs e v) k d)
+  set-cases P k here other = go (look (eqb k e))
     where
-      go : Is (eqb k e) → P k (getD (set xs e v) k 0)
+      go : Is (eqb k e) → P (getD (set xs e v) k d)
       go (is-true q) =
-          subst (λ j. P j (getD (set xs e v) j 0)) (sym (eqb-true k e q)) (subst (λ w. P e w) (sym (getD-set-same xs e v 0 h)) f)
+          let r : k ≡ e = eqb-true k e q in
+          subst P (sym (ap (λ j. getD (set xs e v) j d) r ∙ getD-set-same xs e v d h)) (here r)
       go (is-false q) =
-          subst (λ w. P k w) (sym (getD-set-other xs e k v 0 (eqb-false k e q))) (g k (eqb-false k e q))
+          let n : k ≡ e → ⊥ = eqb-false k e q in
+          subst P (sym (getD-set-other xs e k v d n)) (other n)
 
-  -- one more of the values of f
-  pub store-next : (f : ℕ → ℕ) → v ≡ f e → ((k : ℕ) → k < e → getD xs k 0 ≡ f k) → (k : ℕ) → k < e + 1 → getD (set xs e v) k 0 ≡ f k
-  store-next f q r = set-cases (λ k w. k < e + 1 → w ≡ f k) (λ _. q) (λ k n l. r k (omega arith))
+  -- what holds of v at e, and of each other element at its index, holds of all
+  pub set-all {m} : (P : ℕ → A → Type m) → P e v → ((k : ℕ) → (k ≡ e → ⊥) → P k (getD xs k d)) → (k : ℕ) → P k (getD (set xs e v) k d)
+  set-all P f g k = set-cases (λ w. P k w) k (λ q. subst (λ j. P j v) (sym q) f) (g k)
+
+  -- the element at k by the test of its index
+  pub getD-set : (k : ℕ) → getD (set xs e v) k d ≡ pick (eqb k e) v (getD xs k d)
+  getD-set k = go (look (eqb k e))
+    where
+      go : Is (eqb k e) → getD (set xs e v) k d ≡ pick (eqb k e) v (getD xs k d)
+      go (is-true q) =
+          ap (λ j. getD (set xs e v) j d) (eqb-true k e q) ∙ getD-set-same xs e v d h ∙ sym (pick-yes (eqb k e) v (getD xs k d) q)
+      go (is-false q) =
+          getD-set-other xs e k v d (eqb-false k e q) ∙ sym (pick-no (eqb k e) v (getD xs k d) q)

@@ -66,3 +66,22 @@ or-cases false b h f g = g h
 -- what is true of nothing that is false
 pub clash {ℓ} : {A : Type ℓ} {b : Bool} → b ≡ true → b ≡ false → A
 clash p q = absurd (true≢false (sym p ∙ q))
+
+-- a test that cannot pass does not pass
+pub absent : (b : Bool) → (b ≡ true → ⊥) → b ≡ false
+absent true h = absurd (h refl)
+absent false h = refl
+
+-- tests that pass together are the same
+pub same-test : (a b : Bool) → (a ≡ true → b ≡ true) → (b ≡ true → a ≡ true) → a ≡ b
+same-test true b f g = sym (f refl)
+same-test false true f g = g refl
+same-test false false f g = refl
+
+pub and-off-left : (a b : Bool) → a ≡ false → (a && b) ≡ false
+and-off-left true b h = clash refl h
+and-off-left false b h = refl
+
+pub and-off-right : (a b : Bool) → b ≡ false → (a && b) ≡ false
+and-off-right true b h = h
+and-off-right false b h = refl

@@ -9,18 +9,14 @@ use lib.ListN.{length, length-append}
 use borrow.Author.Tests.{leb-true, leb-false}
 use Rattle.lists.specs.Choice.{Is, is-true, is-false, look}
 use Rattle.lists.specs.Parts.{overwrite}
-use Rattle.lists.proofs.Parts.{length-each}
 use Rattle.formula.specs.Node.{Node, Table}
 use Rattle.formula.specs.Words.{width}
 use Rattle.prenex_form.specs.Levels.{levels}
 use Rattle.prenex_form.specs.Matrix.{kept, firstNodes, levelNodes, nodesTo, prenexNodes, nodeWords, writtenNodes}
+use Rattle.prenex_form.proofs.Written.{length-firstNodes}
 use Rattle.matrix_writer.specs.Added.{addedNodes}
 use Rattle.matrix_writer.specs.Buffer.{longestForm, withNodes, Room}
 use Rattle.matrix_writer.proofs.Buffer.{with-then}
-
-length-first : (t : Table) → length (firstNodes t) ≡ kept t
-unfolding firstNodes
-length-first t = length-each _ (kept t)
 
 -- the form's nodes are the first ones and those added
 pub nodes-to : (t : Table) (l : ℕ) → nodesTo t l ≡ firstNodes t ++ addedNodes t l
@@ -28,7 +24,7 @@ unfolding nodesTo addedNodes
 nodes-to t zero = sym (append-nil (firstNodes t))
 nodes-to t (suc j) =
     let e : nodesTo t j ≡ firstNodes t ++ addedNodes t j = nodes-to t j in
-    let n : length (firstNodes t ++ addedNodes t j) ≡ kept t + length (addedNodes t j) = length-append (firstNodes t) (addedNodes t j) ∙ omega (arith, length-first t) in
+    let n : length (firstNodes t ++ addedNodes t j) ≡ kept t + length (addedNodes t j) = length-append (firstNodes t) (addedNodes t j) ∙ omega (arith, length-firstNodes t) in
     rw (e, n) (append-assoc (firstNodes t) (addedNodes t j) (levelNodes t j (kept t + length (addedNodes t j))))
 
 pub length-added : (t : Table) (j : ℕ) → length (addedNodes t (suc j)) ≡ length (addedNodes t j) + length (levelNodes t j (kept t + length (addedNodes t j)))
@@ -49,7 +45,7 @@ unfolding prenexNodes
 length-nodes t =
     ap (λ (ns : List Node). length ns) (nodes-to t (levels t))
     ∙ length-append (firstNodes t) (addedNodes t (levels t))
-    ∙ ap (λ k. k + length (addedNodes t (levels t))) (length-first t)
+    ∙ ap (λ k. k + length (addedNodes t (levels t))) (length-firstNodes t)
 
 -- the room that a buffer for the whole form has for what is added
 pub room-for-added : (t : Table) (out : List ℕ) → width * length (prenexNodes t) ≤ length out → length (prenexNodes t) ≤ longestForm
@@ -64,7 +60,7 @@ pub whole-form : (t : Table) (out : List ℕ) → width * length (prenexNodes t)
 unfolding withNodes writtenNodes prenexNodes
 whole-form t out h =
     let ns = addedNodes t (levels t) in
-    let k : kept t ≡ 0 + length (firstNodes t) = omega (arith, length-first t) in
+    let k : kept t ≡ 0 + length (firstNodes t) = omega (arith, length-firstNodes t) in
     let w : withNodes (withNodes out 0 (firstNodes t)) (kept t) ns ≡ withNodes out 0 (firstNodes t ++ ns) =
     with-then out (withNodes out 0 (firstNodes t)) _ 0 (kept t) (firstNodes t) ns refl refl k (omega (arith, length-nodes t)) in
     w ∙ ap (λ (ms : List Node). overwrite out 0 (flatMap nodeWords ms)) (sym (nodes-to t (levels t)))

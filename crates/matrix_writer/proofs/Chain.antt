@@ -1,7 +1,6 @@
 -- The blocks of a level, followed along its chain.
 -- Assumes nothing.
 use mathlib.Core.Path.{_≡_, refl, sym, _∙_, subst}
-use mathlib.Core.Bool.{Bool, true, false}
 use mathlib.Core.List.{List, [], _∷_}
 use Prim.Native.Nat.{ℕ, zero, suc, _+_, _≤_, _<_}
 use native.Mathlib.Omega.{arith}
@@ -11,7 +10,7 @@ use lib.ListN.{length, getD}
 use borrow.Author.Tests.{eqb-true}
 use Rattle.lists.specs.Choice.{pick, pick-yes, pick-no, Is, is-true, is-false, look, clash, and-left, and-right}
 use Rattle.lists.specs.Members.{mem}
-use Rattle.lists.proofs.Parts.{highest-le}
+use Rattle.lists.proofs.Parts.{highest-le, pick-le}
 use Rattle.formula.specs.Node.{Table}
 use Rattle.formula.specs.Words.{tableOf}
 use Rattle.formula.specs.Tree.{Tree}
@@ -52,11 +51,6 @@ module _ (t : Table) (l : ℕ) where
           clash (rw none at (r .1)) refl
       go (suc b) e = omega arith
 
-at-most : (b : Bool) → pick b 1 0 ≤ 1
-unfolding pick
-at-most true = omega arith
-at-most false = omega arith
-
 -- there are no more levels than nodes
 path-length : (f : ℕ) (t : Table) (i : ℕ) → howMany (inner t) (pathUp f t i) ≤ f
 unfolding pathUp howMany
@@ -65,8 +59,8 @@ path-length (suc f) t i = go (look (ltb (parent t i) (t .size))) (path-length f 
   where
     go : Is (ltb (parent t i) (t .size)) → howMany (inner t) (pathUp f t (parent t i)) ≤ f
         → pick (inner t i) 1 0 + howMany (inner t) (pick (ltb (parent t i) (t .size)) (pathUp f t (parent t i)) []) ≤ suc f
-    go (is-true e) h = rw (pick-yes _ (pathUp f t (parent t i)) [] e) (omega (arith, at-most (inner t i)))
-    go (is-false e) h = rw (pick-no _ (pathUp f t (parent t i)) [] e) (omega (arith, at-most (inner t i)))
+    go (is-true e) h = rw (pick-yes _ (pathUp f t (parent t i)) [] e) (omega (arith, pick-le (inner t i) 1))
+    go (is-false e) h = rw (pick-no _ (pathUp f t (parent t i)) [] e) (omega (arith, pick-le (inner t i) 1))
 
 pub levels-le : (t : Table) → levels t ≤ t .size
 unfolding levels level path

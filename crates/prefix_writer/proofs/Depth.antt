@@ -15,23 +15,15 @@ use Rattle.formula.specs.Tree.{Tree}
 use Rattle.table_check.specs.Verdict.{limit, verdict, accepted}
 use Rattle.table_check.specs.Accepted.{Accepted}
 use Rattle.table_check.proofs.Accepted.{accepted-holds}
-use Rattle.prenex_form.specs.Scope.{inner, level}
+use Rattle.prenex_form.specs.Scope.{inner}
 use Rattle.prenex_form.specs.Names.{boundCount}
 use Rattle.prenex_form.specs.Levels.{levels}
 use Rattle.prenex_form.specs.Matrix.{bodyOf}
 use Rattle.prenex_form.specs.Prefix.{writtenVariables}
-use Rattle.prenex_form.proofs.Paths.{body-named, climb, parent-higher, level-root, level-step, blocksAt-lt, blocksAt-inner, blocksAt-level, level-nonempty}
-use Rattle.prenex_form.proofs.NameLaws.{pick-le}
+use Rattle.prenex_form.proofs.Paths.{body-named, blocksAt-lt, blocksAt-inner, blocksAt-level, level-nonempty, level-below}
 use Rattle.prenex_form.proofs.PrefixNames.{prefix-entries, entries-le, blockCount-le}
 
 module _ (t : Table) (tree : Tree t) where
-  -- a path goes up, and each step adds at most one level
-  level-below : (i : ℕ) → i < t .size → level t i + i < t .size
-  level-below =
-      climb t tree (λ i. level t i + i < t .size)
-      (λ i h. omega (arith, level-root t tree i h))
-      (λ i h r. omega (arith, level-step t tree i h, pick-le (inner t i) 1, parent-higher t tree i h))
-
   -- an inner block has a body below it
   inner-positive : (i : ℕ) → i < t .size → inner t i ≡ true → 0 < i
   unfolding inner
@@ -45,7 +37,7 @@ module _ (t : Table) (tree : Tree t) where
       let l = blocksAt-lt t tree (levels t) (r .0) (r .1) in
       omega (
         arith,
-        level-below (r .0) l,
+        level-below t tree (r .0) l,
         blocksAt-level t tree (levels t) (r .0) (r .1),
         inner-positive (r .0) l (blocksAt-inner t tree (levels t) (r .0) (r .1)),
       )

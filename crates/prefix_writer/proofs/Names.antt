@@ -11,7 +11,6 @@ use Rattle.lists.specs.Members.{mem}
 use Rattle.lists.specs.Parts.{numbers}
 use Rattle.lists.proofs.Members.{mem-head, mem-tail}
 use Rattle.lists.proofs.Parts.{length-numbers}
-use Rattle.formula.specs.Node.{Node, constant, variable, negation, operator, block, isBlock, bound}
 use Rattle.formula.specs.Words.{nodeCount, tableOf}
 use Rattle.formula.specs.Tree.{Tree, count, boundBelow}
 use Rattle.table_check.specs.Verdict.{limit, countAt}
@@ -22,7 +21,7 @@ use Rattle.prenex_form.specs.Names.{firstName, newNames, copies, definitionVari
 use Rattle.prenex_form.specs.Levels.{blocksAt}
 use Rattle.prenex_form.specs.Prefix.{leading, prefixBlock}
 use Rattle.prenex_form.proofs.Paths.{blocksAt-lt, blocksAt-inner}
-use Rattle.prenex_form.proofs.NameLaws.{innerBound-is}
+use Rattle.prenex_form.proofs.NameLaws.{innerBound-is, binds-block}
 use Rattle.prenex_form.proofs.Limits.{highest-limit, bound-limit}
 use Rattle.arrays.proofs.Entries.{boundBelow-end}
 use Rattle.prefix_writer.specs.Held.{Started, Named, highestFirst, held, heldOwn, heldLeading}
@@ -39,15 +38,6 @@ flatMap-cong g h [] e = refl
 flatMap-cong g h (i ∷ is) e =
     let a : g i ≡ h i = e i (mem-head i is) in
     let b : flatMap g is ≡ flatMap h is = flatMap-cong g h is (λ j m. e j (mem-tail j i is m)) in rw (a, b)
-
--- a node that binds something is a block
-binds-block : (nd : Node) → 0 < length (bound nd) → isBlock nd ≡ true
-unfolding bound isBlock
-binds-block (constant b) h = absurd (omega arith)
-binds-block (variable x) h = absurd (omega arith)
-binds-block (negation a) h = absurd (omega arith)
-binds-block (operator f a b) h = absurd (omega arith)
-binds-block (block q xs a) h = refl
 
 -- as many numbers as the node binds variables
 pub held-length : (ws starts : List ℕ) (first i : ℕ) → length (held ws starts first i) ≡ countAt ws i

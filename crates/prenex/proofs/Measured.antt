@@ -8,6 +8,7 @@ use native.Mathlib.Omega.{arith}
 use lib.Dec.{eqb}
 use Rattle.lists.specs.Choice.{pick}
 use Rattle.lists.specs.Parts.{sum}
+use Rattle.lists.proofs.Parts.{pick-le}
 use Rattle.formula.specs.Node.{Table, isBlock}
 use Rattle.formula.specs.Words.{nodeCount, tableOf}
 use Rattle.formula.specs.Tree.{Tree}
@@ -22,7 +23,7 @@ use Rattle.prenex_form.specs.Prefix.{blockCount}
 use Rattle.prenex_form.specs.Sizes.{addedBy, prefixCount, sizes}
 use Rattle.prenex_form.proofs.Paths.{depth-levels}
 use Rattle.prenex_form.proofs.PrefixNames.{innerBelow-le, blockCount-le}
-use Rattle.prenex_form.proofs.NameLaws.{innerBound-le, pick-le}
+use Rattle.prenex_form.proofs.NameLaws.{innerBound-le}
 use Rattle.prenex_form.proofs.Limits.{bound-limit, size-limit}
 use Rattle.prenex_form.proofs.WrittenSizes.{nodes-few}
 use Rattle.scopes.proofs.Scopes.{levels-small}

@@ -2,13 +2,13 @@
 -- quantifier its names and definition variables.
 -- Assumes nothing.
 use mathlib.Core.Path.{_≡_, refl, sym, _∙_}
-use mathlib.Core.Bool.{Bool, true, false, _&&_}
+use mathlib.Core.Bool.{true, _&&_}
 use mathlib.Core.List.{flatMap}
 use Prim.Native.Nat.{ℕ, suc, _+_, _-_, _<_}
 use native.Mathlib.Omega.{arith}
 use lib.Dec.{eqb}
 use borrow.Author.Tests.{eqb-true, eq-eqb}
-use Rattle.lists.specs.Choice.{and-left, and-right, and-both}
+use Rattle.lists.specs.Choice.{and-left, and-right, and-both, absent}
 use Rattle.lists.specs.Search.{lowest}
 use Rattle.lists.specs.Members.{mem}
 use Rattle.lists.proofs.Search.{lowest-is}
@@ -26,10 +26,6 @@ use Rattle.prenex_form.proofs.Paths.{blocksAt-lt, blocksAt-inner}
 use Rattle.prenex_form.proofs.NameLaws.{length-newNames, length-copies, copies-shift, newNames-le, copies-above, copies-le, definition-above, newNames-apart, definition-apart}
 use Rattle.prenex_form.proofs.Seen.{body-blind, matrix-blind}
 use Rattle.prenex_form.proofs.Step.{matrix-step}
-
-absent : (a : Bool) → (a ≡ true → ⊥) → a ≡ false
-absent true h = absurd (h refl)
-absent false h = refl
 
 -- the block of a definition variable; the block of a new name
 definerOf : Table → ℕ → ℕ

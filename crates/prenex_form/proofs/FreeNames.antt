@@ -1,7 +1,7 @@
 -- The numbers that are free in a table are those that are free in its prenex form (document 01, "Truth and size").
 -- Assumes nothing.
 use mathlib.Core.Path.{_≡_, refl, sym, _∙_, ap, subst}
-use mathlib.Core.Bool.{Bool, true, false, not, _&&_, _||_}
+use mathlib.Core.Bool.{Bool, true, false, not, _&&_, _||_, or-false}
 use mathlib.Core.List.{List, [], _∷_, _++_, flatMap}
 use Prim.Native.Nat.{ℕ, zero, suc, _+_, _-_, _≤_, _<_}
 use native.Mathlib.Omega.{arith}
@@ -9,11 +9,11 @@ use native.Mathlib.Nat.{not-suc-le-zero}
 use lib.Dec.{eqb, ltb}
 use lib.ListN.{length, getD, length-append, List·getD-append}
 use borrow.Author.Tests.{eqb-true, eqb-false, eq-eqb, ne-eqb, ltb-true, ltb-false, not-true}
-use Rattle.lists.specs.Choice.{pick, pick-yes, pick-no, Is, is-true, is-false, look, clash, and-left, and-right, and-both, or-left, or-right, or-cases}
+use Rattle.lists.specs.Choice.{pick, pick-yes, pick-no, Is, is-true, is-false, look, clash, and-left, and-right, and-both, or-left, or-right, or-cases, absent, same-test}
 use Rattle.lists.specs.Members.{mem}
 use Rattle.lists.specs.Parts.{upTo}
 use Rattle.lists.proofs.Search.{lowest-le, lowest-none}
-use Rattle.lists.proofs.Members.{mem-append, mem-left, mem-right, mem-one, mem-head, mem-tail, mem-getD, mem-flatMap, mem-flatMap-from}
+use Rattle.lists.proofs.Members.{mem-append, mem-left, mem-right, mem-one, mem-head, mem-tail, mem-getD, mem-flatMap, mem-flatMap-from, or-group}
 use Rattle.lists.proofs.Parts.{term-le}
 use Rattle.formula.specs.Node.{Quantifier, exists, for-all, Node, constant, variable, negation, operator, block, Table, operands, isBlock, bound}
 use Rattle.formula.specs.Tree.{Tree, Proper, count}
@@ -25,29 +25,18 @@ use Rattle.prenex_form.specs.Names.{highestNumber, newNames, newName, co
 use Rattle.prenex_form.specs.Levels.{blocksAt, levels, levelQuantifier}
 use Rattle.prenex_form.specs.Matrix.{kept, renamed, firstNodes, equation, constraint, further, constraints, wrap, levelNodes, nodesTo, prenexNodes, writtenNodes}
 use Rattle.prenex_form.specs.Prefix.{blockCount, leading, prefixBlock, prefixBlocks, writtenPrefix, writtenVariables}
-use Rattle.prenex_form.proofs.Paths.{climb, parent-lt, parent-names, binder-root, binder-step, binder-block, inner-level, level-le-levels, mem-blocksAt, blocksAt-lt, blocksAt-inner}
+use Rattle.prenex_form.proofs.Paths.{climb, parent-lt, parent-names, binder-root, binder-step, binder-block, inner-level, level-le-levels, mem-blocksAt, blocksAt-lt, blocksAt-inner, inner-block}
 use Rattle.prenex_form.proofs.NameLaws.{variable-le, length-newNames, length-copies, newNames-above, copies-above, definition-above, newName-free, newName-bound}
-use Rattle.prenex_form.proofs.Seen.{inner-block}
 use Rattle.prenex_form.proofs.NodeLists.{listTable, Plain}
 use Rattle.prenex_form.proofs.Written.{length-firstNodes, getD-firstNodes, kept-le, kept-inner}
 use Rattle.prenex_form.proofs.WrittenOrder.{prenex-plain, written-table}
 use Rattle.prenex_form.proofs.WrittenTree.{prenex-tree}
 use Rattle.prenex_form.proofs.PrefixNames.{prefix-read}
 
--- laws of tests
-absent : (a : Bool) → (a ≡ true → ⊥) → a ≡ false
-absent true h = absurd (h refl)
-absent false h = refl
-
 and-not : (a b : Bool) → (a && not b) ≡ true → b ≡ false
 and-not true true h = sym h
 and-not true false h = refl
 and-not false b h = clash h refl
-
-same-test : (a b : Bool) → (a ≡ true → b ≡ true) → (b ≡ true → a ≡ true) → a ≡ b
-same-test true b f g = sym (f refl)
-same-test false true f g = g refl
-same-test false false f g = refl
 
 -- the free numbers of a tree
 
@@ -145,18 +134,10 @@ binds-append : (bs cs : List Block) (x : ℕ) → binds (bs ++ cs) x ≡ (binds 
 unfolding binds
 binds-append [] cs x = refl
 binds-append (b ∷ bs) cs x = or-group (mem x (b .variables)) (binds (bs ++ cs) x) (binds bs x) (binds cs x) (binds-append bs cs x)
-  where
-    or-group : (a b c d : Bool) → b ≡ (c || d) → (a || b) ≡ ((a || c) || d)
-    or-group true b c d h = refl
-    or-group false b c d h = h
 
 binds-one : (b : Block) (x : ℕ) → binds (b ∷ []) x ≡ mem x (b .variables)
 unfolding binds
 binds-one b x = or-false (mem x (b .variables))
-  where
-    or-false : (a : Bool) → (a || false) ≡ a
-    or-false true = refl
-    or-false false = refl
 
 module _ (g : ℕ → Block) (x : ℕ) where
   binds-each : (n : ℕ) → binds (upTo (λ j. g j ∷ []) (suc n)) x ≡ (binds (upTo (λ j. g j ∷ []) n) x || mem x (g n .variables))

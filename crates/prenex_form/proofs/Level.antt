@@ -10,7 +10,7 @@ use native.Mathlib.Nat.{not-suc-le-zero}
 use lib.Dec.{eqb}
 use lib.ListN.{length, getD}
 use borrow.Author.Tests.{eqb-true, eq-eqb, ne-eqb}
-use Rattle.lists.specs.Choice.{pick, pick-yes, pick-no, Is, is-true, is-false, look, clash, and-left, and-right, and-both}
+use Rattle.lists.specs.Choice.{pick, pick-yes, pick-no, Is, is-true, is-false, look, clash, and-left, and-right, and-both, absent}
 use Rattle.lists.specs.Members.{mem, all, place}
 use Rattle.lists.proofs.Members.{mem-left, mem-right, mem-neither, mem-one, mem-head, mem-getD, place-lt, getD-place, all-mem, all-intro, mem-flatMap, mem-flatMap-from}
 use Rattle.formula.specs.Node.{Quantifier, exists, for-all, dual}
@@ -92,10 +92,6 @@ lifted b i = b .names i ++ (b .definition i ∷ [])
 -- the level's constraint
 abbrev pub constraint : Blocks → Valuation → Bool
 constraint b w = all (λ i. holds (b .kind i) (b .names i) (b .copies i) (b .definition i) (b .body i) w) (b .members)
-
-absent : (a : Bool) → (a ≡ true → ⊥) → a ≡ false
-absent true h = absurd (h refl)
-absent false h = refl
 
 beq-true : (a c : Bool) → Bool·beq a c ≡ true → a ≡ c
 beq-true true true h = refl

@@ -1,7 +1,7 @@
 -- The names of a prenex form: three ranges above the highest number, one after the other, in which no two blocks share a name.
 -- Assumes nothing.
 use mathlib.Core.Path.{_≡_, refl, ap, subst}
-use mathlib.Core.Bool.{Bool, true, false, not, _&&_, _||_}
+use mathlib.Core.Bool.{true, false, not, _&&_, _||_}
 use mathlib.Core.List.{List, [], _∷_}
 use Prim.Native.Nat.{ℕ, suc, _+_, _≤_, _<_, max}
 use native.Mathlib.Omega.{arith}
@@ -13,7 +13,7 @@ use Rattle.lists.specs.Members.{mem, place, distinct}
 use Rattle.lists.specs.Parts.{sum}
 use Rattle.lists.proofs.Search.{lowest-holds}
 use Rattle.lists.proofs.Members.{place-lt}
-use Rattle.lists.proofs.Parts.{length-numbers, getD-numbers, mem-numbers, numbers-from, numbers-below, distinct-numbers, sum-cong, sum-mono, sum-grows, highest-ge}
+use Rattle.lists.proofs.Parts.{length-numbers, getD-numbers, mem-numbers, numbers-from, numbers-below, distinct-numbers, sum-cong, sum-mono, sum-grows, highest-ge, pick-le}
 use Rattle.formula.specs.Node.{Node, constant, variable, negation, operator, block, Table, isBlock, bound}
 use Rattle.formula.specs.Tree.{count, boundBelow}
 use Rattle.prenex_form.specs.Scope.{binder, inner, above}
@@ -46,10 +46,12 @@ none-bound (negation a) h = refl
 none-bound (operator f a b) h = refl
 none-bound (block q xs a) h = clash refl h
 
-pub pick-le : (b : Bool) (n : ℕ) → pick b n 0 ≤ n
-unfolding pick
-pick-le true n = omega arith
-pick-le false n = omega arith
+pub binds-block : (nd : Node) → 0 < length (bound nd) → isBlock nd ≡ true
+binds-block nd h = go (look (isBlock nd))
+  where
+    go : Is (isBlock nd) → isBlock nd ≡ true
+    go (is-true e) = e
+    go (is-false e) = absurd (omega (arith, none-bound nd e))
 
 -- two numbers neither of which is below the other are equal
 same : (i j : ℕ) → (i < j → ⊥) → (j < i → ⊥) → i ≡ j
@@ -69,9 +71,9 @@ module _ (t : Table) where
   bound-le i x h m = omega (arith, entry-le (t .node i) x m, at-le i h)
 
   -- below the root every block is inner
-  inner-is : (i : ℕ) → suc i < t .size → pick (inner t i) (count t i) 0 ≡ count t i
+  inner-count : (i : ℕ) → suc i < t .size → pick (inner t i) (count t i) 0 ≡ count t i
   unfolding count inner
-  inner-is i h = go (look (isBlock (t .node i)))
+  inner-count i h = go (look (isBlock (t .node i)))
     where
       go : Is (isBlock (t .node i)) → pick (isBlock (t .node i) && not (eqb (suc i) (t .size))) (length (bound (t .node i))) 0 ≡ length (bound (t .node i))
       go (is-true b) = pick-yes _ _ _ (and-both _ _ b (ap not (ne-eqb (suc i) (t .size) (λ e. omega arith))))
@@ -79,7 +81,7 @@ module _ (t : Table) where
 
   pub innerBound-is : (i : ℕ) → i < t .size → innerBoundBelow t i ≡ boundBelow t i
   unfolding innerBoundBelow boundBelow
-  innerBound-is i h = sum-cong (λ j. pick (inner t j) (count t j) 0) (count t) i (λ j l. inner-is j (omega arith))
+  innerBound-is i h = sum-cong (λ j. pick (inner t j) (count t j) 0) (count t) i (λ j l. inner-count j (omega arith))
 
   pub innerBound-le : (i : ℕ) → innerBoundBelow t i ≤ boundBelow t i
   unfolding innerBoundBelow boundBelow
@@ -190,7 +192,7 @@ module _ (t : Table) where
   unfolding newName
   newName-free i x e = pick-no _ _ _ (le-ltb (binder t i x) (t .size) (omega arith))
 
-  binder-covers : (i x : ℕ) → binder t i x < t .size → mem x (bound (t .node (binder t i x))) ≡ true
+  pub binder-covers : (i x : ℕ) → binder t i x < t .size → mem x (bound (t .node (binder t i x))) ≡ true
   unfolding binder
   binder-covers i x h =
       let b = binder t i x in

@@ -1,42 +1,25 @@
 -- Parents, paths, binders and levels of a tree, one step at a time: what holds of a node follows from what holds of its parent.
 -- Assumes nothing.
 use mathlib.Core.Path.{_≡_, refl, sym, _∙_, ap, subst}
-use mathlib.Core.Bool.{Bool, true, false, not, _&&_, _||_}
+use mathlib.Core.Bool.{Bool, true, false, not, _&&_, _||_, and-true, and-false}
 use mathlib.Core.List.{List, [], _∷_}
 use Prim.Native.Nat.{ℕ, zero, suc, _+_, _-_, _≤_, _<_}
 use native.Mathlib.Omega.{arith}
 use lib.Dec.{eqb, ltb}
 use borrow.Author.Tests.{ltb-true, ltb-false, eqb-true, eqb-false, eq-eqb, ne-eqb, lt-ltb, le-ltb, not-true}
-use Rattle.lists.specs.Choice.{pick, pick-yes, pick-no, Is, is-true, is-false, look, clash, and-left, and-right, and-both, or-right, or-cases}
+use Rattle.lists.specs.Choice.{pick, pick-yes, pick-no, Is, is-true, is-false, look, clash, and-left, and-right, and-both, or-right, or-cases, absent, and-off-right}
 use Rattle.lists.specs.Search.{lowest}
 use Rattle.lists.specs.Members.{mem, times, place}
 use Rattle.lists.specs.Parts.{highest}
 use Rattle.lists.proofs.Search.{lowest-holds, lowest-is, lowest-none, lowest-cong}
-use Rattle.lists.proofs.Members.{mem-one, mem-head, times-zero, times-positive}
-use Rattle.lists.proofs.Parts.{two-terms-le, sum-positive, mem-upTo, mem-upTo-from, highest-ge, highest-attained, highest-le}
+use Rattle.lists.proofs.Members.{mem-one, mem-head, times-zero, times-positive, mem-nil}
+use Rattle.lists.proofs.Parts.{two-terms-le, sum-positive, mem-upTo, mem-upTo-from, highest-ge, highest-attained, highest-le, pick-le}
 use Rattle.formula.specs.Node.{Node, constant, variable, negation, operator, block, Table, operands, isBlock, bound}
 use Rattle.formula.specs.Tree.{Tree, timesNamed}
 use Rattle.prenex_form.specs.Scope.{parent, pathUp, path, above, binder, inner, howMany, level, depth}
 use Rattle.prenex_form.specs.Names.{firstName, newName}
 use Rattle.prenex_form.specs.Levels.{blocksAt, levels}
 use Rattle.prenex_form.specs.Matrix.{kept, bodyOf}
-
--- laws of tests
-absent : (b : Bool) → (b ≡ true → ⊥) → b ≡ false
-absent true h = absurd (h refl)
-absent false h = refl
-
-and-true : (a : Bool) → (a && true) ≡ a
-and-true true = refl
-and-true false = refl
-
-and-false : (a : Bool) → (a && false) ≡ false
-and-false true = refl
-and-false false = refl
-
-and-off : (a b : Bool) → b ≡ false → (a && b) ≡ false
-and-off true b h = h
-and-off false b h = refl
 
 -- a test, and the same test without e
 or-without : (e m : Bool) → (e ≡ true → m ≡ false) → ((e || m) && not e) ≡ m
@@ -85,10 +68,6 @@ highest-shift f g n c h e = go (look (ltb 0 (highest g n)))
         let z = ltb-false 0 (highest g n) p in
         omega (arith, up, e 0 h, highest-ge f n 0 h)
 
-mem-none : (x : ℕ) → mem x [] ≡ false
-unfolding mem
-mem-none x = refl
-
 -- bodies and operands
 pub body-named : (n : Node) → isBlock n ≡ true → mem (bodyOf n) (operands n) ≡ true
 unfolding isBlock bodyOf operands
@@ -110,6 +89,10 @@ body-only (block q xs a) i h m = eqb-true i a (sym (mem-one i a) ∙ m)
 pub inner-is : (t : Table) (i : ℕ) → suc i < t .size → inner t i ≡ isBlock (t .node i)
 unfolding inner
 inner-is t i h = rw (ne-eqb (suc i) (t .size) (λ e. omega arith)) (and-true _)
+
+pub inner-block : (t : Table) (i : ℕ) → inner t i ≡ true → isBlock (t .node i) ≡ true
+unfolding inner
+inner-block t i h = and-left (isBlock (t .node i)) _ h
 
 inner-root : (t : Table) (i : ℕ) → suc i ≡ t .size → inner t i ≡ false
 unfolding inner
@@ -292,41 +275,45 @@ module _ (t : Table) (tree : Tree t) where
       (λ i l d r c. above-cases b i l c (λ f. absurd (omega (arith, above-higher a (parent t i) (parent-lt i l) d))) r)
       i k p q
 
-  -- binders
-  pub binder-root : (i x : ℕ) → suc i ≡ t .size → binder t i x ≡ t .size
-  unfolding binder
-  binder-root i x h =
-      lowest-none (λ b. isBlock (t .node b) && mem x (bound (t .node b)) && above t b i) (t .size)
-      (λ b l. and-off (binds t b x) (above t b i) (above-root b i h))
+  -- the nearest node above that passes a test: there is none above the root
+  pub nearest-root : (q : ℕ → Bool) (i : ℕ) → suc i ≡ t .size → lowest (λ b. q b && above t b i) (t .size) ≡ t .size
+  nearest-root q i h = lowest-none (λ b. q b && above t b i) (t .size) (λ b l. and-off-right (q b) (above t b i) (above-root b i h))
 
-  pub binder-step : (j i x : ℕ) → j < t .size → mem i (operands (t .node j)) ≡ true
-      → binder t i x ≡ pick (isBlock (t .node j) && mem x (bound (t .node j))) j (binder t j x)
-  unfolding binder
-  binder-step j i x h m = go (look (binds t j x))
+  -- the parent, if it passes, or else the parent's nearest
+  pub nearest-step : (q : ℕ → Bool) (j i : ℕ) → j < t .size → mem i (operands (t .node j)) ≡ true
+      → lowest (λ b. q b && above t b i) (t .size) ≡ pick (q j) j (lowest (λ b. q b && above t b j) (t .size))
+  nearest-step q j i h m = go (look (q j))
     where
-      p : parent t i ≡ j
-      p = parent-is j i h m
-
       l : suc i < t .size
       l = omega (arith, tree .lower j i h m)
 
       up : (b : ℕ) → above t b i ≡ (eqb b j || above t b j)
-      up b = subst (λ k. above t b i ≡ (eqb b k || above t b k)) p (above-step b i l)
+      up b = subst (λ k. above t b i ≡ (eqb b k || above t b k)) (parent-is j i h m) (above-step b i l)
 
       off : (b : ℕ) → b < j → above t b i ≡ false
       off b k = absent _ (λ a. or-cases (eqb b j) (above t b j) (sym (up b) ∙ a) (λ e. omega (arith, eqb-true b j e)) (λ c. omega (arith, above-higher b j h c)))
 
-      alike : binds t j x ≡ false → (b : ℕ) → Is (eqb b j) → (binds t b x && above t b i) ≡ (binds t b x && above t b j)
-      alike n b (is-true e) = subst (λ c. (binds t c x && above t c i) ≡ (binds t c x && above t c j)) (sym (eqb-true b j e)) (rw n)
+      alike : q j ≡ false → (b : ℕ) → Is (eqb b j) → (q b && above t b i) ≡ (q b && above t b j)
+      alike n b (is-true e) = subst (λ c. (q c && above t c i) ≡ (q c && above t c j)) (sym (eqb-true b j e)) (rw n)
       alike n b (is-false e) = rw (up b, e)
 
-      go : Is (binds t j x) → lowest (λ b. binds t b x && above t b i) (t .size) ≡ pick (binds t j x) j (lowest (λ b. binds t b x && above t b j) (t .size))
+      go : Is (q j) → lowest (λ b. q b && above t b i) (t .size) ≡ pick (q j) j (lowest (λ b. q b && above t b j) (t .size))
       go (is-true e) =
-          lowest-is (λ b. binds t b x && above t b i) (t .size) j h
+          lowest-is (λ b. q b && above t b i) (t .size) j h
           (and-both _ _ e (up j ∙ rw (eq-eqb j j refl)))
-          (λ b k. and-off (binds t b x) (above t b i) (off b k)) ∙ sym (pick-yes _ _ _ e)
+          (λ b k. and-off-right (q b) (above t b i) (off b k)) ∙ sym (pick-yes _ _ _ e)
       go (is-false e) =
-          lowest-cong (λ b. binds t b x && above t b i) (λ b. binds t b x && above t b j) (t .size) (λ b k. alike e b (look (eqb b j))) ∙ sym (pick-no _ _ _ e)
+          lowest-cong (λ b. q b && above t b i) (λ b. q b && above t b j) (t .size) (λ b k. alike e b (look (eqb b j))) ∙ sym (pick-no _ _ _ e)
+
+  -- binders
+  pub binder-root : (i x : ℕ) → suc i ≡ t .size → binder t i x ≡ t .size
+  unfolding binder
+  binder-root i x h = nearest-root (λ b. binds t b x) i h
+
+  pub binder-step : (j i x : ℕ) → j < t .size → mem i (operands (t .node j)) ≡ true
+      → binder t i x ≡ pick (isBlock (t .node j) && mem x (bound (t .node j))) j (binder t j x)
+  unfolding binder
+  binder-step j i x h m = nearest-step (λ b. binds t b x) j i h m
 
   binder-holds : (i x : ℕ) → binder t i x < t .size → (binds t (binder t i x) x && above t (binder t i x) i) ≡ true
   unfolding binder
@@ -334,9 +321,6 @@ module _ (t : Table) (tree : Tree t) where
 
   pub binder-block : (i x : ℕ) → binder t i x < t .size → isBlock (t .node (binder t i x)) ≡ true
   binder-block i x h = and-left _ (mem x (bound (t .node (binder t i x)))) (and-left _ _ (binder-holds i x h))
-
-  pub binder-binds : (i x : ℕ) → binder t i x < t .size → mem x (bound (t .node (binder t i x))) ≡ true
-  binder-binds i x h = and-right (isBlock (t .node (binder t i x))) _ (and-left _ _ (binder-holds i x h))
 
   pub binder-above : (i x : ℕ) → binder t i x < t .size → above t (binder t i x) i ≡ true
   binder-above i x h = and-right (binds t (binder t i x) x) _ (binder-holds i x h)
@@ -395,6 +379,13 @@ module _ (t : Table) (tree : Tree t) where
       let e = level-inner i l h in
       above-cases b i l p (λ q. omega (arith, ap (level t) q)) (λ a. omega (arith, above-level-le b (parent t i) (parent-lt i l) a))
 
+  -- each block above a node is at a higher index
+  pub level-below : (i : ℕ) → i < t .size → level t i + i < t .size
+  level-below =
+      climb (λ i. level t i + i < t .size)
+      (λ i h. omega (arith, level-root i h))
+      (λ i h r. omega (arith, level-step i h, parent-higher i h, pick-le (inner t i) 1))
+
   pub level-le-levels : (i : ℕ) → i < t .size → level t i ≤ levels t
   unfolding levels
   level-le-levels i h = highest-ge (level t) (t .size) i h
@@ -417,7 +408,7 @@ module _ (t : Table) (tree : Tree t) where
       go j (is-true e) k m =
           let q = eqb-true i j (sym (mem-one i j) ∙ (rw (pick-yes _ (j ∷ []) [] e) at m)) in
           (omega arith, subst (λ k. (inner t k && eqb (level t k) l) ≡ true) (sym q) e)
-      go j (is-false e) k m = clash (rw (pick-no _ (j ∷ []) [] e) at m) (mem-none i)
+      go j (is-false e) k m = clash (rw (pick-no _ (j ∷ []) [] e) at m) (mem-nil i)
 
   pub blocksAt-lt : (l i : ℕ) → mem i (blocksAt t l) ≡ true → i < t .size
   blocksAt-lt l i h = blocksAt-from l i h .0

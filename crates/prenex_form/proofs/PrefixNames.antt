@@ -15,7 +15,7 @@ use Rattle.lists.specs.Choice.{pick, pick-yes, pick-no, Is, is-true, is-false, 
 use Rattle.lists.specs.Members.{mem, distinct}
 use Rattle.lists.specs.Parts.{sum, upTo}
 use Rattle.lists.proofs.Members.{mem-head, mem-tail, mem-one, mem-neither, mem-flatMap-from, mem-getD, distinct-append}
-use Rattle.lists.proofs.Parts.{flatMap-append, upTo-cong, length-upTo, length-each, mem-upTo-from, sum-cong, sum-mono, sum-add, term-le}
+use Rattle.lists.proofs.Parts.{flatMap-append, upTo-cong, length-upTo, length-each, mem-upTo-from, sum-cong, sum-mono, sum-add, term-le, sum-zero, pick-le}
 use Rattle.formula.specs.Node.{Quantifier, exists, for-all, Node, constant, variable, negation, operator, block, Table, isBlock, bound}
 use Rattle.formula.specs.Tree.{Tree, count, boundBelow}
 use Rattle.formula.specs.Words.{range}
@@ -26,8 +26,8 @@ use Rattle.prenex_form.specs.Levels.{blocksAt, levels, quantifierAt, lev
 use Rattle.prenex_form.specs.Prefix.{blockCount, leading, prefixBlock, prefixBlocks, kindOf, prefixWords, writtenPrefix, writtenVariables}
 use Rattle.prenex_form.specs.Matrix.{and, kept, renamed, firstNodes, equation, guard, constraint, further, constraints, wrap, levelNodes, nodesTo, prenexNodes}
 use Rattle.prenex_form.specs.Sizes.{prefixCount, sizes}
-use Rattle.prenex_form.proofs.Paths.{level-root, inner-lt, inner-level, level-le-levels, blocksAt-lt, blocksAt-inner, blocksAt-level, depth-levels}
-use Rattle.prenex_form.proofs.NameLaws.{none-bound, pick-le, variable-le, innerBound-is, innerBound-le, length-newNames, length-copies, newNames-le, copies-above, copies-le, definition-above, definition-le, newNames-apart, copies-apart, definition-apart, distinct-newNames, distinct-copies, newName-bound}
+use Rattle.prenex_form.proofs.Paths.{level-root, inner-lt, inner-level, level-le-levels, blocksAt-lt, blocksAt-inner, blocksAt-level, depth-levels, inner-block}
+use Rattle.prenex_form.proofs.NameLaws.{none-bound, variable-le, innerBound-is, innerBound-le, length-newNames, length-copies, newNames-le, copies-above, copies-le, definition-above, definition-le, newNames-apart, copies-apart, definition-apart, distinct-newNames, distinct-copies, newName-bound}
 
 -- reading a prefix
 
@@ -135,11 +135,6 @@ distinct-upTo g (suc n) each apart =
     (λ x m k.
     let r = mem-upTo-from g n x m in
     omega (arith, r .1, apart (r .0) n x (omega (arith, r .1)) (omega arith) (r .2) k))
-
-sum-zero : (f : ℕ → ℕ) (n : ℕ) → ((i : ℕ) → i < n → f i ≡ 0) → sum f n ≡ 0
-unfolding sum
-sum-zero f zero h = refl
-sum-zero f (suc n) h = omega (arith, sum-zero f n (λ i l. h i (omega arith)), h n (omega arith))
 
 pub sum-first : (f : ℕ → ℕ) (n : ℕ) → sum f (suc n) ≡ f 0 + sum (λ i. f (suc i)) n
 unfolding sum
@@ -410,15 +405,11 @@ one-more true l d e = omega arith
 one-more false l d e = omega arith
 
 module _ (t : Table) where
-  inner-block : (i : ℕ) → inner t i ≡ true → isBlock (t .node i) ≡ true
-  unfolding inner
-  inner-block i h = and-left (isBlock (t .node i)) (not (eqb (suc i) (t .size))) h
-
   pub innerBelow-le : innerBelow t (t .size) ≤ blockCount t
   unfolding innerBelow blockCount
   innerBelow-le =
       sum-mono (λ i. pick (inner t i) 1 0) (λ i. pick (isBlock (t .node i)) 1 0) (t .size)
-      (λ i h. pick-mono (inner t i) (isBlock (t .node i)) 1 (inner-block i))
+      (λ i h. pick-mono (inner t i) (isBlock (t .node i)) 1 (inner-block t i))
 
   pub blockCount-le : blockCount t ≤ t .size
   unfolding blockCount

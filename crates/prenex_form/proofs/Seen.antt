@@ -22,7 +22,7 @@ use Rattle.prenex_form.specs.Names.{highestNumber, newName, newNames, co
 use Rattle.prenex_form.specs.Levels.{blocksAt, quantifierAt, levelQuantifier}
 use Rattle.prenex_form.specs.Matrix.{kept, bodyOf}
 use Rattle.prenex_form.proofs.Cut.{cutNode, cut, valueAt, agree, guarded, holds, blockHolds, joined, matrixAt}
-use Rattle.prenex_form.proofs.Paths.{body-named, parent-is, climb, path-root, path-step, path-self, above-root, above-step, above-cases, binder-block, binder-above, level-root, above-level, above-level-le, blocksAt-lt, blocksAt-inner, blocksAt-level, root-body}
+use Rattle.prenex_form.proofs.Paths.{body-named, parent-is, climb, path-root, path-step, path-self, above-root, above-step, above-cases, binder-block, binder-above, level-root, above-level, above-level-le, blocksAt-lt, blocksAt-inner, blocksAt-level, root-body, inner-block}
 use Rattle.prenex_form.proofs.NameLaws.{variable-le, newName-free, newName-bound, newNames-above, newNames-le, copies-above, copies-le, definition-above, newNames-apart, copies-apart}
 
 -- the nodes of a cut: nothing but blocks is changed, a block to a definition variable or to a block with its new names
@@ -56,11 +56,6 @@ cut-operands t c i a (block q xs b) m = go (look (inner t i && leb (level t i) c
         clash (subst (λ nd. mem a (operands nd) ≡ true) (pick-yes _ (variable (definitionVariable t i)) (block q (newNames t i) b) e) m) refl
     go (is-false e) =
         subst (λ nd. mem a (operands nd) ≡ true) (pick-no _ (variable (definitionVariable t i)) (block q (newNames t i) b) e) m
-
--- an inner block is a block
-pub inner-block : (t : Table) (i : ℕ) → inner t i ≡ true → isBlock (t .node i) ≡ true
-unfolding inner
-inner-block t i h = and-left (isBlock (t .node i)) _ h
 
 -- the value of a node that is no block, at two cuts and two valuations
 node-alike : (t : Table) (c d i : ℕ) (nd : Node) → isBlock nd ≡ false → (v u : Valuation)

@@ -17,9 +17,9 @@ use Rattle.prenex_form.specs.Names.{newName, newNames, copies, definitio
 use Rattle.prenex_form.specs.Levels.{blocksAt, quantifierAt}
 use Rattle.prenex_form.specs.Matrix.{kept, bodyOf}
 use Rattle.prenex_form.proofs.Cut.{valueAt, blockHolds, matrixAt}
-use Rattle.prenex_form.proofs.Paths.{body-named, inner-is, parent-is, level-root, level-step, mem-blocksAt, blocksAt-lt, blocksAt-inner, blocksAt-level}
+use Rattle.prenex_form.proofs.Paths.{body-named, inner-is, parent-is, level-root, level-step, mem-blocksAt, blocksAt-lt, blocksAt-inner, blocksAt-level, inner-block}
 use Rattle.prenex_form.proofs.NameLaws.{newNames-le, copies-le, definition-above, definition-apart}
-use Rattle.prenex_form.proofs.Seen.{inner-block, value-definition, value-real, along, name-cases, kept-cases, holds-cong, matrix-cong}
+use Rattle.prenex_form.proofs.Seen.{value-definition, value-real, along, name-cases, kept-cases, holds-cong, matrix-cong}
 
 -- an inner block deeper than the cut is real, and so is one that is not inner
 real : (n : Bool) (l c : ℕ) → pick n 1 0 + c ≤ l → (n && leb l c) ≡ false

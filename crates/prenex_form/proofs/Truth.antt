@@ -7,7 +7,7 @@ use Prim.Native.Nat.{ℕ, zero, suc, _-_, _<_}
 use native.Mathlib.Omega.{arith}
 use lib.Dec.{eqb, ltb}
 use borrow.Author.Tests.{eqb-true, ltb-true, ltb-false}
-use Rattle.lists.specs.Choice.{pick, pick-yes, pick-no, Is, is-true, is-false, look, clash, and-left}
+use Rattle.lists.specs.Choice.{pick, pick-yes, pick-no, Is, is-true, is-false, look, clash, and-left, absent}
 use Rattle.lists.specs.Members.{mem}
 use Rattle.lists.specs.Parts.{upTo, numbers}
 use Rattle.lists.proofs.Members.{mem-head}
@@ -44,10 +44,6 @@ quantify-cong bs f g v h = ap (λ k. quantify bs k v) (fun-ext h)
 empty : (xs : List ℕ) → ((x : ℕ) → mem x xs ≡ true → ⊥) → xs ≡ []
 empty [] h = refl
 empty (x ∷ xs) h = absurd (h x (mem-head x xs))
-
-absent : (a : Bool) → (a ≡ true → ⊥) → a ≡ false
-absent true h = absurd (h refl)
-absent false h = refl
 
 module _ (t : Table) (tree : Tree t) where
   -- the matrix after j levels, under what the form binds for the last of them

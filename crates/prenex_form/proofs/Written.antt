@@ -1,7 +1,7 @@
 -- The value of the written nodes: the matrix after all levels.
 -- Assumes nothing.
 use mathlib.Core.Path.{_≡_, refl, sym, _∙_, ap, ap₂}
-use mathlib.Core.Bool.{Bool, true, false, not, _&&_, Bool·beq}
+use mathlib.Core.Bool.{Bool, true, false, not, _&&_, Bool·beq, and-true}
 use mathlib.Core.List.{List, [], _∷_, _++_}
 use Prim.Native.Nat.{ℕ, zero, suc, _+_, _-_, _*_, _≤_, _<_}
 use native.Mathlib.Omega.{arith}
@@ -10,7 +10,7 @@ use lib.Dec.{eqb, leb, eqb·suc-zero}
 use lib.ListN.{length, getD, take, length-append}
 use lib.Seq.{take-all}
 use borrow.Author.Tests.{eqb-true, le-leb}
-use Rattle.lists.specs.Choice.{pick, pick-yes, pick-no, Is, is-true, is-false, look, clash, and-left, and-both}
+use Rattle.lists.specs.Choice.{pick, pick-yes, pick-no, Is, is-true, is-false, look, clash, and-both}
 use Rattle.lists.specs.Members.{mem, all}
 use Rattle.lists.specs.Parts.{upTo}
 use Rattle.lists.proofs.Members.{mem-head, mem-tail}
@@ -25,7 +25,7 @@ use Rattle.prenex_form.specs.Names.{newName, newNames, copies, definitio
 use Rattle.prenex_form.specs.Levels.{blocksAt, levels, quantifierAt, levelQuantifier}
 use Rattle.prenex_form.specs.Matrix.{and, iff, implies, kept, renamed, firstNodes, bodyOf, equation, guard, constraint, further, constraints, wrap, levelNodes, nodesTo, prenexNodes}
 use Rattle.prenex_form.proofs.Cut.{cutNode, cut, valueAt, agree, guarded, holds, blockHolds, joined, matrixAt}
-use Rattle.prenex_form.proofs.Paths.{inner-lt, level-le-levels, blocksAt-lt, blocksAt-inner, level-nonempty, kept-positive}
+use Rattle.prenex_form.proofs.Paths.{inner-lt, level-le-levels, blocksAt-lt, blocksAt-inner, level-nonempty, kept-positive, inner-block, body-named}
 use Rattle.prenex_form.proofs.NameLaws.{length-newNames, length-copies}
 use Rattle.prenex_form.proofs.NodeLists.{listTable, Val, val-constant, val-variable, val-negation, val-operator, val-is, val-truth, Placed, placed-all, placed-left, placed-right, placed-at}
 
@@ -51,10 +51,6 @@ unfolding upTo
 length-equations t i s zero = rw equation-first
 length-equations t i s (suc k) =
     length-append (upTo (equation t i s) (suc k)) (equation t i s (suc k)) ∙ rw equation-next (omega (arith, length-equations t i s k))
-
-pub and-true : (b : Bool) → (b && true) ≡ b
-and-true true = refl
-and-true false = refl
 
 and-assoc : (a b c : Bool) → (a && (b && c)) ≡ ((a && b) && c)
 and-assoc true b c = refl
@@ -404,18 +400,6 @@ kept-ge-by t (is-false b) = let y : _≡_ {A = ℕ} (pick (isBlock (t .node (t .
 pub kept-ge : (t : Table) → t .size - 1 ≤ kept t
 kept-ge t = kept-ge-by t (look (isBlock (t .node (t .size - 1))))
 
-pub body-operand : (nd : Node) → isBlock nd ≡ true → mem (bodyOf nd) (operands nd) ≡ true
-unfolding bodyOf operands isBlock
-body-operand (constant b) h = clash h refl
-body-operand (variable x) h = clash h refl
-body-operand (negation a) h = clash h refl
-body-operand (operator f a b) h = clash h refl
-body-operand (block q xs a) h = mem-head a []
-
-pub inner-block : (t : Table) (i : ℕ) → inner t i ≡ true → isBlock (t .node i) ≡ true
-unfolding inner
-inner-block t i h = and-left _ _ h
-
 mem-some : (i : ℕ) (is : List ℕ) → mem i is ≡ true → 0 < length is
 unfolding mem
 mem-some i [] h = clash h refl
@@ -428,7 +412,7 @@ module _ (t : Table) (tree : Tree t) where
 
   -- the body of an inner block is among the first nodes
   pub body-lt : (i : ℕ) → i < t .size → inner t i ≡ true → bodyOf (t .node i) < i
-  body-lt i h n = tree .lower i _ h (body-operand (t .node i) (inner-block t i n))
+  body-lt i h n = tree .lower i _ h (body-named (t .node i) (inner-block t i n))
 
   pub body-kept : (i : ℕ) → i < t .size → inner t i ≡ true → bodyOf (t .node i) < kept t
   body-kept i h n = omega (arith, body-lt i h n, inner-lt t tree i h n, kept-ge t)

@@ -1,7 +1,7 @@
 -- How many nodes are written, and that they are few.
 -- Assumes nothing.
 use mathlib.Core.Path.{_≡_, refl, sym, _∙_, ap, ap₂}
-use mathlib.Core.Bool.{Bool, true, false, _&&_}
+use mathlib.Core.Bool.{Bool, true, false, _&&_, and-true}
 use mathlib.Core.List.{List, [], _∷_, _++_}
 use Prim.Native.Nat.{ℕ, zero, suc, _+_, _*_, _≤_, _<_}
 use native.Mathlib.Omega.{arith}
@@ -11,7 +11,7 @@ use lib.ListN.{length, length-append}
 use borrow.Author.Tests.{eqb-true, eqb-false, eq-eqb, ne-eqb, leb-true, leb-false, le-leb, lt-leb}
 use Rattle.lists.specs.Choice.{pick, pick-yes, pick-no, Is, is-true, is-false, look}
 use Rattle.lists.specs.Parts.{upTo, sum}
-use Rattle.lists.proofs.Parts.{sum-cong, sum-mono, sum-add}
+use Rattle.lists.proofs.Parts.{sum-cong, sum-mono, sum-add, sum-zero}
 use Rattle.formula.specs.Node.{Table, isBlock}
 use Rattle.formula.specs.Tree.{Tree, count, boundBelow}
 use Rattle.prenex_form.specs.Scope.{inner, level}
@@ -20,9 +20,9 @@ use Rattle.prenex_form.specs.Levels.{blocksAt, levels}
 use Rattle.prenex_form.specs.Matrix.{kept, constraint, further, constraints, levelNodes, nodesTo, prenexNodes}
 use Rattle.prenex_form.specs.Prefix.{blockCount}
 use Rattle.prenex_form.specs.Sizes.{sizes, addedBy}
-use Rattle.prenex_form.proofs.Paths.{inner-level, level-le-levels}
+use Rattle.prenex_form.proofs.Paths.{inner-level, level-le-levels, inner-block}
 use Rattle.prenex_form.proofs.PrefixNames.{blockCount-le}
-use Rattle.prenex_form.proofs.Written.{and-true, length-constraint-bare, length-constraint-full, length-firstNodes, kept-le, level-some, inner-block}
+use Rattle.prenex_form.proofs.Written.{length-constraint-bare, length-constraint-full, length-firstNodes, kept-le, level-some}
 
 -- the sum of g over a list
 unfoldable pub sumOf : (ℕ → ℕ) → List ℕ → ℕ
@@ -60,11 +60,6 @@ level-more true l j x (is-false p) (is-false q) =
     let h = leb-false l j p in
     let n : l ≡ suc j → ⊥ = eqb-false l (suc j) q in rw (p, q, lt-leb l (suc j) (omega arith)) (omega arith)
 
-sum-zero : (n : ℕ) → sum (λ i. 0) n ≡ 0
-unfolding sum
-sum-zero zero = refl
-sum-zero (suc n) = omega (arith, sum-zero n)
-
 -- the blocks of one level
 sum-level : (t : Table) (g : ℕ → ℕ) (l : ℕ) → sumOf g (blocksAt t l) ≡ sum (λ i. pick (inner t i && eqb (level t i) l) (g i) 0) (t .size)
 unfolding blocksAt
@@ -83,7 +78,7 @@ module _ (t : Table) (tree : Tree t) (g : ℕ → ℕ) where
   -- the blocks of the first j levels
   sum-levels : (j : ℕ) → sum (λ l. sumOf g (blocksAt t (suc l))) j ≡ sum (λ i. pick (inner t i && leb (level t i) j) (g i) 0) (t .size)
   unfolding sum
-  sum-levels zero = sym (sum-cong _ (λ i. 0) (t .size) (λ i h. level-zero i h (look (inner t i))) ∙ sum-zero (t .size))
+  sum-levels zero = sym (sum-cong _ (λ i. 0) (t .size) (λ i h. level-zero i h (look (inner t i))) ∙ sum-zero (λ i. 0) (t .size) (λ i h. refl))
   sum-levels (suc j) =
       ap₂ _+_ (sum-levels j) (sum-level t g (suc j))
       ∙ sym (sum-add (λ i. pick (inner t i && leb (level t i) j) (g i) 0) _ (t .size))

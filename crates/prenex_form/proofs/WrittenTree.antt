@@ -13,7 +13,7 @@ use Rattle.lists.specs.Choice.{pick, pick-yes, pick-no, Is, is-true, is-false, 
 use Rattle.lists.specs.Members.{mem, times}
 use Rattle.lists.specs.Parts.{upTo, sum}
 use Rattle.lists.proofs.Members.{times-zero}
-use Rattle.lists.proofs.Parts.{sum-cong, sum-add}
+use Rattle.lists.proofs.Parts.{sum-cong, sum-add, sum-zero}
 use Rattle.formula.specs.Node.{Quantifier, exists, for-all, Node, constant, variable, negation, operator, block, Table, operands, isBlock}
 use Rattle.formula.specs.Tree.{Tree, count, timesNamed}
 use Rattle.prenex_form.specs.Scope.{inner}
@@ -248,11 +248,6 @@ kept-whole t r h b =
     let e : t .size - 1 ≡ r = omega arith in
     let y : _≡_ {A = ℕ} (pick (isBlock (t .node (t .size - 1))) 1 0) 0 = rw e (pick-no _ _ _ b) in omega arith
 
-sum-none : (f : ℕ → ℕ) (n : ℕ) → ((j : ℕ) → j < n → f j ≡ 0) → sum f n ≡ 0
-unfolding sum
-sum-none f zero h = refl
-sum-none f (suc n) h = omega (arith, sum-none f n (λ j l. h j (omega arith)), h n (omega arith))
-
 module _ (i : ℕ) (t : Table) (tree : Tree t) where
   unnamed : (j : ℕ) → t .size ≤ suc i → j < t .size → Is (mem i (operands (t .node j))) → times i (operands (t .node j)) ≡ 0
   unnamed j h l (is-true m) = let k = tree .lower j i l m in absurd (omega arith)
@@ -264,7 +259,7 @@ module _ (i : ℕ) (t : Table) (tree : Tree t) where
       let h = ltb-true (suc i) (t .size) e in omega (arith, tree .once i h, below-yes i (t .size - 1) (omega arith))
   tree-named-by (is-false e) =
       let h = ltb-false (suc i) (t .size) e in
-      sum-none (λ j. times i (operands (t .node j))) (t .size) (λ j l. unnamed j h l (look (mem i (operands (t .node j)))))
+      sum-zero (λ j. times i (operands (t .node j))) (t .size) (λ j l. unnamed j h l (look (mem i (operands (t .node j)))))
       ∙ sym (below-no i (t .size - 1) (omega arith))
 
   -- in the input, each node but the last
@@ -320,7 +315,7 @@ module _ (i : ℕ) (t : Table) (tree : Tree t) where
 -- the same, counted in the table
 table-named : (i : ℕ) (ns : List Node) → sum (λ j. times i (operands (getD ns j (constant false)))) (length ns) ≡ named i ns
 unfolding named
-table-named i [] = sum-none _ 0 (λ j h. absurd (not-suc-le-zero h))
+table-named i [] = sum-zero _ 0 (λ j h. absurd (not-suc-le-zero h))
 table-named i (nd ∷ ns) =
     sum-first (λ j. times i (operands (getD (nd ∷ ns) j (constant false)))) (length ns)
     ∙ ap (λ (n : ℕ). times i (operands nd) + n) (table-named i ns)

@@ -18,6 +18,7 @@ use Rattle.table_check.specs.Verdict.{limit, verdict, accepted}
 use Rattle.table_check.proofs.Accepted.{accepted-holds}
 use Rattle.prenex_form.specs.Scope.{inner, level}
 use Rattle.prenex_form.specs.Names.{maximum, highestAt, highestNumber, boundCount}
+use Rattle.prenex_form.proofs.NameLaws.{none-bound}
 use Rattle.arrays.specs.Held.{enclosing, isMember, Parents, NodeLevels, LevelChains, MemberChains, Starts}
 use Rattle.arrays.proofs.Enclosing.{enclosing-le}
 use Rattle.arrays.proofs.Entries.{boundBelow-next, boundBelow-grows}
@@ -25,7 +26,7 @@ use Rattle.scopes.specs.declared.Passed.{Passed}
 use Rattle.scopes.specs.Passes.{Cleared, LevelsFrom, MembersFrom, ChainedFrom}
 use Rattle.scopes.proofs.Nodes.{accepted-tree, nodes-few, ReadAt, kind-read, variable-read, plain-member, plain-highest, block-highest}
 use Rattle.scopes.proofs.Scopes.{level-small, outer-plain, outer-root, inner-rest}
-use Rattle.scopes.proofs.Counting.{bound-none, from-here, count-read}
+use Rattle.scopes.proofs.Counting.{from-here, count-read}
 use Rattle.scopes.proofs.Chains.{chains-start, chains-skip, chains-put, chains-end}
 use Rattle.scopes.proofs.Highest.{highest-next}
 
@@ -96,7 +97,7 @@ module _ (ws ls : List ℕ) (ok : verdict ws ls ≡ accepted) (i : ℕ) (h : i <
     unfolding tableOf count
     start-same e =
         let q : boundBelow (tableOf ws ls) (i + 1) ≡ boundBelow (tableOf ws ls) i + count (tableOf ws ls) i = rw add-one (boundBelow-next (tableOf ws ls) i) in
-        omega (arith, s .start-here, q, bound-none (nodeAt ws ls i) e)
+        omega (arith, s .start-here, q, none-bound (nodeAt ws ls i) e)
 
     highest-with : (x : ℕ) → highestAt (nodeAt ws ls i) ≡ x
         → max (highest (λ j. highestAt (tableOf ws ls .node j)) i) (max (p .highest) x) ≡ highestNumber (tableOf ws ls)

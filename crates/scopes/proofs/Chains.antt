@@ -7,20 +7,12 @@ use Prim.Native.Nat.{ℕ, suc, _<_, _≤_}
 use native.Mathlib.Omega.{arith}
 use lib.Dec.{eqb}
 use lib.ListN.{length, getD, set}
-use lib.Seq.{getD-set-same, getD-set-other}
-use borrow.Author.Tests.{eqb-true, eqb-false}
-use Rattle.lists.specs.Choice.{Is, is-true, is-false, look, clash, and-both}
+use borrow.Author.Tests.{eqb-true, eqb-false, eq-eqb, ne-eqb}
+use Rattle.lists.specs.Choice.{Is, is-true, is-false, look, clash, and-both, and-off-left, and-off-right}
+use Rattle.lists.proofs.Stores.{set-all}
 use Rattle.arrays.specs.Link.{link, Chains}
 use Rattle.arrays.proofs.Link.{link-end, link-here, link-skip}
 use Rattle.scopes.specs.Passes.{LinkedFrom}
-
-outer-off : (a b : Bool) → a ≡ false → (a && b) ≡ false
-outer-off true b h = clash refl h
-outer-off false b h = refl
-
-other-off : (a b : Bool) → b ≡ false → (a && b) ≡ false
-other-off true b h = h
-other-off false b h = refl
 
 module _ (passes : ℕ → Bool) (key : ℕ → ℕ) (n : ℕ) where
   -- number j passes the test and has key k
@@ -38,7 +30,7 @@ module _ (passes : ℕ → Bool) (key : ℕ → ℕ) (n : ℕ) where
   pub chains-skip : (i : ℕ) (fs ns : List ℕ) → passes i ≡ false → LinkedFrom passes key n (suc i) fs ns → LinkedFrom passes key n i fs ns
   chains-skip i fs ns o s =
       record {
-        first-is = λ k. s .first-is k ∙ sym (link-skip (keyed k) i n (outer-off (passes i) (eqb (key i) k) o));
+        first-is = λ k. s .first-is k ∙ sym (link-skip (keyed k) i n (and-off-left (passes i) (eqb (key i) k) o));
         next-is = λ j k l e. go j k l e (look (eqb j i));
       }
     where
@@ -50,25 +42,19 @@ module _ (passes : ℕ → Bool) (key : ℕ → ℕ) (n : ℕ) where
   -- one that does goes before those with its key
   module _ (i : ℕ) (fs ns : List ℕ) (h : i < n) (o : passes i ≡ true) (w : key i < length fs) (v : i < length ns) (s : LinkedFrom passes key n (suc i) fs ns) where
     put : LinkedFrom passes key n i (set fs (key i) (suc i)) (set ns i (getD fs (key i) 0))
-    put = record { first-is = λ k. first-at k (look (eqb (key i) k)); next-is = λ j k l e. next-at j k l e (look (eqb j i)) }
-      where
-        first-at : (k : ℕ) → Is (eqb (key i) k) → getD (set fs (key i) (suc i)) k 0 ≡ link (keyed k) i n
-        first-at k (is-true q) =
-            subst (λ y. getD (set fs (key i) (suc i)) y 0 ≡ suc i) (eqb-true _ _ q) (getD-set-same fs (key i) (suc i) 0 w)
-            ∙ sym (link-here (keyed k) i n h (and-both (passes i) (eqb (key i) k) o q))
-        first-at k (is-false q) =
-            let d = eqb-false (key i) k q in
-            getD-set-other fs (key i) k (suc i) 0 (λ e. d (sym e)) ∙ s .first-is k
-            ∙ sym (link-skip (keyed k) i n (other-off (passes i) (eqb (key i) k) q))
-
-        next-at : (j : ℕ) → i ≤ j → j < n → passes j ≡ true → Is (eqb j i)
-            → getD (set ns i (getD fs (key i) 0)) j 0 ≡ link (keyed (key j)) (suc j) n
-        next-at j k l e (is-true q) =
-            subst (λ y. getD (set ns i (getD fs (key i) 0)) y 0 ≡ link (keyed (key y)) (suc y) n)
-            (sym (eqb-true j i q)) (getD-set-same ns i (getD fs (key i) 0) 0 v ∙ s .first-is (key i))
-        next-at j k l e (is-false q) =
-            let d = eqb-false j i q in
-            getD-set-other ns i j (getD fs (key i) 0) 0 d ∙ s .next-is j (omega arith) l e
+    put =
+        record {
+          first-is =
+              set-all fs (key i) (suc i) 0 w (λ k c. c ≡ link (keyed k) i n)
+              (sym (link-here (keyed (key i)) i n h (and-both (passes i) (eqb (key i) (key i)) o (eq-eqb (key i) (key i) refl))))
+              (λ k d.
+              s .first-is k
+              ∙ sym (link-skip (keyed k) i n (and-off-right (passes i) (eqb (key i) k) (ne-eqb (key i) k (λ e. d (sym e))))));
+          next-is =
+              set-all ns i (getD fs (key i) 0) 0 v (λ j c. i ≤ j → j < n → passes j ≡ true → c ≡ link (keyed (key j)) (suc j) n)
+              (λ _ _ _. s .first-is (key i))
+              (λ j d k l e. s .next-is j (omega arith) l e);
+        }
 
     -- where the key was read and the lists were written
     pub chains-put : (k : ℕ) (fs' ns' : List ℕ) → k ≡ key i → fs' ≡ set fs k (suc i) → ns' ≡ set ns i (getD fs k 0) → LinkedFrom passes key n i fs' ns'

@@ -1,18 +1,17 @@
 -- What the pass from the root down counts, step by step, and how large the counts can be.
 -- Assumes nothing.
-use mathlib.Core.Path.{_≡_, refl, sym, _∙_, subst}
+use mathlib.Core.Path.{_≡_, sym, _∙_, subst}
 use mathlib.Core.Bool.{Bool, true, false}
 use mathlib.Core.List.{List}
 use Prim.Native.Nat.{ℕ, zero, suc, _+_, _*_, _<_, _≤_, max}
 use native.Mathlib.Numerals.{add-one}
 use native.Mathlib.Omega.{arith}
 use lib.Dec.{eqb}
-use lib.ListN.{length}
 use borrow.Author.Tests.{eqb-true, eqb-false}
-use Rattle.lists.specs.Choice.{pick, pick-yes, pick-no, Is, is-true, is-false, look, clash}
+use Rattle.lists.specs.Choice.{pick, pick-yes, pick-no, Is, is-true, is-false, look}
 use Rattle.lists.specs.Parts.{sum}
-use Rattle.lists.proofs.Parts.{sum-mono, highest-ge, highest-le}
-use Rattle.formula.specs.Node.{Node, constant, variable, negation, operator, block, Table, isBlock, bound}
+use Rattle.lists.proofs.Parts.{highest-le}
+use Rattle.formula.specs.Node.{Table, isBlock, bound}
 use Rattle.formula.specs.declared.NodeWords.{NodeWords}
 use Rattle.formula.specs.Words.{nodeCount, nodeAt, tableOf}
 use Rattle.formula.specs.Tree.{Tree, count, boundBelow}
@@ -23,20 +22,12 @@ use Rattle.prenex_form.specs.Levels.{levels}
 use Rattle.prenex_form.specs.Names.{boundCount, innerBoundBelow, innerBelow}
 use Rattle.prenex_form.specs.Prefix.{blockCount}
 use Rattle.prenex_form.specs.Sizes.{addedBy}
-use Rattle.prenex_form.proofs.Paths.{parent-lt, parent-higher, level-root, level-step}
+use Rattle.prenex_form.proofs.Paths.{parent-lt, parent-higher, level-root, level-step, level-le-levels}
+use Rattle.prenex_form.proofs.NameLaws.{none-bound, innerBound-le}
 use Rattle.scopes.specs.declared.Counts.{Counts}
 use Rattle.scopes.specs.Passes.{withRoot, withInner, Small, CountsFrom, BlockCounts}
 use Rattle.scopes.proofs.Nodes.{accepted-tree, nodes-few, ReadAt, kind-read}
 use Rattle.scopes.proofs.Scopes.{outer-plain, outer-root, inner-rest}
-
--- only blocks bind variables
-pub bound-none : (n : Node) → isBlock n ≡ false → length (bound n) ≡ 0
-unfolding isBlock bound
-bound-none (constant b) h = refl
-bound-none (variable x) h = refl
-bound-none (negation a) h = refl
-bound-none (operator f a b) h = refl
-bound-none (block q xs a) h = clash refl h
 
 -- sums over the nodes below i
 ones-le : (p : ℕ → Bool) (n : ℕ) → sum (λ j. pick (p j) 1 0) n ≤ n
@@ -47,11 +38,6 @@ ones-le p (suc n) = go (look (p n)) (ones-le p n)
     go : Is (p n) → sum (λ j. pick (p j) 1 0) n ≤ n → sum (λ j. pick (p j) 1 0) n + pick (p n) 1 0 ≤ suc n
     go (is-true e) r = omega (arith, pick-yes {A = ℕ} (p n) 1 0 e)
     go (is-false e) r = omega (arith, pick-no {A = ℕ} (p n) 1 0 e)
-
-pick-le : (b : Bool) (x y : ℕ) → y ≤ x → pick b x y ≤ x
-unfolding pick
-pick-le true x y h = omega arith
-pick-le false x y h = h
 
 module _ (t : Table) where
   added-by-le : (i : ℕ) → addedBy t i ≤ 4 * count t i + 5
@@ -67,14 +53,6 @@ module _ (t : Table) where
   unfolding sum boundBelow
   added-below zero = omega arith
   added-below (suc n) = let r = added-below n in omega (arith, added-by-le n)
-
-  inner-bound-below : (n : ℕ) → innerBoundBelow t n ≤ boundBelow t n
-  unfolding innerBoundBelow boundBelow
-  inner-bound-below n = sum-mono _ (count t) n (λ j h. pick-le (inner t j) (count t j) 0 (omega arith))
-
-  level-le : (x : ℕ) → x < t .size → level t x ≤ levels t
-  unfolding levels
-  level-le x h = highest-ge (level t) (t .size) x h
 
   pub counts-none : (c : Counts) → c .blocks ≡ 0 → c .bound ≡ 0 → c .inner ≡ 0 → c .«inner_bound» ≡ 0 → c .added ≡ 0 → c .deepest ≡ 0
       → CountsFrom t (t .size) c
@@ -98,7 +76,7 @@ module _ (t : Table) where
         blocks-le = omega (arith, s .blocks-is, ones-le (λ j. isBlock (t .node j)) (t .size));
         bound-le = omega (arith, s .bound-is);
         inner-le = omega (arith, s .inner-is, ones-le (inner t) (t .size));
-        inner-bound-le = omega (arith, s .inner-bound-is, inner-bound-below (t .size));
+        inner-bound-le = omega (arith, s .inner-bound-is, innerBound-le t (t .size));
         added-le = omega (arith, s .added-is, added-below (t .size));
       }
 
@@ -146,7 +124,7 @@ module _ (t : Table) where
         let n = outer-plain t i e in
         record {
           blocks-is = omega (arith, s .blocks-is, pick-no {A = ℕ} (isBlock (t .node i)) 1 0 e);
-          bound-is = omega (arith, s .bound-is, bound-none (t .node i) e);
+          bound-is = omega (arith, s .bound-is, none-bound (t .node i) e);
           inner-is = omega (arith, s .inner-is, pick-no {A = ℕ} (inner t i) 1 0 n);
           inner-bound-is = omega (arith, s .inner-bound-is, pick-no {A = ℕ} (inner t i) (count t i) 0 n);
           added-is = omega (arith, s .added-is, pick-no {A = ℕ} (inner t i) (pick (eqb (count t i) 0) 3 (4 * count t i + 5)) 0 n);
@@ -177,7 +155,7 @@ module _ (t : Table) where
           inner-is = omega (arith, s .inner-is, pick-yes {A = ℕ} (inner t i) 1 0 n);
           inner-bound-is = omega (arith, s .inner-bound-is, pick-yes {A = ℕ} (inner t i) (count t i) 0 n);
           added-is = omega (arith, s .added-is, pick-yes {A = ℕ} (inner t i) (pick (eqb (count t i) 0) 3 (4 * count t i + 5)) 0 n);
-          deepest-le = omega (arith, s .deepest-le, level-le i h);
+          deepest-le = omega (arith, s .deepest-le, level-le-levels t tree i h);
           deepest-from = from-here (λ x. level t x ≤ max (c .deepest) (level t i)) i (omega arith) (λ x k l. omega (arith, s .deepest-from x k l));
         }
 

@@ -69,15 +69,6 @@ highest-by ls kind a b c (kind-exists e) h = rw e
 highest-by ls kind a b c (kind-for-all e) h = rw e
 highest-by ls kind a b c (kind-none e1 e2 e3 e4 e5 e6) h = clash h (rw (e1, e2, e3, e4, e5, e6))
 
--- blocks are members, and only members have numbers
-pub block-member : (nd : Node) → isBlock nd ≡ true → isMember nd ≡ true
-unfolding isBlock isMember
-block-member (constant b) h = h
-block-member (variable x) h = refl
-block-member (negation a) h = h
-block-member (operator f a b) h = h
-block-member (block q xs a) h = refl
-
 pub plain-highest : (nd : Node) → isMember nd ≡ false → highestAt nd ≡ 0
 unfolding isMember highestAt
 plain-highest (constant b) h = refl

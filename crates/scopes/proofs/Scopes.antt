@@ -1,7 +1,7 @@
 -- The pass that fills parent blocks and levels, step by step.
 -- Assumes nothing.
-use mathlib.Core.Path.{_≡_, refl, sym, _∙_, ap, subst}
-use mathlib.Core.Bool.{Bool, true, false, _&&_}
+use mathlib.Core.Path.{_≡_, sym, _∙_, ap, subst}
+use mathlib.Core.Bool.{true, false, and-false}
 use mathlib.Core.List.{List, [], _∷_}
 use Prim.Native.Nat.{ℕ, suc, _+_, _-_, _<_, _≤_}
 use native.Mathlib.Numerals.{add-one}
@@ -10,8 +10,9 @@ use lib.Dec.{eqb}
 use lib.ListN.{length, getD, set}
 use lib.Seq.{getD-set-same}
 use borrow.Author.Tests.{eqb-true, eqb-false, eq-eqb, ne-eqb}
-use Rattle.lists.specs.Choice.{pick, pick-yes, pick-no, Is, is-true, is-false, look}
+use Rattle.lists.specs.Choice.{pick, pick-yes, pick-no, Is, is-true, is-false, look, absent}
 use Rattle.lists.specs.Members.{mem}
+use Rattle.lists.proofs.Stores.{getD-set}
 use Rattle.lists.proofs.Search.{lowest-holds}
 use Rattle.lists.proofs.Parts.{highest-le}
 use Rattle.formula.specs.Node.{Table, operands, isBlock}
@@ -20,25 +21,11 @@ use Rattle.formula.specs.Tree.{Tree}
 use Rattle.table_check.specs.Verdict.{limit, verdict, accepted}
 use Rattle.prenex_form.specs.Scope.{parent, inner, level}
 use Rattle.prenex_form.specs.Levels.{levels}
-use Rattle.prenex_form.proofs.Paths.{parent-is, parent-lt, parent-higher, root-parent, climb, level-root, level-step}
+use Rattle.prenex_form.proofs.Paths.{parent-is, parent-lt, parent-higher, root-parent, level-root, level-step, level-below}
 use Rattle.arrays.specs.Held.{enclosing, Parents, NodeLevels}
 use Rattle.arrays.proofs.Enclosing.{enclosing-root, enclosing-step}
 use Rattle.scopes.specs.Passes.{Stored, ScopesFrom}
 use Rattle.scopes.proofs.Nodes.{accepted-tree, nodes-few, nodes-some}
-use Rattle.scopes.proofs.Stores.{getD-set}
-
-one-at-most : (b : Bool) → pick b 1 0 ≤ 1
-unfolding pick
-one-at-most true = omega arith
-one-at-most false = omega arith
-
-absent : (b : Bool) → (b ≡ true → ⊥) → b ≡ false
-absent true h = absurd (h refl)
-absent false h = refl
-
-and-off : (b : Bool) → (b && false) ≡ false
-and-off true = refl
-and-off false = refl
 
 -- which nodes are inner blocks
 module _ (t : Table) (i : ℕ) where
@@ -48,7 +35,7 @@ module _ (t : Table) (i : ℕ) where
 
   pub outer-root : suc i ≡ t .size → inner t i ≡ false
   unfolding inner
-  outer-root h = rw (eq-eqb _ _ h) (and-off (isBlock (t .node i)))
+  outer-root h = rw (eq-eqb _ _ h) (and-false (isBlock (t .node i)))
 
   pub inner-rest : isBlock (t .node i) ≡ true → (suc i ≡ t .size → ⊥) → inner t i ≡ true
   unfolding inner
@@ -89,13 +76,6 @@ module _ (t : Table) (tree : Tree t) where
 
   names-not : (i x : ℕ) → i < t .size → (parent t x ≡ i → ⊥) → mem x (operands (t .node i)) ≡ false
   names-not i x h n = absent _ (λ m. n (parent-is t tree i x h m))
-
-  -- each block above a node is at a higher index
-  level-bound : (i : ℕ) → i < t .size → level t i + i < t .size
-  level-bound =
-      climb t tree (λ i. level t i + i < t .size)
-      (λ i h. omega (arith, level-root t tree i h))
-      (λ i h r. omega (arith, level-step t tree i h, parent-higher t tree i h, one-at-most (inner t i)))
 
   scopes-start : (r : ℕ) (ps ls : List ℕ) → suc r ≡ t .size → getD ps r 0 ≡ t .size → getD ls r 0 ≡ 0 → ScopesFrom t (t .size) ps ls
   scopes-start r ps ls h p l =
@@ -165,7 +145,7 @@ module _ (t : Table) (tree : Tree t) where
 module _ (ws ls : List ℕ) (ok : verdict ws ls ≡ accepted) (i : ℕ) (h : i < nodeCount ws) where
   pub level-small : level (tableOf ws ls) i < limit
   unfolding tableOf
-  level-small = omega (arith, level-bound (tableOf ws ls) (accepted-tree ws ls ok) i h, nodes-few ws ls ok)
+  level-small = omega (arith, level-below (tableOf ws ls) (accepted-tree ws ls ok) i h, nodes-few ws ls ok)
 
   pub inherited-small : (ps vs : List ℕ) → ScopesFrom (tableOf ws ls) (i + 1) ps vs → getD vs i 0 < limit
   unfolding tableOf
@@ -207,7 +187,7 @@ module _ (ws ls : List ℕ) (ok : verdict ws ls ≡ accepted) (i : ℕ) (h : i <
     inner-filled x ps' vs' q e n w sp sv =
         let l = inner-own e n in
         scopes-step (tableOf ws ls) (accepted-tree ws ls ok) i i ps vs (set vs i (getD vs i 0 + 1)) ps' vs' h s (sym (pick-yes _ _ _ e))
-        (λ x. getD-set vs i (getD vs i 0 + 1) x (omega (arith, nodes-few ws ls ok)) ∙ ap (λ k. pick (eqb x i) k (getD vs x 0)) l) (rw q sp) (rw (q, ← l) sv)
+        (λ x. getD-set vs i (getD vs i 0 + 1) 0 (omega (arith, nodes-few ws ls ok)) x ∙ ap (λ k. pick (eqb x i) k (getD vs x 0)) l) (rw q sp) (rw (q, ← l) sv)
 
 module _ (ws ls : List ℕ) (ok : verdict ws ls ≡ accepted) where
   pub levels-small : levels (tableOf ws ls) ≤ limit

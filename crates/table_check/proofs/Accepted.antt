@@ -1,7 +1,7 @@
 -- The verdict accepts a table exactly where `Accepted` holds of it, and how large its number and position can be.
 -- Assumes nothing.
 use mathlib.Core.Path.{_≡_, refl, sym, _∙_, ap}
-use mathlib.Core.Bool.{Bool, true, false, not, _&&_, _||_, true≢false}
+use mathlib.Core.Bool.{Bool, true, false, not, _&&_, _||_, true≢false, or-false}
 use mathlib.Core.List.{List}
 use Prim.Native.Nat.{ℕ, zero, suc, _+_, _-_, _*_, _%_, _<_, _≤_}
 use native.Mathlib.Omega.{arith}
@@ -21,6 +21,7 @@ use Rattle.formula.specs.Tree.{timesNamed, count, boundBelow}
 use Rattle.formula.proofs.Nodes.{Kind, kind-of, kind-constant, kind-variable, kind-negation, kind-operator, kind-exists, kind-for-all, kind-none}
 use Rattle.table_check.specs.Verdict.{limit, isNumber, isBlockKind, partialNode, tooLarge, wellFormed, forwardReference, rangePastEnd, countAt, tooManyVariables, badVariable, nodeFault, notNamedOnce, refusal, accepted, verdict}
 use Rattle.table_check.specs.Accepted.{Accepted}
+use Rattle.table_check.proofs.Faults.{few-nodes}
 
 -- The tests of a node's words, said of the node that they make.
 
@@ -158,10 +159,6 @@ module _ (ws ls : List ℕ) where
       first (is-true t) = partial t (pick-yes _ _ _ t)
       first (is-false t) = second t (look (tooLarge ws ls))
 
-  nodes-few : tooLarge ws ls ≡ false → nodeCount ws ≤ limit
-  unfolding tooLarge
-  nodes-few l = ltb-false _ _ (or-neither-left (ltb limit (nodeCount ws)) (ltb limit (length ls)) l)
-
   list-short : tooLarge ws ls ≡ false → length ls ≤ limit
   unfolding tooLarge
   list-short l = ltb-false _ _ (or-neither-right (ltb limit (nodeCount ws)) (ltb limit (length ls)) l)
@@ -173,8 +170,8 @@ module _ (ws ls : List ℕ) where
       go : Outcome ws ls → verdict ws ls .position ≤ limit
       go (partial t e) = rw e (omega arith)
       go (large t e) = rw e (omega arith)
-      go (fault l f e) = let k = nodes-few l in rw e (omega arith)
-      go (not-tree l f e) = let k = nodes-few l in rw e (omega arith)
+      go (fault l f e) = let k = few-nodes ws ls l in rw e (omega arith)
+      go (not-tree l f e) = let k = few-nodes ws ls l in rw e (omega arith)
       go (fine p l f g e) = rw e (omega arith)
 
   pub verdict-number : verdict ws ls .number ≤ 8
@@ -352,7 +349,7 @@ module _ (ws ls : List ℕ) where
           };
           apart = λ i h. clear-apart ws ls i (r .clear i h);
         };
-        nodes-limit = nodes-few ws ls (r .small);
+        nodes-limit = few-nodes ws ls (r .small);
         list-limit = list-short ws ls (r .small);
         counts-limit = omega (arith, few-sum ws (nodeCount ws) (λ i h. r .clear i h .few));
         formed = λ i h. r .clear i h .formed;
@@ -395,10 +392,6 @@ pub data Formed (kind a b c : ℕ) : Type 0 where
   formed-operator : kind ≡ 4 → a ≤ 15 → Formed kind a b c
   formed-exists : kind ≡ 5 → Formed kind a b c
   formed-for-all : kind ≡ 6 → Formed kind a b c
-
-or-false : (t : Bool) → (t || false) ≡ t
-or-false true = refl
-or-false false = refl
 
 two-tests : (s t : Bool) → (s && t) ≡ true → (s ≡ true) × (t ≡ true)
 two-tests s t h = (and-left s t h, and-right s t h)

@@ -8,10 +8,10 @@ use Prim.Native.Nat.{ℕ, _+_, _-_, _%_, _≤_, _<_}
 use native.Mathlib.Omega.{arith}
 use lib.Dec.{eqb, ltb}
 use lib.ListN.{length, getD, set, replicate, length-set, length-replicate}
-use lib.Seq.{getD-set-same, getD-set-other}
 use borrow.Author.Tests.{eqb-true, eqb-false, ltb-true, ltb-false}
 use Rattle.lists.specs.Choice.{Is, is-true, is-false, look, clash}
 use Rattle.lists.specs.Members.{mem}
+use Rattle.lists.proofs.Stores.{set-cases}
 use Rattle.formula.specs.Words.{range}
 use Rattle.table_check.specs.Verdict.{limit, isNumber}
 use Rattle.table_check.specs.Steps.{buckets, Latest, Linked, Earlier, Chains, Chain, isNew}
@@ -75,16 +75,6 @@ module _ (ls prevs : List ℕ) (before first head x c : ℕ) (w : Walked ls prev
 pub walked-end : (ls prevs : List ℕ) (before first head x c : ℕ) → Walked ls prevs before first head x c → c ≤ before → mem x (range ls first (head - before)) ≡ false
 walked-end ls prevs before first head x c w h =
     range-not ls first (head - before) x (λ j b e. w .missed j (omega arith) (omega arith) e)
-
--- What a store does, at a place within the array.
-set-cases {ℓ} : (l : List ℕ) (x v : ℕ) → x < length l → (P : ℕ → Type ℓ) (y : ℕ) → (y ≡ x → P v) → ((y ≡ x → ⊥) → P (getD l y 0)) → P (getD (set l x v) y 0)
-set-cases l x v within P y here other = go (look (eqb y x))
-  where
-    go : Is (eqb y x) → P (getD (set l x v) y 0)
-    go (is-true e) =
-        let q : y ≡ x = eqb-true y x e in
-        subst P (sym (ap (λ z. getD (set l x v) z 0) q ∙ getD-set-same l x v 0 within)) (here q)
-    go (is-false e) = subst P (sym (getD-set-other l x y v 0 (eqb-false y x e))) (other (eqb-false y x e))
 
 at-or-below {ℓ} : {A : Type ℓ} (k e : ℕ) → k < e + 1 → (k < e → A) → (k ≡ e → A) → A
 at-or-below {A} k e b below here = go (look (ltb k e))
@@ -171,7 +161,7 @@ module _ (ls heads prevs : List ℕ) (before first k : ℕ) (room : before + k <
   newest' : (h : ℕ) → Latest ls before first h (k + 1) (getD heads' h 0)
   newest' h =
       let w : length heads ≡ buckets = p .heads-wide in
-      set-cases heads (x % buckets) (before + k + 1) (omega arith) (λ c. Latest ls before first h (k + 1) c) h here other
+      set-cases heads (x % buckets) (before + k + 1) 0 (omega arith) (λ c. Latest ls before first h (k + 1) c) h here other
     where
       here : h ≡ x % buckets → Latest ls before first h (k + 1) (before + k + 1)
       here q =
@@ -195,7 +185,7 @@ module _ (ls heads prevs : List ℕ) (before first k : ℕ) (room : before + k <
   linked' : Linked ls prevs' before first (k + 1)
   linked' j b =
       let w : length prevs ≡ limit = p .prevs-wide in
-      set-cases prevs (before + k) head (omega arith) (λ c. Latest ls before first (getD ls (first + j) 0 % buckets) j c) (before + j)
+      set-cases prevs (before + k) head 0 (omega arith) (λ c. Latest ls before first (getD ls (first + j) 0 % buckets) j c) (before + j)
       here
       (λ ne. p .linked j (omega arith))
     where

@@ -1,21 +1,21 @@
 -- Laws of the nodes that a node names, and of how often the nodes of a table name each other.
 -- Assumes nothing.
 use mathlib.Core.Path.{_≡_, refl, sym, _∙_, ap, subst}
-use mathlib.Core.Bool.{Bool, true, false, not}
+use mathlib.Core.Bool.{true, not}
 use mathlib.Core.List.{List, [], _∷_}
 use Prim.Native.Nat.{ℕ, zero, suc, _+_, _-_, _≤_, _<_}
 use native.Mathlib.Numerals.{add-one}
 use native.Mathlib.Omega.{arith}
 use lib.Dec.{eqb, ltb}
 use lib.ListN.{length, getD, set, replicate, length-replicate}
-use lib.Seq.{getD-set-same, getD-set-other}
-use borrow.Author.Tests.{eqb-true, eqb-false, lt-ltb, le-ltb}
+use borrow.Author.Tests.{eqb-true, lt-ltb, le-ltb, eq-eqb, ne-eqb}
 use Rattle.lists.specs.Choice.{pick, pick-yes, pick-no, Is, is-true, is-false, look}
 use Rattle.lists.specs.Search.{lowest}
 use Rattle.lists.specs.Members.{times}
 use Rattle.lists.specs.Parts.{sum}
 use Rattle.lists.proofs.Search.{lowest-cong}
-use Rattle.lists.proofs.Parts.{sum-cong}
+use Rattle.lists.proofs.Parts.{sum-cong, pick-le}
+use Rattle.lists.proofs.Stores.{set-cases}
 use Rattle.formula.specs.Node.{operands}
 use Rattle.formula.specs.Words.{nodeCount, field, nodeOf, nodeAt, tableOf}
 use Rattle.formula.specs.Tree.{timesNamed}
@@ -41,14 +41,9 @@ pub times-two : (x a b : ℕ) → times x (a ∷ b ∷ []) ≡ times x (a ∷ []
 unfolding times
 times-two x a b = omega arith
 
-pick-le : (t : Bool) → pick t 1 0 ≤ 1
-unfolding pick
-pick-le true = omega arith
-pick-le false = omega arith
-
 pub times-one-le : (x a : ℕ) → times x (a ∷ []) ≤ 1
 unfolding times
-times-one-le x a = omega (arith, pick-le (eqb x a))
+times-one-le x a = omega (arith, pick-le (eqb x a) 1)
 
 -- A node with the words kind, a, b, c.
 module _ (kind a b c : ℕ) where
@@ -100,14 +95,10 @@ named-le ws x (suc i) =
 -- an array of how often each number is named, after one name more
 pub name-more : (named : List ℕ) (x : ℕ) → x < length named → (y : ℕ) → getD (set named x (getD named x 0 + 1)) y 0 ≡ getD named y 0 + times y (x ∷ [])
 unfolding times
-name-more named x h y = go (look (eqb y x))
-  where
-    go : Is (eqb y x) → getD (set named x (getD named x 0 + 1)) y 0 ≡ getD named y 0 + (pick (eqb y x) 1 0 + 0)
-    go (is-true e) =
-        let q : y ≡ x = eqb-true y x e in
-        rw (pick-yes {A = ℕ} (eqb y x) 1 0 e, q, getD-set-same named x (getD named x 0 + 1) 0 h) (omega arith)
-    go (is-false e) =
-        rw (pick-no {A = ℕ} (eqb y x) 1 0 e, getD-set-other named x y (getD named x 0 + 1) 0 (eqb-false y x e)) (omega arith)
+name-more named x h y =
+    set-cases named x (getD named x 0 + 1) 0 h (λ c. c ≡ getD named y 0 + (pick (eqb y x) 1 0 + 0)) y
+    (λ q. omega (arith, ap (λ z. getD named z 0) q, pick-yes {A = ℕ} (eqb y x) 1 0 (eq-eqb y x q)))
+    (λ n. omega (arith, pick-no {A = ℕ} (eqb y x) 1 0 (ne-eqb y x n)))
 
 pub counted-new : (ws : List ℕ) → Counted ws (replicate {A = ℕ} limit 0) 0
 counted-new ws =

@@ -7,10 +7,10 @@ use native.Mathlib.Omega.{arith}
 use lib.ListN.{length, getD}
 use borrow.Author.Needs.{needs}
 use Rattle.free_variables.specs.Steps.{flagged}
-use Rattle.prenex_form.proofs.NameLaws.{pick-le}
 use Rattle.free_variables.proofs.Listing.{flagged-none, flagged-count}
 use Rattle.free_variables.proofs.count_flagged.Statement.{statement}
 use Rattle.free_variables.proofs.count_flagged.Tie as tie
+use Rattle.lists.proofs.Parts.{pick-le}
 
 abbrev Inv-loop : tie.InvT-loop
 Inv-loop flags end count₀ x₀ count x = (x ≤ end) × (count ≤ x) × (count ≡ length (flagged flags x))
