@@ -8,7 +8,7 @@ use native.Mathlib.Numerals.{add-one}
 use lib.Dec.{eqb}
 use lib.ListN.{length, getD, length-append}
 use borrow.Author.Tests.{eq-eqb, ne-eqb}
-use Rattle.lists.specs.Choice.{pick, pick-yes, pick-no}
+use Rattle.lists.specs.Choice.{pick-yes, pick-no}
 use Rattle.lists.specs.Parts.{overwrite}
 use Rattle.formula.specs.Node.{exists, for-all, dual, Node, operator, Table}
 use Rattle.formula.specs.Words.{width, nodeCount, field, tableOf}
@@ -18,6 +18,8 @@ use Rattle.table_check.proofs.Accepted.{accepted-holds}
 use Rattle.prenex_form.specs.Scope.{level}
 use Rattle.prenex_form.specs.Levels.{blocksAt, levels, levelQuantifier}
 use Rattle.prenex_form.specs.Matrix.{and, implies, kept, constraint, further, constraints, wrap, levelNodes, nodeWords}
+use Rattle.prenex_form.specs.Prefix.{kindOf}
+use Rattle.prenex_form.proofs.Alternation.{quantifier-read}
 use Rattle.arrays.specs.Link.{link}
 use Rattle.arrays.specs.Held.{atLevel}
 use Rattle.arrays.specs.Chains.{blocksFrom}
@@ -59,7 +61,7 @@ module _ {t : Table} {out nodes : List ℕ} {kind next j : ℕ} (done : Levelled
         let g : length (addedNodes t (suc j)) ≤ length (addedNodes t l) = added-grows t (suc j) l h in
         rw n (record { fits = omega (arith, room .fits, length-added t j, done .long); small = omega (arith, room .small, length-added t j) })
 
-  pub levelled-next : (last : List ℕ) (after other : ℕ) → Wrote nodes next (levelNodes t j next) last after → quantifierOf other ≡ dual (quantifierOf kind)
+  pub levelled-next : (last : List ℕ) (after other : ℕ) → Wrote nodes next (levelNodes t j next) last after → other ≡ kindOf (dual (quantifierOf kind))
       → length last ≡ length nodes → Room nodes next (length (levelNodes t j next)) → Levelled t out last other after (j + 1)
   unfolding addedNodes levelQuantifier
   levelled-next last after other p d k room =
@@ -69,7 +71,7 @@ module _ {t : Table} {out nodes : List ℕ} {kind next j : ℕ} (done : Levelled
         wrote-added =
             wrote-then (done .wrote-added) (subst (λ s. Wrote nodes next (levelNodes t j s) last after) n p)
             (omega (arith, p .next-is, room .fits, done .long));
-        quantifier-is = d ∙ ap dual (done .quantifier-is);
+        quantifier-is = ap quantifierOf d ∙ quantifier-read _ ∙ ap dual (done .quantifier-is);
         long = k ∙ done .long;
       })
 
@@ -82,7 +84,7 @@ pub root-quantifier : (ws ls : List ℕ) (kind : ℕ) → kind ≡ field ws (nod
 unfolding levelQuantifier tableOf
 root-quantifier ws ls kind e = ap quantifierOf e ∙ sym (quantifier-is ws ls (nodeCount ws - 1))
 
--- the wrap and the alternation, by a block's kind
+-- the wrap, by a block's kind
 module _ (kind m d at : ℕ) (out last : List ℕ) where
   pub wrap-exists : kind ≡ 5 → last ≡ withNodes out at (operator implies d m ∷ []) → last ≡ withNodes out at (wrap (quantifierOf kind) m d ∷ [])
   unfolding wrap quantifierOf
@@ -91,14 +93,6 @@ module _ (kind m d at : ℕ) (out last : List ℕ) where
   pub wrap-for-all : (kind ≡ 5 → ⊥) → last ≡ withNodes out at (operator and m d ∷ []) → last ≡ withNodes out at (wrap (quantifierOf kind) m d ∷ [])
   unfolding wrap quantifierOf
   wrap-for-all h p = rw (pick-no (eqb kind 5) exists for-all (ne-eqb kind 5 h)) p
-
-pub dual-exists : (kind : ℕ) → kind ≡ 5 → quantifierOf 6 ≡ dual (quantifierOf kind)
-unfolding dual quantifierOf pick
-dual-exists kind h = rw (eq-eqb kind 5 h)
-
-pub dual-for-all : (kind : ℕ) → (kind ≡ 5 → ⊥) → quantifierOf 5 ≡ dual (quantifierOf kind)
-unfolding dual quantifierOf pick
-dual-for-all kind h = rw (ne-eqb kind 5 h)
 
 module _ (t : Table) where
   -- one block further

@@ -5,7 +5,7 @@ ghost use mathlib.Core.Path.{_≡_};
 ghost use Prim.Native.Nat.{_+_, _*_, _-_, _≤_, _<_};
 ghost use lib.ListN.{length};
 ghost use Rattle.lists.specs.Parts.{overwrite};
-ghost use Rattle.formula.specs.Node.{variable, operator, dual};
+ghost use Rattle.formula.specs.Node.{variable, operator};
 ghost use Rattle.formula.specs.Words.{width, tableOf};
 ghost use Rattle.formula.specs.Form.{quantifierOf};
 ghost use Rattle.prenex_form.specs.Levels.{levels};
@@ -16,7 +16,6 @@ ghost use Rattle.matrix_writer.specs.Entries.{entryNodes, entriesNodes, 
 ghost use Rattle.matrix_writer.specs.Chain.{InnerBlock, LevelKind, nodesAfter};
 ghost use Rattle.matrix_writer.specs.Arrays.{BlockArrays, NextBlocks, ChainArrays};
 use formula::EXISTS_BLOCK;
-use formula::FOR_ALL_BLOCK;
 use formula::OPERATOR;
 use formula::VARIABLE;
 use formula::WIDTH;
@@ -279,16 +278,6 @@ fn write_level(
     end + 1
 }
 
-// The block kind of the other quantifier.
-fn dual_kind(kind: u32) -> u32
-    ensures { λ r. ⌜ quantifierOf r ≡ dual (quantifierOf kind) ⌝ }
-{
-    if kind == EXISTS_BLOCK {
-        return FOR_ALL_BLOCK;
-    }
-    EXISTS_BLOCK
-}
-
 // Writes the nodes of all levels after the table's own, the first at index `first`. Levels
 // alternate from the root's quantifier; a root that is no block counts as for-all. `names` is the
 // first new name and `copies` the first copy.
@@ -331,7 +320,7 @@ pub fn write_levels(
             kind,
             next,
         );
-        kind = dual_kind(kind);
+        kind = prenex_form::dual_kind(kind);
         j += 1;
     }
     next as usize

@@ -10,10 +10,11 @@ use borrow.Author.Tests.{eq-eqb, ne-eqb}
 use Rattle.lists.specs.Choice.{pick-yes, pick-no}
 use Rattle.lists.specs.Parts.{overwrite}
 use Rattle.lists.proofs.Overwrite.{overwrite-nil}
-use Rattle.formula.specs.Node.{Quantifier, dual, Table}
-use Rattle.formula.specs.Form.{Block, prefixWidth}
+use Rattle.formula.specs.Node.{dual, Table}
+use Rattle.formula.specs.Form.{Block, prefixWidth, quantifierOf}
 use Rattle.prenex_form.specs.Levels.{levels, levelQuantifier}
 use Rattle.prenex_form.specs.Prefix.{blockCount, prefixBlock, prefixBlocks, kindOf, prefixWords, writtenPrefix, writtenVariables}
+use Rattle.prenex_form.proofs.Alternation.{quantifier-read}
 use Rattle.arrays.specs.Chains.{between}
 use Rattle.arrays.proofs.Chains.{between-all, between-on, between-end}
 use Rattle.prefix_writer.proofs.Writing.{Left, left-start, left-room, left-step, left-end, flatMap-next}
@@ -106,7 +107,7 @@ module _ (t : Table) where
           → length (writtenVariables t) ≤ length variables₀
           → prefix' ≡ overwrite prefix (prefixWidth * j) (kind ∷ at ∷ length (prefixBlock t j .variables) ∷ [])
           → variables' ≡ overwrite variables at (prefixBlock t j .variables) → at' ≡ at + length (prefixBlock t j .variables)
-          → ((q : Quantifier) → kind ≡ kindOf q → kind' ≡ kindOf (dual q))
+          → kind' ≡ kindOf (dual (quantifierOf kind))
           → Written t prefix₀ prefix' variables₀ variables' at' (j + 1) kind'
       unfolding three levelQuantifier
       written-step prefix' variables' at' kind' fp fv p v e k =
@@ -116,6 +117,8 @@ module _ (t : Table) where
           record {
             words = rw (m, e) (left-step prefix₀ prefix _ _ _ (w .words) three _ prefix' words-next fp p');
             list = rw e (left-step variables₀ variables at _ _ (w .list) (prefixBlock t j .variables) _ variables' list-next fv v);
-            kind-is = rw add-one (k (levelQuantifier t j) (w .kind-is));
+            kind-is =
+                rw add-one
+                (k ∙ ap (λ c. kindOf (dual (quantifierOf c))) (w .kind-is) ∙ ap (λ q. kindOf (dual q)) (quantifier-read (levelQuantifier t j)));
             within = omega arith;
           }

@@ -1,13 +1,12 @@
 -- Kinds and counts of nodes by their words, and the kinds of prefix blocks.
 -- Assumes nothing.
-use mathlib.Core.Path.{_≡_, refl, sym}
+use mathlib.Core.Path.{_≡_, sym}
 use mathlib.Core.Bool.{true, false}
 use mathlib.Core.List.{List}
 use Prim.Native.Nat.{ℕ, _+_, _-_, _*_, _≤_}
 use native.Mathlib.Omega.{arith}
 use lib.ListN.{length}
 use Rattle.lists.specs.Choice.{pick, pick-yes, pick-no}
-use Rattle.formula.specs.Node.{Quantifier, exists, for-all, dual}
 use Rattle.formula.specs.Words.{width, nodeCount, field, nodeOf, nodeAt, tableOf}
 use Rattle.formula.proofs.Nodes.{Kind, kind-of, kind-constant, kind-variable, kind-negation, kind-operator, kind-exists, kind-for-all, kind-none}
 use Rattle.table_check.specs.Verdict.{isBlockKind, countAt, verdict, accepted}
@@ -57,13 +56,3 @@ module _ (ws ls : List ℕ) where
 
   pub root-fits : verdict ws ls ≡ accepted → width * (nodeCount ws - 1) + width ≤ length ws
   root-fits v = omega (arith, has-root v)
-
-pub dual-exists : (kind : ℕ) (q : Quantifier) → kind ≡ 5 → kind ≡ kindOf q → 6 ≡ kindOf (dual q)
-unfolding kindOf dual
-dual-exists kind exists e p = refl
-dual-exists kind for-all e p = absurd (omega arith)
-
-pub dual-other : (kind : ℕ) (q : Quantifier) → (kind ≡ 5 → ⊥) → kind ≡ kindOf q → 5 ≡ kindOf (dual q)
-unfolding kindOf dual
-dual-other kind exists n p = absurd (n p)
-dual-other kind for-all n p = refl

@@ -5,7 +5,6 @@ ghost use mathlib.Core.Path.{_≡_};
 ghost use Prim.Native.Nat.{_+_, _*_, _≤_, _<_};
 ghost use lib.ListN.{length};
 ghost use Rattle.lists.specs.Parts.{numbers, overwrite};
-ghost use Rattle.formula.specs.Node.{Quantifier, dual};
 ghost use Rattle.formula.specs.Words.{nodeCount, tableOf};
 ghost use Rattle.formula.specs.Form.{prefixWidth};
 ghost use Rattle.table_check.specs.Verdict.{limit, countAt, verdict, accepted};
@@ -84,7 +83,7 @@ pub fn write_prefix(
             kind,
             at,
         );
-        kind = dual_kind(kind);
+        kind = prenex_form::dual_kind(kind);
         j += 1;
     }
 }
@@ -99,16 +98,6 @@ fn first_kind(words: &[u32], list: &[u32]) -> u32
         return EXISTS_BLOCK;
     }
     FOR_ALL_BLOCK
-}
-
-// The kind of the dual quantifier.
-fn dual_kind(kind: u32) -> u32
-    ensures { λ r. ⌜ ((q : Quantifier) → kind ≡ kindOf q → r ≡ kindOf (dual q)) ⌝ }
-{
-    if kind == EXISTS_BLOCK {
-        return FOR_ALL_BLOCK;
-    }
-    EXISTS_BLOCK
 }
 
 // Writes prefix block j, whose variables go in from entry at on, and returns where they end.

@@ -19,7 +19,7 @@ use Rattle.lists.proofs.Parts.{flatMap-append, upTo-cong, length-upTo, length-e
 use Rattle.formula.specs.Node.{Quantifier, exists, for-all, Node, constant, variable, negation, operator, block, Table, isBlock, bound}
 use Rattle.formula.specs.Tree.{Tree, count, boundBelow}
 use Rattle.formula.specs.Words.{range}
-use Rattle.formula.specs.Form.{Block, blockAt, blocksFrom, blocksOf, quantifierOf}
+use Rattle.formula.specs.Form.{Block, blockAt, blocksFrom, blocksOf}
 use Rattle.prenex_form.specs.Scope.{binder, inner, level, depth}
 use Rattle.prenex_form.specs.Names.{highestAt, highestNumber, boundCount, newNames, newName, innerBoundBelow, innerBelow, copies, definitionVariable}
 use Rattle.prenex_form.specs.Levels.{blocksAt, levels, quantifierAt, levelQuantifier}
@@ -28,16 +28,12 @@ use Rattle.prenex_form.specs.Matrix.{and, kept, renamed, firstNodes, equ
 use Rattle.prenex_form.specs.Sizes.{prefixCount, sizes}
 use Rattle.prenex_form.proofs.Paths.{level-root, inner-lt, inner-level, level-le-levels, blocksAt-lt, blocksAt-inner, blocksAt-level, depth-levels, inner-block}
 use Rattle.prenex_form.proofs.NameLaws.{none-bound, variable-le, innerBound-is, innerBound-le, length-newNames, length-copies, newNames-le, copies-above, copies-le, definition-above, definition-le, newNames-apart, copies-apart, definition-apart, distinct-newNames, distinct-copies, newName-bound}
+use Rattle.prenex_form.proofs.Alternation.{quantifier-read}
 
 -- reading a prefix
 
 unfoldable variablesOf : List Block → List ℕ
 variablesOf bs = flatMap (λ (b : Block). b .variables) bs
-
-quantifier-read : (q : Quantifier) → quantifierOf (kindOf q) ≡ q
-unfolding quantifierOf kindOf pick
-quantifier-read exists = refl
-quantifier-read for-all = refl
 
 pub length-prefixWords : (s : ℕ) (bs : List Block) → length (prefixWords s bs) ≡ 3 * length bs
 unfolding prefixWords
