@@ -8,7 +8,7 @@ use native.Mathlib.Omega.{arith}
 use native.Mathlib.Nat.{le-of-suc-le-suc, not-suc-le-zero}
 use lib.Dec.{eqb}
 use lib.ListN.{length, getD}
-use borrow.Author.Tests.{eqb-true, eq-eqb, ne-eqb, not-true}
+use borrow.Author.Tests.{eqb-true, eq-eqb, not-true}
 use Rattle.lists.specs.Choice.{pick, pick-yes, pick-no, Is, is-true, is-false, look, clash, and-left, or-neither, or-neither-left, or-neither-right}
 use Rattle.lists.specs.Members.{mem, distinct}
 use Rattle.lists.proofs.Members.{distinct-tail}
@@ -41,10 +41,6 @@ decides-dual for-all = refl
 pub update-same : (v : Valuation) (x : ℕ) (b : Bool) → update v x b x ≡ b
 unfolding update
 update-same v x b = pick-yes _ _ _ (eq-eqb x x refl)
-
-pub update-other : (v : Valuation) (x : ℕ) (b : Bool) (y : ℕ) → (y ≡ x → ⊥) → update v x b y ≡ v y
-unfolding update
-update-other v x b y n = pick-no _ _ _ (ne-eqb y x n)
 
 -- A longer list: what differs at x alone, and then at most in xs, differs at most in x ∷ xs.
 outside-cons : (x : ℕ) (b : Bool) (xs : List ℕ) (v u : Valuation) → Outside xs (update v x b) u → Outside (x ∷ xs) v u

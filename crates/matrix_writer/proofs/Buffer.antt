@@ -8,19 +8,11 @@ use lib.ListN.{length, length-append}
 use Rattle.lists.specs.Parts.{overwrite}
 use Rattle.lists.proofs.Parts.{flatMap-append}
 use Rattle.lists.proofs.Overwrite.{overwrite-nil, overwrite-append}
-use Rattle.formula.specs.Node.{Node, constant, variable, negation, operator, block}
+use Rattle.formula.specs.Node.{Node}
 use Rattle.formula.specs.Words.{width}
 use Rattle.prenex_form.specs.Matrix.{nodeWords}
+use Rattle.prenex_form.proofs.NodeLists.{length-words}
 use Rattle.matrix_writer.specs.Buffer.{withNodes, Wrote}
-
-length-words : (ns : List Node) → length (flatMap nodeWords ns) ≡ width * length ns
-unfolding flatMap nodeWords
-length-words [] = refl
-length-words (constant b ∷ ns) = omega (arith, length-words ns)
-length-words (variable x ∷ ns) = omega (arith, length-words ns)
-length-words (negation a ∷ ns) = omega (arith, length-words ns)
-length-words (operator f a b ∷ ns) = omega (arith, length-words ns)
-length-words (block q xs a ∷ ns) = omega (arith, length-words ns)
 
 -- one node
 pub with-one : (out : List ℕ) (at : ℕ) (n : Node) → overwrite out (width * at) (nodeWords n) ≡ withNodes out at (n ∷ [])

@@ -255,12 +255,6 @@ module _ (t : Table) (tree : Tree t) where
       (λ i h e. omega (arith, parent-higher i h))
       (λ i h a r. omega (arith, parent-higher i h))
 
-  pub above-lt : (b i : ℕ) → i < t .size → above t b i ≡ true → b < t .size
-  above-lt b =
-      above-climb (λ i. b < t .size) b
-      (λ i h e. omega (arith, parent-lt i h))
-      (λ i h a r. r)
-
   pub above-trans : (a b i : ℕ) → i < t .size → above t a b ≡ true → above t b i ≡ true → above t a i ≡ true
   above-trans a b i k p =
       above-climb (λ i. above t a i ≡ true) b

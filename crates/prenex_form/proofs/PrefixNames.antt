@@ -178,11 +178,6 @@ levels-sum p l c (suc n) m h k =
       level-pick (p n) (c n) (l n) m (h n (omega arith)) (k n (omega arith)),
     )
 
-flatMap-self : (xs : List ℕ) → flatMap (λ x. x ∷ []) xs ≡ xs
-unfolding flatMap
-flatMap-self [] = refl
-flatMap-self (x ∷ xs) = ap (λ (l : List ℕ). x ∷ l) (flatMap-self xs)
-
 distinct-one : (x : ℕ) → distinct (x ∷ []) ≡ true
 unfolding distinct mem
 distinct-one x = refl
@@ -252,10 +247,6 @@ module _ (t : Table) where
     where
       go : (i j x : ℕ) → i < t .size → j < t .size → Taken x (inner t i && eqb (level t i) l) (g i) → Taken x (inner t j && eqb (level t j) l) (g j) → i ≡ j
       go i j x h k (taken p m) (taken q n) = apart i j x h k (and-left (inner t i) (eqb (level t i) l) p) (and-left (inner t j) (eqb (level t j) l) q) m n
-
-  -- no block stands twice in a level
-  pub distinct-blocksAt : (l : ℕ) → distinct (blocksAt t l) ≡ true
-  distinct-blocksAt l = rw (← flatMap-self (blocksAt t l)) (distinct-blocks (λ i. i ∷ []) l (λ i h n. distinct-one i) (λ i j x h k p q m n. sym (one-is x i m) ∙ one-is x j n))
 
   -- the variables of the prefix, part by part
   variables-none : eqb (blockCount t) 0 ≡ true → writtenVariables t ≡ []
