@@ -3,10 +3,10 @@
 use mathlib.Core.Path.{_≡_, sym, _∙_, ap, subst}
 use mathlib.Core.Bool.{true}
 use mathlib.Core.List.{List}
-use Prim.Native.Nat.{ℕ, suc, _+_, _%_, _≤_, _<_}
+use Prim.Native.Nat.{ℕ, suc, _+_, _≤_, _<_}
 use native.Mathlib.Omega.{arith}
 use native.Mathlib.Numerals.{add-one}
-use lib.ListN.{length, getD, set}
+use lib.ListN.{length, getD, set, length-set}
 use Rattle.lists.proofs.Members.{mem-getD}
 use Rattle.formula.specs.Node.{Table, isBlock, bound}
 use Rattle.formula.specs.Words.{nodeCount, field, range, nodeAt, tableOf}
@@ -15,14 +15,14 @@ use Rattle.formula.proofs.Ranges.{range-length, range-at}
 use Rattle.table_check.specs.Verdict.{limit, verdict, accepted}
 use Rattle.table_check.specs.Accepted.{Accepted}
 use Rattle.table_check.proofs.Accepted.{accepted-holds}
-use Rattle.prenex_form.specs.Names.{boundCount}
+use Rattle.prenex_form.specs.Names.{highestNumber, boundCount}
 use Rattle.prenex_form.proofs.NameLaws.{bound-le}
-use Rattle.prenex_form.proofs.Limits.{highest-limit, bound-limit}
+use Rattle.prenex_form.proofs.Limits.{bound-limit}
 use Rattle.arrays.specs.Held.{enclosing, entries}
 use Rattle.arrays.proofs.Entries.{boundBelow-next, entries-at}
-use Rattle.binders.specs.Scope.{buckets, inScope, Open}
+use Rattle.binders.specs.Scope.{inScope, Open}
 use Rattle.binders.proofs.Tables.{BlockWords, in-table, block-words}
-use Rattle.binders.proofs.Scope.{OwnedBy, owned-within, scope-own, scope-start, scope-end}
+use Rattle.binders.proofs.Scope.{EntryOf, entryOf-within, scope-own, scope-start, scope-end}
 use Rattle.binders.proofs.Opened.{open-moved, open-put, open-take}
 
 -- Block i of an accepted table: where its entries start, where its range does, and how many there are.
@@ -73,11 +73,11 @@ module _ {ws ls : List ℕ} {i start first n : ℕ} (b : BlockAt ws ls i start f
 
   -- its entry k
   module _ (k : ℕ) (l : k < n) where
-    owned : OwnedBy t (start + k) i
-    owned = record { lt = inner; from = omega (arith, b .start-is); below = omega (arith, ends) }
+    entry-of : EntryOf t (start + k) i
+    entry-of = record { lt = inner; from = omega (arith, b .start-is); below = omega (arith, ends) }
 
     below : start + k < boundCount t
-    below = owned-within t (start + k) i owned
+    below = entryOf-within t (start + k) i entry-of
 
     pub entry-lt : start + k < limit
     entry-lt = omega (arith, below, few)
@@ -91,48 +91,52 @@ module _ {ws ls : List ℕ} {i start first n : ℕ} (b : BlockAt ws ls i start f
     number : getD (entries t) (start + k) 0 ≡ getD ls (first + k) 0
     number = rw (b .start-is) (entries-at t i k inner (omega (arith, counted)) ∙ in-bound)
 
-    pub number-le : getD ls (first + k) 0 ≤ 65535
+    number-le : getD ls (first + k) 0 ≤ highestNumber t
     unfolding count
-    number-le =
-        let m = mem-getD (bound (t .node i)) k 0 (omega (arith, counted)) in
-        omega (arith, bound-le t i _ inner (rw in-bound at m), highest-limit ws ls holds)
+    number-le = bound-le t i _ inner (rw in-bound at (mem-getD (bound (t .node i)) k 0 (omega (arith, counted))))
+
+    -- its number has a head
+    pub entry-head : {e : ℕ} {heads nexts : List ℕ} → Open t i e heads nexts → getD ls (first + k) 0 < length heads
+    entry-head o = omega (arith, number-le, o .heads-wide)
 
     in-scope : inScope t i (start + k) ≡ true
-    in-scope = scope-own t tree (start + k) below i owned
+    in-scope = scope-own t tree (start + k) below i entry-of
 
-    module _ {heads nexts numbers : List ℕ} (next : ℕ) (q : suc (start + k) ≡ next) where
-      pub entry-put : Open t i next heads nexts numbers
-          → Open t i (start + k) (set heads (getD ls (first + k) 0 % buckets) (suc (start + k))) (set nexts (suc (start + k)) (getD heads (getD ls (first + k) 0 % buckets) 0)) (set numbers (suc (start + k)) (getD ls (first + k) 0))
+    module _ {heads nexts : List ℕ} (next : ℕ) (q : suc (start + k) ≡ next) where
+      pub entry-put : Open t i next heads nexts
+          → Open t i (start + k) (set heads (getD ls (first + k) 0) (suc (start + k))) (set nexts (suc (start + k)) (getD heads (getD ls (first + k) 0) 0))
       entry-put o =
-          let p : Open t i (suc (start + k)) heads nexts numbers = rw q o in
-          open-put t i (start + k) _ few below in-scope number p
+          let p : Open t i (suc (start + k)) heads nexts = rw q o in
+          open-put t i (start + k) _ few number-le below in-scope number p
 
-      pub entry-taken : Open t i (start + k) heads nexts numbers
-          → Open t i next (set heads (getD ls (first + k) 0 % buckets) (getD nexts (start + k + 1) 0)) nexts numbers
-      entry-taken o =
-          rw (add-one (start + k))
-          (subst (λ e. Open t i e (set heads (getD ls (first + k) 0 % buckets) (getD nexts (suc (start + k)) 0)) nexts numbers) q
-          (open-take t i (start + k) _ few below in-scope number o))
+      pub entry-taken : Open t i (start + k) heads nexts
+          → (length (set heads (getD ls (first + k) 0) (getD nexts (start + k + 1) 0)) ≡ length heads) × Open t i next (set heads (getD ls (first + k) 0) (getD nexts (start + k + 1) 0)) nexts
+      entry-taken o = (
+        length-set heads (getD ls (first + k) 0) (getD nexts (start + k + 1) 0),
+        rw (add-one (start + k))
+            (subst (λ e. Open t i e (set heads (getD ls (first + k) 0) (getD nexts (suc (start + k)) 0)) nexts) q
+            (open-take t i (start + k) _ few number-le below in-scope number o)),
+      )
 
-  module _ {heads nexts numbers : List ℕ} where
+  module _ {heads nexts : List ℕ} where
     -- before it is entered, and after
-    pub enter-start : Open t (enclosing t i) 0 heads nexts numbers → Open t i (start + n) heads nexts numbers
+    pub enter-start : Open t (enclosing t i) 0 heads nexts → Open t i (start + n) heads nexts
     enter-start o =
-        let p : Open t i (boundBelow t (suc i)) heads nexts numbers = open-moved t (enclosing t i) 0 i (boundBelow t (suc i)) (λ e h. scope-end t tree e h i inner) o in
+        let p : Open t i (boundBelow t (suc i)) heads nexts = open-moved t (enclosing t i) 0 i (boundBelow t (suc i)) (λ e h. scope-end t tree e h i inner) o in
         rw ends at p
 
-    pub enter-end : (k : ℕ) → k ≡ 0 → Open t i (start + k) heads nexts numbers → Open t i 0 heads nexts numbers
+    pub enter-end : (k : ℕ) → k ≡ 0 → Open t i (start + k) heads nexts → Open t i 0 heads nexts
     enter-end k z o =
         let s : start + k ≡ boundBelow t i = omega (arith, b .start-is) in
         open-moved t i (boundBelow t i) i 0 (λ e h. scope-start t tree e h i inner) (rw s at o)
 
     -- the same of leaving it
-    pub leave-start : Open t i 0 heads nexts numbers → Open t i (start + 0) heads nexts numbers
+    pub leave-start : Open t i 0 heads nexts → Open t i (start + 0) heads nexts
     leave-start o =
         let s : start + 0 ≡ boundBelow t i = omega (arith, b .start-is) in
         rw s (open-moved t i 0 i (boundBelow t i) (λ e h. sym (scope-start t tree e h i inner)) o)
 
-    pub leave-end : (k : ℕ) → k ≡ n → Open t i (start + k) heads nexts numbers → Open t (enclosing t i) 0 heads nexts numbers
+    pub leave-end : (k : ℕ) → k ≡ n → Open t i (start + k) heads nexts → Open t (enclosing t i) 0 heads nexts
     leave-end k z o =
         let s : start + k ≡ boundBelow t (suc i) = omega (arith, ends) in
         open-moved t i (boundBelow t (suc i)) (enclosing t i) 0 (λ e h. sym (scope-end t tree e h i inner)) (rw s at o)

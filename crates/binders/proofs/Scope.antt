@@ -22,32 +22,32 @@ use Rattle.prenex_form.proofs.NameLaws.{binds-block}
 use Rattle.arrays.specs.Held.{enclosing}
 use Rattle.arrays.proofs.Enclosing.{enclosing-le, enclosing-above, enclosing-next}
 use Rattle.arrays.proofs.Entries.{boundBelow-next, boundBelow-grows}
-use Rattle.binders.specs.Scope.{owner, inScope}
+use Rattle.binders.specs.Scope.{blockOf, inScope}
 
 -- Entry e is one of block b's.
-pub record OwnedBy (t : Table) (e b : ℕ) : Type 0 where
+pub record EntryOf (t : Table) (e b : ℕ) : Type 0 where
   pub lt : b < t .size
   pub from : boundBelow t b ≤ e
   pub below : e < boundBelow t (suc b)
 
 module _ (t : Table) (e : ℕ) where
-  -- the test that finds the owner
+  -- the test that finds its block
   abbrev counted : ℕ → Bool
   counted i = ltb e (boundBelow t (suc i))
 
-  pub owner-is : (b : ℕ) → OwnedBy t e b → owner t e ≡ b
-  unfolding owner
-  owner-is b o =
+  pub blockOf-is : (b : ℕ) → EntryOf t e b → blockOf t e ≡ b
+  unfolding blockOf
+  blockOf-is b o =
       lowest-is counted (t .size) b (o .lt) (lt-ltb e _ (o .below))
       (λ j k. le-ltb e (boundBelow t (suc j)) (omega (arith, boundBelow-grows t (suc j) b k, o .from)))
 
-  pub owned-block : (b : ℕ) → OwnedBy t e b → isBlock (t .node b) ≡ true
+  pub entryOf-block : (b : ℕ) → EntryOf t e b → isBlock (t .node b) ≡ true
   unfolding count
-  owned-block b o = binds-block (t .node b) (omega (arith, boundBelow-next t b, o .from, o .below))
+  entryOf-block b o = binds-block (t .node b) (omega (arith, boundBelow-next t b, o .from, o .below))
 
-  pub owned-within : (b : ℕ) → OwnedBy t e b → e < boundCount t
+  pub entryOf-within : (b : ℕ) → EntryOf t e b → e < boundCount t
   unfolding boundCount
-  owned-within b o = omega (arith, o .below, boundBelow-grows t (suc b) (t .size) (o .lt))
+  entryOf-within b o = omega (arith, o .below, boundBelow-grows t (suc b) (t .size) (o .lt))
 
   some-node : e < boundCount t → 0 < t .size
   unfolding boundCount boundBelow sum
@@ -57,27 +57,27 @@ module _ (t : Table) (e : ℕ) where
       go zero l = absurd (omega arith)
       go (suc n) l = omega arith
 
-  owner-lt : e < boundCount t → owner t e < t .size
-  unfolding owner boundCount
-  owner-lt h =
+  blockOf-lt : e < boundCount t → blockOf t e < t .size
+  unfolding blockOf boundCount
+  blockOf-lt h =
       let s : suc (t .size - 1) ≡ t .size = omega (arith, some-node h) in
       let l : e < boundBelow t (suc (t .size - 1)) = rw s h in
       let m = lowest-least counted (t .size) (t .size - 1) (omega arith) (lt-ltb e _ l) in
       omega arith
 
-  from-cases : (o : ℕ) → owner t e ≡ o → boundBelow t o ≤ e
-  unfolding owner boundBelow sum
+  from-cases : (o : ℕ) → blockOf t e ≡ o → boundBelow t o ≤ e
+  unfolding blockOf boundBelow sum
   from-cases zero q = omega arith
   from-cases (suc o) q = ltb-false e _ (lowest-before counted (t .size) o (omega arith))
 
-  -- every entry has an owner
-  pub owner-owns : e < boundCount t → OwnedBy t e (owner t e)
-  unfolding owner
-  owner-owns h =
+  -- every entry is one of a block
+  pub blockOf-has : e < boundCount t → EntryOf t e (blockOf t e)
+  unfolding blockOf
+  blockOf-has h =
       record {
-        lt = owner-lt h;
-        from = from-cases (owner t e) refl;
-        below = ltb-true e _ (lowest-holds counted (t .size) (owner-lt h));
+        lt = blockOf-lt h;
+        from = from-cases (blockOf t e) refl;
+        below = ltb-true e _ (lowest-holds counted (t .size) (blockOf-lt h));
       }
 
 module _ (t : Table) (tree : Tree t) where
@@ -101,18 +101,18 @@ module _ (t : Table) (tree : Tree t) where
 
   module _ (e : ℕ) (h : e < boundCount t) where
     -- the entries in the scope right around node i are those of the blocks above it
-    pub scope-around : (i : ℕ) → i < t .size → inScope t (enclosing t i) e ≡ above t (owner t e) i
+    pub scope-around : (i : ℕ) → i < t .size → inScope t (enclosing t i) e ≡ above t (blockOf t e) i
     unfolding inScope
     scope-around i l = same-test _ _ down up
       where
         o : ℕ
-        o = owner t e
+        o = blockOf t e
 
         c : ℕ
         c = enclosing t i
 
-        owned : OwnedBy t e (owner t e)
-        owned = owner-owns t e h
+        entry-of : EntryOf t e (blockOf t e)
+        entry-of = blockOf-has t e h
 
         higher : above t o c ≡ true → Is (ltb c (t .size)) → above t o i ≡ true
         higher a (is-true k) = above-trans t tree o c i l a (enclosing-above t tree i (ltb-true _ _ k))
@@ -124,11 +124,11 @@ module _ (t : Table) (tree : Tree t) where
         down m =
             or-cases (eqb o c) (above t o c) m
             (λ q. let s = eqb-true o c q in
-            subst (λ b. above t b i ≡ true) (sym s) (enclosing-above t tree i (omega (arith, owned .lt))))
+            subst (λ b. above t b i ≡ true) (sym s) (enclosing-above t tree i (omega (arith, entry-of .lt))))
             (λ a. higher a (look _))
 
         up : above t o i ≡ true → (eqb o c || above t o c) ≡ true
-        up a = go (enclosing-next t tree o i l (owned .lt) (owned-block t e o owned) a)
+        up a = go (enclosing-next t tree o i l (entry-of .lt) (entryOf-block t e o entry-of) a)
           where
             go : (o ≡ c) ⊎ (above t o c ≡ true) → (eqb o c || above t o c) ≡ true
             go (inl q) = or-left (eqb o c) (above t o c) (eq-eqb o c q)
@@ -138,42 +138,42 @@ module _ (t : Table) (tree : Tree t) where
     pub scope-outside : inScope t (t .size) e ≡ false
     unfolding inScope
     scope-outside =
-        let o = owner-owns t e h .lt in
-        or-neither (eqb (owner t e) (t .size)) (above t (owner t e) (t .size)) (ne-eqb (owner t e) (t .size) (λ q. omega arith)) (above-outside (owner t e))
+        let o = blockOf-has t e h .lt in
+        or-neither (eqb (blockOf t e) (t .size)) (above t (blockOf t e) (t .size)) (ne-eqb (blockOf t e) (t .size) (λ q. omega arith)) (above-outside (blockOf t e))
 
     -- a block's own entries are in its scope
-    pub scope-own : (i : ℕ) → OwnedBy t e i → inScope t i e ≡ true
+    pub scope-own : (i : ℕ) → EntryOf t e i → inScope t i e ≡ true
     unfolding inScope
-    scope-own i o = or-left (eqb (owner t e) i) (above t (owner t e) i) (eq-eqb _ _ (owner-is t e i o))
+    scope-own i o = or-left (eqb (blockOf t e) i) (above t (blockOf t e) i) (eq-eqb _ _ (blockOf-is t e i o))
 
-    owner-before : (i : ℕ) → e < boundBelow t i → owner t e < i
-    owner-before i l = go (look (ltb (owner t e) i))
+    blockOf-before : (i : ℕ) → e < boundBelow t i → blockOf t e < i
+    blockOf-before i l = go (look (ltb (blockOf t e) i))
       where
-        go : Is (ltb (owner t e) i) → owner t e < i
+        go : Is (ltb (blockOf t e) i) → blockOf t e < i
         go (is-true k) = ltb-true _ _ k
         go (is-false k) =
-            absurd (omega (arith, boundBelow-grows t i (owner t e) (ltb-false _ _ k), owner-owns t e h .from))
+            absurd (omega (arith, boundBelow-grows t i (blockOf t e) (ltb-false _ _ k), blockOf-has t e h .from))
 
-    not-above : (i : ℕ) → i < t .size → owner t e ≤ i → above t (owner t e) i ≡ false
-    not-above i l k = absent _ (λ a. omega (arith, above-higher t tree (owner t e) i l a))
+    not-above : (i : ℕ) → i < t .size → blockOf t e ≤ i → above t (blockOf t e) i ≡ false
+    not-above i l k = absent _ (λ a. omega (arith, above-higher t tree (blockOf t e) i l a))
 
     -- those before them are not
     pub scope-before : (i : ℕ) → i < t .size → e < boundBelow t i → inScope t i e ≡ false
     unfolding inScope
     scope-before i l k =
-        let o = owner-before i k in
-        or-neither (eqb (owner t e) i) (above t (owner t e) i) (ne-eqb (owner t e) i (λ q. omega arith)) (not-above i l (omega arith))
+        let o = blockOf-before i k in
+        or-neither (eqb (blockOf t e) i) (above t (blockOf t e) i) (ne-eqb (blockOf t e) i (λ q. omega arith)) (not-above i l (omega arith))
 
     -- nor are they and the block's own in the scope around it
     pub around-before : (i : ℕ) → i < t .size → e < boundBelow t (suc i) → inScope t (enclosing t i) e ≡ false
-    around-before i l k = let o = owner-before (suc i) k in scope-around i l ∙ not-above i l (omega arith)
+    around-before i l k = let o = blockOf-before (suc i) k in scope-around i l ∙ not-above i l (omega arith)
 
     -- and those after them are in both or neither
     pub around-after : (i : ℕ) → i < t .size → boundBelow t (suc i) ≤ e → inScope t i e ≡ inScope t (enclosing t i) e
     unfolding inScope
     around-after i l k =
-        let n : eqb (owner t e) i ≡ false = ne-eqb _ _ (λ q. let d = subst (λ b. e < boundBelow t (suc b)) q (owner-owns t e h .below) in omega arith) in
-        ap (λ b. b || above t (owner t e) i) n ∙ sym (scope-around i l)
+        let n : eqb (blockOf t e) i ≡ false = ne-eqb _ _ (λ q. let d = subst (λ b. e < boundBelow t (suc b)) q (blockOf-has t e h .below) in omega arith) in
+        ap (λ b. b || above t (blockOf t e) i) n ∙ sym (scope-around i l)
 
     -- whatever is in scope from where block i's entries begin is in scope at all
     pub scope-start : (i : ℕ) → i < t .size → (leb (boundBelow t i) e && inScope t i e) ≡ (leb 0 e && inScope t i e)

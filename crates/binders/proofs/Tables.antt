@@ -13,8 +13,8 @@ use Rattle.formula.specs.Words.{width, nodeCount, field, range, nodeOf, nodeAt,
 use Rattle.formula.proofs.Nodes.{Kind, kind-of, kind-constant, kind-variable, kind-negation, kind-operator, kind-exists, kind-for-all, kind-none, node-variable}
 use Rattle.table_check.specs.Verdict.{isBlockKind, verdict, accepted}
 use Rattle.table_check.proofs.Accepted.{accepted-holds}
+use Rattle.prenex_form.specs.Names.{highestNumber}
 use Rattle.prenex_form.proofs.NameLaws.{variable-le}
-use Rattle.prenex_form.proofs.Limits.{highest-limit}
 use Rattle.arrays.specs.Held.{isMember}
 use Rattle.arrays.proofs.Members.{block-member}
 
@@ -85,11 +85,11 @@ module _ (ws ls : List ℕ) (i : ℕ) where
   unfolding variableNumber
   variable-field x k e = ap variableNumber (sym (node-variable ws ls i k) ∙ e)
 
+  pub field-le : i < nodeCount ws → field ws i 0 ≡ 2 → field ws i 1 ≤ highestNumber (tableOf ws ls)
+  unfolding tableOf
+  field-le h k = variable-le (tableOf ws ls) i (field ws i 1) h (node-variable ws ls i k)
+
   module _ (v : verdict ws ls ≡ accepted) (h : i < nodeCount ws) where
     -- node i can be read
     pub node-within : width * i + width ≤ length ws
     node-within = omega (arith, accepted-holds ws ls v .whole)
-
-    pub field-le : field ws i 0 ≡ 2 → field ws i 1 ≤ 65535
-    unfolding tableOf
-    field-le k = omega (arith, variable-le (tableOf ws ls) i (field ws i 1) h (node-variable ws ls i k), highest-limit ws ls (accepted-holds ws ls v))

@@ -66,28 +66,28 @@ module _ (ws ls : List ℕ) (q : Place) (b j : ℕ) (s : q .scope ≡ b) (l : q 
   linked : q .link ≡ link (member (tableOf ws ls) (q .scope)) j (tableOf ws ls .size)
   linked = subst (λ c. q .link ≡ link (member (tableOf ws ls) c) j (tableOf ws ls .size)) (sym s) l
 
-  at-place : {bindings heads links numbers : List ℕ} → length bindings ≡ limit → b ≤ nodeCount ws
-      → (b < nodeCount ws → isBlock (tableOf ws ls .node b) ≡ true) → Open (tableOf ws ls) b 0 heads links numbers
-      → Known (tableOf ws ls) bindings (todo (tableOf ws ls) q) → Walking ws ls bindings heads links numbers q
+  at-place : {bindings heads links : List ℕ} → length bindings ≡ limit → b ≤ nodeCount ws
+      → (b < nodeCount ws → isBlock (tableOf ws ls .node b) ≡ true) → Open (tableOf ws ls) b 0 heads links
+      → Known (tableOf ws ls) bindings (todo (tableOf ws ls) q) → Walking ws ls bindings heads links q
   unfolding tableOf
-  at-place {bindings} {heads} {links} {numbers} n h e o k =
+  at-place {bindings} {heads} {links} n h e o k =
       record {
         bindings-length = n;
         scope-le = omega arith;
         scope-block = λ m. subst (λ c. isBlock (tableOf ws ls .node c) ≡ true) (sym s) (e (omega arith));
         link-le = omega (arith, link-le (member (tableOf ws ls) b) j (tableOf ws ls .size));
         link-member = λ i q. link-some (member (tableOf ws ls) _) j (tableOf ws ls .size) i (sym linked ∙ q) .passes;
-        opened = subst (λ c. Open (tableOf ws ls) c 0 heads links numbers) (sym s) o;
+        opened = subst (λ c. Open (tableOf ws ls) c 0 heads links) (sym s) o;
         found = k;
       }
 
 -- What a step from p to q comes to.
-abbrev pub Stepped : List ℕ → List ℕ → List ℕ → List ℕ → List ℕ → List ℕ → Place → Place → Type 0
-Stepped ws ls bindings heads links numbers p q =
-    Walking ws ls bindings heads links numbers q × (length (todo (tableOf ws ls) q) < length (todo (tableOf ws ls) p))
+abbrev pub Stepped : List ℕ → List ℕ → List ℕ → List ℕ → List ℕ → Place → Place → Type 0
+Stepped ws ls bindings heads links p q =
+    Walking ws ls bindings heads links q × (length (todo (tableOf ws ls) q) < length (todo (tableOf ws ls) p))
 
 -- What a place tells: the block that it leaves, or the node that it comes by.
-module _ {ws ls bindings heads links numbers : List ℕ} {p : Place} (w : Walking ws ls bindings heads links numbers p) where
+module _ {ws ls bindings heads links : List ℕ} {p : Place} (w : Walking ws ls bindings heads links p) where
   -- what is left to do where the link is 0 is to leave a block
   pub block-left : Unfinished ws ls p → p .link ≡ 0 → p .scope < nodeCount ws
   block-left (inl h) z = h
@@ -104,8 +104,8 @@ module _ {ws ls bindings heads links numbers : List ℕ} {p : Place} (w : Walkin
     link-is-member = and-left (isMember (tableOf ws ls .node i)) _ (w .link-member i at)
 
     -- the entries of its scope
-    pub link-open : Open (tableOf ws ls) (enclosing (tableOf ws ls) i) 0 heads links numbers
-    link-open = subst (λ c. Open (tableOf ws ls) c 0 heads links numbers) (sym link-scope) (w .opened)
+    pub link-open : Open (tableOf ws ls) (enclosing (tableOf ws ls) i) 0 heads links
+    link-open = subst (λ c. Open (tableOf ws ls) c 0 heads links) (sym link-scope) (w .opened)
 
 module _ {ws ls parents firsts nexts starts : List ℕ} (s : Scopes ws ls parents firsts nexts starts) where
   tree : Tree (tableOf ws ls)
@@ -143,11 +143,11 @@ module _ {ws ls parents firsts nexts starts : List ℕ} (s : Scopes ws ls parent
   first-link b h = s .chains-hold .first-is b h
 
   -- A step from p to q, where the working arrays change so that they hold the entries of q's scope.
-  module _ {bindings heads links numbers : List ℕ} {p : Place} (w : Walking ws ls bindings heads links numbers p) (q : Place) where
+  module _ {bindings heads links : List ℕ} {p : Place} (w : Walking ws ls bindings heads links p) (q : Place) where
     -- at the end of a scope
-    pub leaves : {heads' links' numbers' : List ℕ} → p .link ≡ 0 → p .scope < nodeCount ws → q .scope ≡ getD parents (p .scope) 0
-        → q .link ≡ getD nexts (p .scope) 0 → Open (tableOf ws ls) (enclosing (tableOf ws ls) (p .scope)) 0 heads' links' numbers'
-        → Stepped ws ls bindings heads' links' numbers' p q
+    pub leaves : {heads' links' : List ℕ} → p .link ≡ 0 → p .scope < nodeCount ws → q .scope ≡ getD parents (p .scope) 0
+        → q .link ≡ getD nexts (p .scope) 0 → Open (tableOf ws ls) (enclosing (tableOf ws ls) (p .scope)) 0 heads' links'
+        → Stepped ws ls bindings heads' links' p q
     unfolding tableOf
     leaves z h a b o =
         let e = w .scope-block h in
@@ -161,25 +161,25 @@ module _ {ws ls parents firsts nexts starts : List ℕ} (s : Scopes ws ls parent
 
     module _ {i : ℕ} (at : p .link ≡ suc i) where
       -- past a variable node, whose binding is r
-      pub passes : {numbers' : List ℕ} (r : ℕ) → field ws i 0 ≡ 2 → ((x : ℕ) → nodeAt ws ls i ≡ variable x → r ≡ boundEntry (tableOf ws ls) i x)
-          → Open (tableOf ws ls) (enclosing (tableOf ws ls) i) 0 heads links numbers' → q .scope ≡ p .scope → q .link ≡ getD nexts i 0
-          → Stepped ws ls (set bindings i r) heads links numbers' p q
+      pub passes : (r : ℕ) → field ws i 0 ≡ 2 → ((x : ℕ) → nodeAt ws ls i ≡ variable x → r ≡ boundEntry (tableOf ws ls) i x)
+          → q .scope ≡ p .scope → q .link ≡ getD nexts i 0
+          → Stepped ws ls (set bindings i r) heads links p q
       unfolding tableOf
-      passes {numbers'} r k f o s b =
+      passes r k f s b =
           let h = link-lt w at in
           let l : q .link ≡ link (member (tableOf ws ls) (p .scope)) (suc i) (tableOf ws ls .size) =
           b ∙ next-link i h (link-is-member w at) ∙ ap (λ (c : ℕ). link (member (tableOf ws ls) c) (suc i) (tableOf ws ls .size)) (link-scope w at) in
           let d = todo-pass (tableOf ws ls) tree p q i at h (w .link-member i at) (kind-no-block ws ls i k) s (linked ws ls q _ _ s l) in
           let wide : i < length bindings = omega (arith, nodes-few, w .bindings-length) in (
             at-place ws ls q _ _ s l (length-set bindings i r ∙ w .bindings-length) (w .scope-le) (w .scope-block)
-                (subst (λ c. Open (tableOf ws ls) c 0 heads links numbers') (link-scope w at) o)
+                (w .opened)
                 (known-next (tableOf ws ls) bindings (set bindings i r) _ _ i d (λ x v. getD-set-same bindings i r 0 wide ∙ f x v) (λ j n. getD-set-other bindings i j r 0 n) (w .found)),
             shorter _ _ _ d,
           )
 
       -- into a block
-      pub enters : {heads' links' numbers' : List ℕ} → isBlock (tableOf ws ls .node i) ≡ true → q .scope ≡ i → q .link ≡ getD firsts i 0
-          → Open (tableOf ws ls) i 0 heads' links' numbers' → Stepped ws ls bindings heads' links' numbers' p q
+      pub enters : {heads' links' : List ℕ} → isBlock (tableOf ws ls .node i) ≡ true → q .scope ≡ i → q .link ≡ getD firsts i 0
+          → Open (tableOf ws ls) i 0 heads' links' → Stepped ws ls bindings heads' links' p q
       unfolding tableOf
       enters e s b o =
           let h = link-lt w at in
@@ -191,9 +191,9 @@ module _ {ws ls parents firsts nexts starts : List ℕ} (s : Scopes ws ls parent
           )
 
   -- the first place, outside all blocks
-  pub begun : {heads links numbers : List ℕ} (bindings : List ℕ) (p : Place) → length bindings ≡ limit
-      → Open (tableOf ws ls) (nodeCount ws) 0 heads links numbers → p .scope ≡ nodeCount ws → p .link ≡ getD firsts (nodeCount ws) 0
-      → Walking ws ls bindings heads links numbers p
+  pub begun : {heads links : List ℕ} (bindings : List ℕ) (p : Place) → length bindings ≡ limit
+      → Open (tableOf ws ls) (nodeCount ws) 0 heads links → p .scope ≡ nodeCount ws → p .link ≡ getD firsts (nodeCount ws) 0
+      → Walking ws ls bindings heads links p
   unfolding tableOf
   begun bindings p n o s b =
       let l = b ∙ first-link (nodeCount ws) (omega arith) in
@@ -201,7 +201,7 @@ module _ {ws ls parents firsts nexts starts : List ℕ} (s : Scopes ws ls parent
       (λ i x h v. inr (todo-all (tableOf ws ls) tree p i s (linked ws ls p _ _ s l) h (variable-member _ x v)))
 
   -- the last, where nothing is left
-  pub ended : {bindings heads links numbers : List ℕ} {p : Place} → Walking ws ls bindings heads links numbers p → nodeCount ws ≤ p .scope
+  pub ended : {bindings heads links : List ℕ} {p : Place} → Walking ws ls bindings heads links p → nodeCount ws ≤ p .scope
       → p .link ≡ 0 → Bindings (tableOf ws ls) bindings
   unfolding tableOf mem
   ended {bindings} {p = p} w h z =

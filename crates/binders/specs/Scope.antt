@@ -1,9 +1,9 @@
--- The entries in a block's scope, chained by the remainders of their numbers.
+-- The entries in a block's scope, chained by their numbers.
 -- Assumes nothing.
 use mathlib.Core.Bool.{Bool, true, _&&_, _||_}
 use mathlib.Core.List.{List}
 use mathlib.Core.Path.{_≡_}
-use Prim.Native.Nat.{ℕ, suc, _%_, _<_, _≤_}
+use Prim.Native.Nat.{ℕ, suc, _<_, _≤_}
 use lib.Dec.{eqb, ltb}
 use lib.ListN.{length, getD}
 use Rattle.lists.specs.Search.{lowest}
@@ -11,33 +11,27 @@ use Rattle.formula.specs.Node.{Table}
 use Rattle.formula.specs.Tree.{boundBelow}
 use Rattle.table_check.specs.Verdict.{limit}
 use Rattle.prenex_form.specs.Scope.{above}
-use Rattle.prenex_form.specs.Names.{boundCount}
+use Rattle.prenex_form.specs.Names.{highestNumber, boundCount}
 use Rattle.arrays.specs.Held.{entries}
 use Rattle.arrays.specs.Link.{link}
 
--- How many remainders the entries are chained by: at most 64 variable numbers share one.
-abbrev pub buckets : ℕ
-buckets = 1024
-
 -- The block that entry e is of: the lowest node with whose entries it has been counted.
-unfoldable pub owner : Table → ℕ → ℕ
-owner t e = lowest (λ i. ltb e (boundBelow t (suc i))) (t .size)
+unfoldable pub blockOf : Table → ℕ → ℕ
+blockOf t e = lowest (λ i. ltb e (boundBelow t (suc i))) (t .size)
 
 -- Entry e is in the scope of block b: b or a block above it binds it. The table's size stands for the scope outside all blocks.
 unfoldable pub inScope : Table → ℕ → ℕ → Bool
-inScope t b e = eqb (owner t e) b || above t (owner t e) b
+inScope t b e = eqb (blockOf t e) b || above t (blockOf t e) b
 
--- Entry e is in block b's scope, and its number has the remainder h.
+-- Entry e is in block b's scope, and its number is x.
 abbrev pub inChain : Table → ℕ → ℕ → ℕ → Bool
-inChain t b h e = inScope t b e && eqb (getD (entries t) e 0 % buckets) h
+inChain t b x e = inScope t b e && eqb (getD (entries t) e 0) x
 
--- The entries of block b's scope from e₀ on are chained upward, each with its number. Whatever is above a block has later entries, so
--- the nearest come first. Entry e stands at index e + 1, which is how the links name it; index 0 is that of no entry.
-pub record Open (t : Table) (b e₀ : ℕ) (heads nexts numbers : List ℕ) : Type 0 where
-  pub heads-length : length heads ≡ buckets
+-- The entries of block b's scope from e₀ on are chained upward by their numbers, of which each has a head. Whatever is above a block
+-- has later entries, so the nearest come first. Entry e stands at index e + 1, which is how the links name it.
+pub record Open (t : Table) (b e₀ : ℕ) (heads nexts : List ℕ) : Type 0 where
+  pub heads-wide : highestNumber t < length heads
   pub nexts-length : length nexts ≡ suc limit
-  pub numbers-length : length numbers ≡ suc limit
-  pub head-is : (h : ℕ) → h < buckets → getD heads h 0 ≡ link (inChain t b h) e₀ (boundCount t)
+  pub head-is : (x : ℕ) → x < length heads → getD heads x 0 ≡ link (inChain t b x) e₀ (boundCount t)
   pub next-is : (e : ℕ) → e₀ ≤ e → e < boundCount t → inScope t b e ≡ true
-      → getD nexts (suc e) 0 ≡ link (inChain t b (getD (entries t) e 0 % buckets)) (suc e) (boundCount t)
-  pub number-is : (e : ℕ) → e₀ ≤ e → e < boundCount t → inScope t b e ≡ true → getD numbers (suc e) 0 ≡ getD (entries t) e 0
+      → getD nexts (suc e) 0 ≡ link (inChain t b (getD (entries t) e 0)) (suc e) (boundCount t)

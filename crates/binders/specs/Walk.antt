@@ -60,12 +60,12 @@ Unfinished ws ls p = (p .scope < nodeCount ws) ⊎ (0 < p .link)
 
 -- What holds at a place: the entries of its scope are chained, and the variable nodes that the walk does not come by any more have
 -- their entries.
-pub record Walking (ws ls bindings heads nexts numbers : List ℕ) (p : Place) : Type 0 where
+pub record Walking (ws ls bindings heads nexts : List ℕ) (p : Place) : Type 0 where
   pub bindings-length : length bindings ≡ limit
   pub scope-le : p .scope ≤ nodeCount ws
   pub scope-block : p .scope < nodeCount ws → isBlock (tableOf ws ls .node (p .scope)) ≡ true
   pub link-le : p .link ≤ nodeCount ws
   pub link-member : (i : ℕ) → p .link ≡ suc i → member (tableOf ws ls) (p .scope) i ≡ true
-  pub opened : Open (tableOf ws ls) (p .scope) 0 heads nexts numbers
+  pub opened : Open (tableOf ws ls) (p .scope) 0 heads nexts
   pub found : (i x : ℕ) → i < nodeCount ws → tableOf ws ls .node i ≡ variable x
       → (getD bindings i 0 ≡ boundEntry (tableOf ws ls) i x) ⊎ (mem i (todo (tableOf ws ls) p) ≡ true)

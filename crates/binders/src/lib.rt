@@ -2,30 +2,33 @@
 //
 // A walk through the table, scope by scope from the outermost in: it enters each block, comes by the
 // variable nodes and blocks whose parent block it is, and leaves it. The entries of the block and of
-// those above it are chained by the remainder of their numbers, the nearest first: entering a block
-// puts its entries before the others, leaving it takes them away. So the entry that binds a variable
-// node's number is the first in its chain that has the number, and a number that no block above
-// covers has none there: nothing climbs.
+// those above it are chained by their numbers, the nearest first: entering a block puts its entries
+// before the others, leaving it takes them away. So the entry that binds a variable node's number is
+// the head of the number's chain, and a number that no block above covers has none: nothing climbs.
 ghost use mathlib.Core.Bool.{true};
 ghost use mathlib.Core.Path.{_≡_};
-ghost use Prim.Native.Nat.{ℕ, suc, _+_, _%_, _≤_, _<_};
+ghost use Prim.Native.Nat.{suc, _+_, _≤_, _<_};
 ghost use lib.ListN.{length, getD, set};
-ghost use Rattle.formula.specs.Node.{variable, isBlock};
-ghost use Rattle.formula.specs.Words.{nodeCount, field, nodeAt, tableOf};
+ghost use Rattle.formula.specs.Node.{isBlock};
+ghost use Rattle.formula.specs.Words.{nodeCount, nodeAt, tableOf};
 ghost use Rattle.formula.specs.Tree.{boundBelow};
 ghost use Rattle.table_check.specs.Verdict.{limit, verdict, accepted};
-ghost use Rattle.arrays.specs.Held.{enclosing, boundEntry, Bindings};
-ghost use Rattle.binders.specs.Scope.{buckets, Open};
+ghost use Rattle.prenex_form.specs.Names.{highestNumber};
+ghost use Rattle.arrays.specs.Held.{enclosing, Bindings};
+ghost use Rattle.binders.specs.Scope.{Open};
 ghost use Rattle.binders.specs.Walk.{Scopes, todo, Walking, Unfinished};
 use formula::VARIABLE;
 
-// `buckets` of specs/Scope.antt: how many remainders the entries are chained by.
-const BUCKETS: usize = 1024;
+// How many numbers an array has heads for: those of most tables, or all.
+const FEW_NUMBERS: usize = 4096;
+
+const NUMBERS: usize = 65536;
 
 // One slot for each entry, and slot 0 for none.
 const ENTRIES: usize = 4097;
 
 // Writes, for each variable node, the entry that binds its number and one more; 0 if it is free.
+// `highest` is the table's highest number: where it is low, fewer heads are cleared.
 pub fn find_binders(
     words: &[u32],
     list: &[u32],
@@ -33,15 +36,31 @@ pub fn find_binders(
     firsts: &[u16],
     nexts: &[u16],
     starts: &[u16],
+    highest: u32,
     bindings: &mut [u16],
 )
     requires { ⌜ Scopes (now words) (now list) (now parents) (now firsts) (now nexts) (now starts) ⌝ }
+    requires { ⌜ highest ≡ highestNumber (tableOf (now words) (now list)) ⌝ }
     requires { ⌜ length (now bindings) ≡ limit ⌝ }
     ensures { λ _. ⌜ Bindings (tableOf (now (words .entry)) (now (list .entry))) (now (bindings .exit)) ⌝ }
 {
-    let mut heads = [0u16; BUCKETS];
     let mut entry_nexts = [0u16; ENTRIES];
-    let mut numbers = [0u16; ENTRIES];
+    if (highest as usize) < FEW_NUMBERS {
+        let mut heads = [0u16; FEW_NUMBERS];
+        walk(
+            words,
+            list,
+            parents,
+            firsts,
+            nexts,
+            starts,
+            bindings,
+            &mut heads,
+            &mut entry_nexts,
+        );
+        return;
+    }
+    let mut heads = [0u16; NUMBERS];
     walk(
         words,
         list,
@@ -52,7 +71,6 @@ pub fn find_binders(
         bindings,
         &mut heads,
         &mut entry_nexts,
-        &mut numbers,
     );
 }
 
@@ -73,11 +91,10 @@ fn walk(
     bindings: &mut [u16],
     heads: &mut [u16],
     entry_nexts: &mut [u16],
-    numbers: &mut [u16],
 )
     requires { ⌜ Scopes (now words) (now list) (now parents) (now firsts) (now nexts) (now starts) ⌝ }
     requires { ⌜ length (now bindings) ≡ limit ⌝ }
-    requires { ⌜ Open (tableOf (now words) (now list)) (nodeCount (now words)) 0 (now heads) (now «entry_nexts») (now numbers) ⌝ }
+    requires { ⌜ Open (tableOf (now words) (now list)) (nodeCount (now words)) 0 (now heads) (now «entry_nexts») ⌝ }
     ensures { λ _. ⌜ Bindings (tableOf (now (words .entry)) (now (list .entry))) (now (bindings .exit)) ⌝ }
 {
     let size = words.len() / formula::WIDTH;
@@ -96,7 +113,6 @@ fn walk(
             bindings,
             heads,
             entry_nexts,
-            numbers,
             place,
         );
     }
@@ -114,13 +130,12 @@ fn step(
     bindings: &mut [u16],
     heads: &mut [u16],
     entry_nexts: &mut [u16],
-    numbers: &mut [u16],
     place: Place,
 ) -> Place
     requires { ⌜ Scopes (now words) (now list) (now parents) (now firsts) (now nexts) (now starts) ⌝ }
-    requires { ⌜ Walking (now words) (now list) (now bindings) (now heads) (now «entry_nexts») (now numbers) place ⌝ }
+    requires { ⌜ Walking (now words) (now list) (now bindings) (now heads) (now «entry_nexts») place ⌝ }
     requires { ⌜ Unfinished (now words) (now list) place ⌝ }
-    ensures { λ r. ⌜ Walking (now (words .entry)) (now (list .entry)) (now (bindings .exit)) (now (heads .exit)) (now («entry_nexts» .exit)) (now (numbers .exit)) r ⌝ }
+    ensures { λ r. ⌜ Walking (now (words .entry)) (now (list .entry)) (now (bindings .exit)) (now (heads .exit)) (now («entry_nexts» .exit)) r ⌝ }
     ensures { λ r. ⌜ length (todo (tableOf (now (words .entry)) (now (list .entry))) r) < length (todo (tableOf (now (words .entry)) (now (list .entry))) place) ⌝ }
 {
     if place.link == 0 {
@@ -130,7 +145,6 @@ fn step(
             list,
             heads,
             entry_nexts,
-            numbers,
             starts[block] as usize,
             block,
         );
@@ -142,51 +156,17 @@ fn step(
     let i = place.link as usize - 1;
     let node = formula::node_at(words, i);
     if node.kind == VARIABLE {
-        bindings[i] = look_up(words, list, heads, entry_nexts, numbers, i);
+        bindings[i] = heads[node.a as usize];
         return Place {
             scope: place.scope,
             link: nexts[i],
         };
     }
-    enter(
-        words,
-        list,
-        heads,
-        entry_nexts,
-        numbers,
-        starts[i] as usize,
-        i,
-    );
+    enter(words, list, heads, entry_nexts, starts[i] as usize, i);
     Place {
         scope: i,
         link: firsts[i],
     }
-}
-
-// The entry that binds variable node i's number, and one more; 0 if it is free. The chain of the
-// number's remainder has the nearest block's entries first. The slot of no entry takes the number, so
-// that the search ends there at the latest.
-fn look_up(
-    words: &[u32],
-    list: &[u32],
-    heads: &[u16],
-    entry_nexts: &[u16],
-    numbers: &mut [u16],
-    i: usize,
-) -> u16
-    requires { ⌜ verdict (now words) (now list) ≡ accepted ⌝ }
-    requires { ⌜ (i < nodeCount (now words)) × (field (now words) i 0 ≡ 2) ⌝ }
-    requires { ⌜ Open (tableOf (now words) (now list)) (enclosing (tableOf (now words) (now list)) i) 0 (now heads) (now «entry_nexts») (now numbers) ⌝ }
-    ensures { λ r. ⌜ ((x : ℕ) → nodeAt (now (words .entry)) (now (list .entry)) i ≡ variable x → r ≡ boundEntry (tableOf (now (words .entry)) (now (list .entry))) i x) ⌝ }
-    ensures { λ _. ⌜ Open (tableOf (now (words .entry)) (now (list .entry))) (enclosing (tableOf (now (words .entry)) (now (list .entry))) i) 0 (now (heads .entry)) (now («entry_nexts» .entry)) (now (numbers .exit)) ⌝ }
-{
-    let x = formula::node_at(words, i).a as u16;
-    numbers[0] = x;
-    let mut entry = heads[x as usize % BUCKETS];
-    while numbers[entry as usize] != x {
-        entry = entry_nexts[entry as usize];
-    }
-    entry
 }
 
 // Enters block i: puts its entries, the first of which is entry start, before those of the scope
@@ -196,38 +176,33 @@ fn enter(
     list: &[u32],
     heads: &mut [u16],
     entry_nexts: &mut [u16],
-    numbers: &mut [u16],
     start: usize,
     i: usize,
 )
     requires { ⌜ verdict (now words) (now list) ≡ accepted ⌝ }
     requires { ⌜ (i < nodeCount (now words)) × (isBlock (nodeAt (now words) (now list) i) ≡ true) ⌝ }
     requires { ⌜ start ≡ boundBelow (tableOf (now words) (now list)) i ⌝ }
-    requires { ⌜ Open (tableOf (now words) (now list)) (enclosing (tableOf (now words) (now list)) i) 0 (now heads) (now «entry_nexts») (now numbers) ⌝ }
-    ensures { λ _. ⌜ Open (tableOf (now (words .entry)) (now (list .entry))) i 0 (now (heads .exit)) (now («entry_nexts» .exit)) (now (numbers .exit)) ⌝ }
+    requires { ⌜ Open (tableOf (now words) (now list)) (enclosing (tableOf (now words) (now list)) i) 0 (now heads) (now «entry_nexts») ⌝ }
+    ensures { λ _. ⌜ Open (tableOf (now (words .entry)) (now (list .entry))) i 0 (now (heads .exit)) (now («entry_nexts» .exit)) ⌝ }
 {
     let node = formula::node_at(words, i);
     let first = node.a as usize;
     let mut k = node.b as usize;
     while 0 < k {
         k -= 1;
-        put_entry(heads, entry_nexts, numbers, list[first + k], start + k);
+        put_entry(heads, entry_nexts, list[first + k], start + k);
     }
 }
 
 // Puts entry e, whose number is x, at the head of its chain.
-fn put_entry(heads: &mut [u16], entry_nexts: &mut [u16], numbers: &mut [u16], x: u32, e: usize)
-    requires { ⌜ (length (now heads) ≡ buckets) × (suc e < length (now «entry_nexts»)) × (suc e < length (now numbers)) ⌝ }
-    requires { ⌜ (e < limit) × (x ≤ 65535) ⌝ }
-    ensures { λ _. ⌜ now (heads .exit) ≡ set (now (heads .entry)) (x % buckets) (suc e) ⌝ }
-    ensures { λ _. ⌜ now («entry_nexts» .exit) ≡ set (now («entry_nexts» .entry)) (suc e) (getD (now (heads .entry)) (x % buckets) 0) ⌝ }
-    ensures { λ _. ⌜ now (numbers .exit) ≡ set (now (numbers .entry)) (suc e) x ⌝ }
+fn put_entry(heads: &mut [u16], entry_nexts: &mut [u16], x: u32, e: usize)
+    requires { ⌜ (x < length (now heads)) × (suc e < length (now «entry_nexts»)) × (e < limit) ⌝ }
+    ensures { λ _. ⌜ now (heads .exit) ≡ set (now (heads .entry)) x (suc e) ⌝ }
+    ensures { λ _. ⌜ now («entry_nexts» .exit) ≡ set (now («entry_nexts» .entry)) (suc e) (getD (now (heads .entry)) x 0) ⌝ }
 {
-    let bucket = x as usize % BUCKETS;
     let entry = e + 1;
-    entry_nexts[entry] = heads[bucket];
-    heads[bucket] = entry as u16;
-    numbers[entry] = x as u16;
+    entry_nexts[entry] = heads[x as usize];
+    heads[x as usize] = entry as u16;
 }
 
 // Leaves block i: takes its entries from the heads of their chains, the first of them first.
@@ -236,22 +211,21 @@ fn leave(
     list: &[u32],
     heads: &mut [u16],
     entry_nexts: &[u16],
-    numbers: &[u16],
     start: usize,
     i: usize,
 )
     requires { ⌜ verdict (now words) (now list) ≡ accepted ⌝ }
     requires { ⌜ (i < nodeCount (now words)) × (isBlock (nodeAt (now words) (now list) i) ≡ true) ⌝ }
     requires { ⌜ start ≡ boundBelow (tableOf (now words) (now list)) i ⌝ }
-    requires { ⌜ Open (tableOf (now words) (now list)) i 0 (now heads) (now «entry_nexts») (now numbers) ⌝ }
-    ensures { λ _. ⌜ Open (tableOf (now (words .entry)) (now (list .entry))) (enclosing (tableOf (now (words .entry)) (now (list .entry))) i) 0 (now (heads .exit)) (now («entry_nexts» .entry)) (now (numbers .entry)) ⌝ }
+    requires { ⌜ Open (tableOf (now words) (now list)) i 0 (now heads) (now «entry_nexts») ⌝ }
+    ensures { λ _. ⌜ Open (tableOf (now (words .entry)) (now (list .entry))) (enclosing (tableOf (now (words .entry)) (now (list .entry))) i) 0 (now (heads .exit)) (now («entry_nexts» .entry)) ⌝ }
 {
     let node = formula::node_at(words, i);
     let first = node.a as usize;
     let count = node.b as usize;
     let mut k = 0;
     while k < count {
-        heads[list[first + k] as usize % BUCKETS] = entry_nexts[start + k + 1];
+        heads[list[first + k] as usize] = entry_nexts[start + k + 1];
         k += 1;
     }
 }

@@ -267,6 +267,7 @@ fn find_bindings(
         &member_firsts,
         &member_nexts,
         starts,
+        highest,
         levels,
     );
     highest

@@ -31,8 +31,8 @@ use Rattle.prenex_form.proofs.Step.{matrix-step}
 definerOf : Table → ℕ → ℕ
 definerOf t z = lowest (λ i. inner t i && eqb z (definitionVariable t i)) (t .size)
 
-ownerOf : Table → ℕ → ℕ
-ownerOf t x = lowest (λ i. mem x (newNames t i)) (t .size)
+binderOf : Table → ℕ → ℕ
+binderOf t x = lowest (λ i. mem x (newNames t i)) (t .size)
 
 -- the blocks of level j + 1, their bodies read at that level's cut
 abbrev levelBlocks : Table → ℕ → Blocks
@@ -54,9 +54,9 @@ definer-at t i h n =
     (and-both _ _ n (eq-eqb (definitionVariable t i) (definitionVariable t i) refl))
     (λ k l. absent _ (λ e. omega (arith, definition-apart t i k n (and-left _ _ e) (eqb-true _ _ (and-right (inner t k) _ e)))))
 
-owner-at : (t : Table) (i x : ℕ) → i < t .size → mem x (newNames t i) ≡ true → ownerOf t x ≡ i
-unfolding ownerOf
-owner-at t i x h m =
+binder-at : (t : Table) (i x : ℕ) → i < t .size → mem x (newNames t i) ≡ true → binderOf t x ≡ i
+unfolding binderOf
+binder-at t i x h m =
     lowest-is (λ k. mem x (newNames t k)) (t .size) i h m (λ k l. absent _ (λ n. omega (arith, newNames-apart t i k x m n)))
 
 module _ (t : Table) (tree : Tree t) (j : ℕ) where
@@ -66,11 +66,11 @@ module _ (t : Table) (tree : Tree t) (j : ℕ) where
       record {
         copy = λ x. x + boundCount t;
         original = λ y. y - boundCount t;
-        owner = ownerOf t;
+        binder = binderOf t;
         original-copy = λ x. omega arith;
         same-length = λ i m. length-newNames t i ∙ sym (length-copies t i);
         copies-are = λ i k m l. copies-shift t i k 0 (blocksAt-lt t tree (suc j) i m) (omega (arith, length-newNames t i));
-        owner-is = λ i x m h. owner-at t i x (blocksAt-lt t tree (suc j) i m) h;
+        binder-is = λ i x m h. binder-at t i x (blocksAt-lt t tree (suc j) i m) h;
         definer-is = λ i m. definer-at t i (blocksAt-lt t tree (suc j) i m) (blocksAt-inner t tree (suc j) i m);
         names-copies = λ i k x m n p q. omega (arith, newNames-le t i x (blocksAt-lt t tree (suc j) i m) p, copies-above t k x q);
         names-definitions = λ i k m n p. omega (arith, newNames-le t i _ (blocksAt-lt t tree (suc j) i m) p, definition-above t k);

@@ -58,11 +58,11 @@ Alike b v u = (z : ℕ) → Untouched b z → v z ≡ u z
 pub record Separate (b : Blocks) : Type 0 where
   pub copy : ℕ → ℕ
   pub original : ℕ → ℕ
-  pub owner : ℕ → ℕ
+  pub binder : ℕ → ℕ
   pub original-copy : (x : ℕ) → original (copy x) ≡ x
   pub same-length : (i : ℕ) → Member b i → length (b .names i) ≡ length (b .copies i)
   pub copies-are : (i k : ℕ) → Member b i → k < length (b .names i) → getD (b .copies i) k 0 ≡ copy (getD (b .names i) k 0)
-  pub owner-is : (i x : ℕ) → Member b i → mem x (b .names i) ≡ true → owner x ≡ i
+  pub binder-is : (i x : ℕ) → Member b i → mem x (b .names i) ≡ true → binder x ≡ i
   pub definer-is : (i : ℕ) → Member b i → b .definer (b .definition i) ≡ i
   pub names-copies : (i j x : ℕ) → Member b i → Member b j → mem x (b .names i) ≡ true → mem x (b .copies j) ≡ true → ⊥
   pub names-definitions : (i j : ℕ) → Member b i → Member b j → mem (b .definition j) (b .names i) ≡ true → ⊥
@@ -257,14 +257,14 @@ module _ (b : Blocks) (s : Separate b) where
 
   -- v with the copies of each block at what attains its true value
   spread : Valuation → Valuation
-  spread v y = pick (mem y (flatMap (b .copies) (b .members))) (attained (s .owner (s .original y)) v (s .original y)) (v y)
+  spread v y = pick (mem y (flatMap (b .copies) (b .members))) (attained (s .binder (s .original y)) v (s .original y)) (v y)
 
   spread-copy : (v : Valuation) (i x : ℕ) → Member b i → mem x (b .names i) ≡ true → spread v (s .copy x) ≡ attained i v x
   unfolding spread
   spread-copy v i x m h =
       pick-yes _ _ _ (mem-flatMap (b .copies) (s .copy x) i (b .members) m (copy-member i x m h))
-      ∙ ap (λ y. attained (s .owner y) v y) (s .original-copy x)
-      ∙ ap (λ j. attained j v x) (s .owner-is i x m h)
+      ∙ ap (λ y. attained (s .binder y) v y) (s .original-copy x)
+      ∙ ap (λ j. attained j v x) (s .binder-is i x m h)
 
   spread-outside : (v : Valuation) → Outside (flatMap (b .copies) (b .members)) v (spread v)
   unfolding spread
@@ -299,7 +299,7 @@ module _ (b : Blocks) (s : Separate b) where
   onName u i x = pick (Bool·beq (truth b i u) (decides (b .kind i))) (attained i u x) (u (s .copy x))
 
   chosen : Valuation → Valuation
-  chosen u z = pick (isDefinition b z) (truth b (b .definer z) u) (pick (mem z (flatMap (b .names) (b .members))) (onName u (s .owner z) z) (u z))
+  chosen u z = pick (isDefinition b z) (truth b (b .definer z) u) (pick (mem z (flatMap (b .names) (b .members))) (onName u (s .binder z) z) (u z))
 
   chosen-definition : (u : Valuation) (i : ℕ) → Member b i → chosen u (b .definition i) ≡ truth b i u
   unfolding chosen
@@ -310,7 +310,7 @@ module _ (b : Blocks) (s : Separate b) where
   chosen-name u i x m h =
       pick-no _ _ _ (isDefinition-no x (name-no-definition i x m h))
       ∙ pick-yes _ _ _ (mem-flatMap (b .names) x i (b .members) m h)
-      ∙ ap (λ j. onName u j x) (s .owner-is i x m h)
+      ∙ ap (λ j. onName u j x) (s .binder-is i x m h)
 
   chosen-other : (u : Valuation) (z : ℕ) → NoName b z → NoDefinition b z → u z ≡ chosen u z
   unfolding chosen

@@ -1,5 +1,6 @@
--- `binders::leave` meets its contract. The loop's invariant: the scope's entries from the block's kth on are chained. The measure is what is left of the block.
+-- `binders::leave` meets its contract. The loop's invariant: the scope's entries from the block's kth on are chained, and there are as many heads. The measure is what is left of the block.
 -- Assumes nothing.
+use mathlib.Core.Path.{_≡_, refl, _∙_}
 use Prim.Native.Nat.{_+_, _-_, _≤_, _<_}
 use native.Mathlib.Omega.{arith}
 use lib.ListN.{length}
@@ -8,28 +9,28 @@ use Rattle.formula.specs.Words.{tableOf}
 use Rattle.table_check.specs.Verdict.{limit}
 use Rattle.binders.specs.Scope.{Open}
 use Rattle.binders.proofs.Tables.{node-within}
-use Rattle.binders.proofs.Blocks.{BlockAt, block-at, entry-lt, range-lt, entry-taken, leave-start, leave-end}
+use Rattle.binders.proofs.Blocks.{BlockAt, block-at, entry-lt, range-lt, entry-head, entry-taken, leave-start, leave-end}
 use Rattle.binders.proofs.leave.Statement.{statement}
 use Rattle.binders.proofs.leave.Tie as tie
 
 abbrev Inv-loop : tie.InvT-loop
-Inv-loop words list heads₀ entry-nexts numbers start i first count k₀ heads k = BlockAt words list i start first count × (k ≤ count) × Open (tableOf words list) i (start + k) heads entry-nexts numbers
+Inv-loop words list heads₀ entry-nexts start i first count k₀ heads k = BlockAt words list i start first count × (k ≤ count) × (length heads ≡ length heads₀) × Open (tableOf words list) i (start + k) heads entry-nexts
 
 abbrev μ-loop : tie.MeasureT-loop
-μ-loop words list heads₀ entry-nexts numbers start i first count k₀ heads k = count - k
+μ-loop words list heads₀ entry-nexts start i first count k₀ heads k = count - k
 
 -- a turn's entry is one of the block's
 turn : (c : tie.In-loop Inv-loop μ-loop) → c .before .loop .k < c .before .before .before .before .node-at .result .b
 turn c = omega arith
 
-in-list : (c : tie.In-loop Inv-loop μ-loop) → c .before .before .before .before .node-at .result .a + c .before .loop .k < length (c .before .before .before .before .before .before .before .before .before .before .args .list .now)
+in-list : (c : tie.In-loop Inv-loop μ-loop) → c .before .before .before .before .node-at .result .a + c .before .loop .k < length (c .before .before .before .before .before .before .before .before .before .args .list .now)
 in-list c = range-lt (c .before .loop .inv .0) _ (turn c)
 
-few : (c : tie.In-loop Inv-loop μ-loop) → c .before .before .before .before .before .before .before .before .before .before .args .start + c .before .loop .k < limit
+few : (c : tie.In-loop Inv-loop μ-loop) → c .before .before .before .before .before .before .before .before .before .args .start + c .before .loop .k < limit
 few c = entry-lt (c .before .loop .inv .0) _ (turn c)
 
 node-at-requires : tie.Need-node-at-requires Inv-loop μ-loop
-node-at-requires c κs = let s = c .before .before .before .before .before in node-within _ _ _ (s .pre .0) (s .pre .1 .0 .0)
+node-at-requires c κs = let s = c .before .before .before .before in node-within _ _ _ (s .pre .0) (s .pre .1 .0 .0)
 
 cast-first : tie.Need-cast-first Inv-loop μ-loop
 cast-first c = search needs
@@ -39,10 +40,10 @@ cast-count c = search needs
 
 loop-holds : tie.Need-loop-holds Inv-loop μ-loop
 loop-holds c =
-    let s = c .before .before .before .before .before .before .before .before in
+    let s = c .before .before .before .before .before .before .before in
     let n = c .before .before .node-at .ensures in
     let b = block-at (s .pre .0) (s .pre .1 .0) (s .pre .1 .1 .0) (n .1) (n .2) in
-    (b, omega arith, leave-start b (s .pre .1 .1 .1))
+    (b, omega arith, refl, leave-start b (s .pre .1 .1 .1))
 
 add-heads : tie.Need-add-heads Inv-loop μ-loop
 add-heads c = omega (arith, few c)
@@ -54,7 +55,7 @@ mul-heads : tie.Need-mul-heads Inv-loop μ-loop
 mul-heads c = omega (arith, few c)
 
 shared-slice-read-heads : tie.Need-shared-slice-read-heads Inv-loop μ-loop
-shared-slice-read-heads c = let l = c .before in omega (arith, few l, l .before .loop .inv .2 .nexts-length)
+shared-slice-read-heads c = let l = c .before in omega (arith, few l, l .before .loop .inv .3 .nexts-length)
 
 add-heads-3 : tie.Need-add-heads-3 Inv-loop μ-loop
 add-heads-3 c = omega (arith, in-list (c .before))
@@ -66,13 +67,13 @@ shared-slice-read-heads-2 : tie.Need-shared-slice-read-heads-2 Inv-loop μ-loop
 shared-slice-read-heads-2 c = in-list (c .before .before)
 
 cast-heads : tie.Need-cast-heads Inv-loop μ-loop
-cast-heads c = omega (arith, c .shared-slice-known6 .given (c .before .before .before .before .before .before .node-at .result .a + c .before .before .before .loop .k))
+cast-heads c = omega (arith, c .shared-slice-known5 .given (c .before .before .before .before .before .before .node-at .result .a + c .before .before .before .loop .k))
 
 mul-heads-3 : tie.Need-mul-heads-3 Inv-loop μ-loop
-mul-heads-3 c = omega arith
+mul-heads-3 c = omega (arith, c .shared-slice-known5 .given (c .before .before .before .before .before .before .node-at .result .a + c .before .before .before .loop .k))
 
 slice-write-heads : tie.Need-slice-write-heads Inv-loop μ-loop
-slice-write-heads c = omega (arith, c .before .before .before .loop .inv .2 .heads-length)
+slice-write-heads c = let l = c .before .before in entry-head (l .before .loop .inv .0) _ (turn l) (l .before .loop .inv .3)
 
 add-k : tie.Need-add-k Inv-loop μ-loop
 add-k c = omega (arith, turn (c .before .before))
@@ -84,13 +85,13 @@ loop-again : tie.Need-loop-again Inv-loop μ-loop
 loop-again c =
     let l = c .before .before in
     let v = l .before .loop .inv in
-    (v .0, omega (arith, turn l), entry-taken (v .0) _ (turn l) _ (omega arith) (v .2))
+    let d = entry-taken (v .0) (l .before .loop .k) (turn l) (c .before .before .before .before .before .before .before .before .before .before .before .args .start + (l .before .loop .k + 1)) (omega arith) (v .3) in (v .0, omega (arith, turn l), d .0 ∙ v .2, d .1)
 
 same-length : tie.Need-same-length Inv-loop μ-loop
-same-length c = search needs
+same-length c = c .before .loop .inv .2
 
 returns : tie.Need-returns Inv-loop μ-loop
-returns c = let v = c .before .loop .inv in leave-end (v .0) _ (omega (arith, v .1)) (v .2)
+returns c = let v = c .before .loop .inv in leave-end (v .0) _ (omega (arith, v .1)) (v .3)
 
 pub leave-spec : {M : Type 1} → statement M
 leave-spec =

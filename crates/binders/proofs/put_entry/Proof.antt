@@ -1,11 +1,9 @@
 -- `binders::put_entry` meets its contract.
 -- Assumes nothing.
 use mathlib.Core.Path.{ap}
-use Prim.Native.Nat.{_%_}
 use native.Mathlib.Numerals.{add-one}
 use lib.ListN.{getD, set}
 use borrow.Author.Needs.{needs}
-use Rattle.binders.specs.Scope.{buckets}
 use Rattle.binders.proofs.put_entry.Statement.{statement}
 use Rattle.binders.proofs.put_entry.Tie as tie
 
@@ -33,34 +31,17 @@ mul-heads c = search needs
 slice-write-heads : tie.Need-slice-write-heads
 slice-write-heads c = search needs
 
-cast-numbers : tie.Need-cast-numbers
-cast-numbers c = search needs
-
-mul-numbers : tie.Need-mul-numbers
-mul-numbers c = search needs
-
-slice-write-numbers : tie.Need-slice-write-numbers
-slice-write-numbers c = search needs
-
 same-length : tie.Need-same-length
 same-length c = search needs
 
 same-length-2 : tie.Need-same-length-2
 same-length-2 c = search needs
 
-same-length-3 : tie.Need-same-length-3
-same-length-3 c = search needs
-
 returns : tie.Need-returns
 returns c =
     let s = c .before .args in
-    let n = add-one (s .e) in (
-      ap (λ v. set (s .heads .now) (s .x % buckets) v) n,
-      (
-        ap (λ v. set (s .entry-nexts .now) v (getD (s .heads .now) (s .x % buckets) 0)) n,
-        ap (λ v. set (s .numbers .now) v (s .x)) n,
-      ),
-    )
+    let n = add-one (s .e) in
+    (ap (λ v. set (s .heads .now) (s .x) v) n, ap (λ v. set (s .entry-nexts .now) v (getD (s .heads .now) (s .x) 0)) n)
 
 pub put-entry-spec : {M : Type 1} → statement M
 put-entry-spec =
@@ -74,10 +55,6 @@ put-entry-spec =
     cast-heads
     mul-heads
     slice-write-heads
-    cast-numbers
-    mul-numbers
-    slice-write-numbers
     same-length
     same-length-2
-    same-length-3
     returns)

@@ -1,20 +1,22 @@
 -- `binders::step` meets its contract: it leaves a block, passes a variable node, or enters a block.
 -- Assumes nothing.
-use mathlib.Core.Path.{_≡_, refl, sym, _∙_}
+use mathlib.Core.Path.{_≡_, refl, sym, _∙_, ap}
 use mathlib.Core.Bool.{true}
 use Prim.Native.Nat.{ℕ, suc, _-_}
 use native.Mathlib.Omega.{arith}
+use lib.ListN.{getD}
 use borrow.Author.Needs.{needs}
 use Rattle.formula.specs.Node.{isBlock}
-use Rattle.formula.specs.Words.{tableOf}
+use Rattle.formula.specs.Words.{field, tableOf}
 use Rattle.binders.proofs.Tables.{kind-block}
+use Rattle.binders.proofs.Search.{variable-head, head-binds}
 use Rattle.binders.proofs.Walked.{block-left, Indexed, indexed, start-at, leaves, link-lt, link-is-member, link-open, passes, enters}
 use Rattle.binders.proofs.step.Statement.{statement}
 use Rattle.binders.proofs.step.Tie as tie
 
 -- the function's entry
 abbrev entry : tie.After-struct-known → tie.Start
-entry c = c .before .before .before .before .before .before .before .before .before .before .before
+entry c = c .before .before .before .before .before .before .before .before .before .before
 
 -- what the arrays have a place for
 abbrev Known : tie.Start → ℕ → Type 0
@@ -39,6 +41,10 @@ come-by c =
 abbrev read : tie.After-struct-known3 → tie.Else1
 read c = c .before .before .before
 
+-- it is a variable node
+variable-here : (c : tie.Then2) → field (entry (read (c .before) .before) .args .words .now) (entry (read (c .before) .before) .args .place .link - 1) 0 ≡ 2
+variable-here c = sym (c .before .before .node-at .ensures .0) ∙ c .if2 .taken
+
 -- it is a block
 block-here : (c : tie.Else2) → isBlock (tableOf (entry (read (c .before) .before) .args .words .now) (entry (read (c .before) .before) .args .list .now) .node (entry (read (c .before) .before) .args .place .link - 1)) ≡ true
 unfolding tableOf
@@ -51,33 +57,33 @@ mul-leave : tie.Need-mul-leave
 mul-leave c = search needs
 
 shared-slice-read-leave : tie.Need-shared-slice-read-leave
-shared-slice-read-leave c = omega (arith, left (c .before .before .before .before))
+shared-slice-read-leave c = omega (arith, left (c .before .before .before))
 
 cast-leave : tie.Need-cast-leave
-cast-leave c = omega (arith, c .shared-slice-known7 .given (entry (c .before .before .before .before .before) .args .place .scope))
+cast-leave c = omega (arith, c .shared-slice-known7 .given (entry (c .before .before .before .before) .args .place .scope))
 
 leave-requires : tie.Need-leave-requires
 unfolding tableOf
 leave-requires c κs =
-    let k = left (c .before .before .before .before) in
-    let s = entry (c .before .before .before .before .before) in
+    let k = left (c .before .before .before) in
+    let s = entry (c .before .before .before .before) in
     let b = s .pre .1 .0 .scope-block (k .below) in
     (s .pre .0 .accepts, ((k .below, b), (start-at (s .pre .0) _ (k .below) b, s .pre .1 .0 .opened)))
 
-mul-t23 : tie.Need-mul-t23
-mul-t23 c = search needs
-
-shared-slice-read-t28 : tie.Need-shared-slice-read-t28
-shared-slice-read-t28 c = omega (arith, left (c .before .before .before .before .before .before .before .before))
-
-cast-t26 : tie.Need-cast-t26
-cast-t26 c = omega (arith, c .shared-slice-known8 .given (entry (c .before .before .before .before .before .before .before .before .before) .args .place .scope))
-
-mul-t29 : tie.Need-mul-t29
-mul-t29 c = search needs
+mul-t20 : tie.Need-mul-t20
+mul-t20 c = search needs
 
 shared-slice-read-t25 : tie.Need-shared-slice-read-t25
-shared-slice-read-t25 c = omega (arith, left (c .before .before .before .before .before .before .before .before .before))
+shared-slice-read-t25 c = omega (arith, left (c .before .before .before .before .before .before .before))
+
+cast-t23 : tie.Need-cast-t23
+cast-t23 c = omega (arith, c .shared-slice-known8 .given (entry (c .before .before .before .before .before .before .before .before) .args .place .scope))
+
+mul-t26 : tie.Need-mul-t26
+mul-t26 c = search needs
+
+shared-slice-read-t22 : tie.Need-shared-slice-read-t22
+shared-slice-read-t22 c = omega (arith, left (c .before .before .before .before .before .before .before .before))
 
 same-length : tie.Need-same-length
 same-length c = search needs
@@ -85,12 +91,9 @@ same-length c = search needs
 same-length-2 : tie.Need-same-length-2
 same-length-2 c = search needs
 
-same-length-3 : tie.Need-same-length-3
-same-length-3 c = search needs
-
 returns : tie.Need-returns
 returns c =
-    let t = c .before .before .before .before .before .before .before .before .before in
+    let t = c .before .before .before .before .before .before .before .before in
     let s = entry (t .before) in
     leaves (s .pre .0) (s .pre .1 .0) _ (t .if1 .taken) (left t .below) refl refl (c .before .before .before .before .leave .ensures)
 
@@ -103,26 +106,72 @@ sub-i c = search needs
 node-at-requires : tie.Need-node-at-requires
 node-at-requires c κs = come-by (c .before) .in-words
 
-look-up-requires : tie.Need-look-up-requires
-look-up-requires c κs =
-    let e = read (c .before .before .before .before) in
-    let s = entry (e .before) in
-    let k = sym (c .before .before .before .before .before .node-at .ensures .0) ∙ c .before .before .before .if2 .taken in
-    (s .pre .0 .accepts, ((come-by e .below, k), link-open (s .pre .1 .0) (at-node e)))
+cast-bindings : tie.Need-cast-bindings
+cast-bindings c = search needs
 
 mul-bindings : tie.Need-mul-bindings
 mul-bindings c = search needs
 
+slice-read-bindings : tie.Need-slice-read-bindings
+slice-read-bindings c =
+    let y = c .before .before in
+    let e = read (y .before) in
+    let s = entry (e .before) in
+    let h = variable-head _ _ _ _ _ (s .pre .0 .accepts) (come-by e .below) (variable-here y) (link-open (s .pre .1 .0) (at-node e)) in
+    omega (arith, y .before .before .node-at .ensures .1)
+
+mul-bindings-2 : tie.Need-mul-bindings-2
+mul-bindings-2 c = search needs
+
 slice-write-bindings : tie.Need-slice-write-bindings
 slice-write-bindings c =
-    let e = read (c .before .before .before .before .before .before .before) in
+    let e = read (c .before .before .before) in
     let s = entry (e .before) in omega (arith, come-by e, s .pre .1 .0 .bindings-length, s .pre .0)
 
-mul-t39 : tie.Need-mul-t39
-mul-t39 c = search needs
+mul-t29 : tie.Need-mul-t29
+mul-t29 c = search needs
 
 shared-slice-read-t32 : tie.Need-shared-slice-read-t32
-shared-slice-read-t32 c = omega (arith, come-by (read (c .before .before .before .before .before .before .before .before)))
+shared-slice-read-t32 c = omega (arith, come-by (read (c .before .before .before .before)))
+
+same-length-3 : tie.Need-same-length-3
+same-length-3 c = search needs
+
+returns-2 : tie.Need-returns-2
+returns-2 c =
+    let y = c .before .before .before in
+    let e = read (y .before) in
+    let s = entry (e .before) in
+    let o = link-open (s .pre .1 .0) (at-node e) in
+    passes (s .pre .0) (s .pre .1 .0) _ (at-node e) _ (variable-here y)
+    (λ x v.
+    ap (λ n. getD (s .args .heads .now) n 0) (y .before .before .node-at .ensures .1)
+    ∙ head-binds _ _ _ _ _ (s .pre .0 .accepts) (come-by e .below) (variable-here y) o x v)
+    refl refl
+
+mul-enter : tie.Need-mul-enter
+mul-enter c = search needs
+
+shared-slice-read-enter : tie.Need-shared-slice-read-enter
+shared-slice-read-enter c = omega (arith, come-by (read (c .before .before .before .before)))
+
+cast-enter : tie.Need-cast-enter
+cast-enter c = omega (arith, c .shared-slice-known11 .given (entry (read (c .before .before .before .before) .before) .args .place .link - 1))
+
+enter-requires : tie.Need-enter-requires
+unfolding tableOf
+enter-requires c κs =
+    let e = read (c .before .before .before .before) in
+    let s = entry (e .before) in
+    let k = come-by e .below in
+    let b = block-here (c .before .before .before) in
+    (s .pre .0 .accepts, ((k, b), (start-at (s .pre .0) _ k b, link-open (s .pre .1 .0) (at-node e))))
+
+mul-t28 : tie.Need-mul-t28
+mul-t28 c = search needs
+
+shared-slice-read-t42 : tie.Need-shared-slice-read-t42
+shared-slice-read-t42 c = omega (arith, come-by (read (c .before .before .before .before .before .before .before .before .before .before)))
 
 same-length-4 : tie.Need-same-length-4
 same-length-4 c = search needs
@@ -130,60 +179,12 @@ same-length-4 c = search needs
 same-length-5 : tie.Need-same-length-5
 same-length-5 c = search needs
 
-same-length-6 : tie.Need-same-length-6
-same-length-6 c = search needs
-
-same-length-7 : tie.Need-same-length-7
-same-length-7 c = search needs
-
-returns-2 : tie.Need-returns-2
-returns-2 c =
-    let y = c .before .before .before .before .before .before .before in
-    let e = read (y .before) in
-    let s = entry (e .before) in
-    let f = c .before .before .before .look-up .ensures in
-    passes (s .pre .0) (s .pre .1 .0) _ (at-node e) _
-    (sym (y .before .before .node-at .ensures .0) ∙ y .if2 .taken) (f .0) (f .1) refl refl
-
-mul-enter : tie.Need-mul-enter
-mul-enter c = search needs
-
-shared-slice-read-enter : tie.Need-shared-slice-read-enter
-shared-slice-read-enter c = omega (arith, come-by (read (c .before .before .before .before .before)))
-
-cast-enter : tie.Need-cast-enter
-cast-enter c = omega (arith, c .shared-slice-known11 .given (entry (read (c .before .before .before .before .before) .before) .args .place .link - 1))
-
-enter-requires : tie.Need-enter-requires
-unfolding tableOf
-enter-requires c κs =
-    let e = read (c .before .before .before .before .before) in
-    let s = entry (e .before) in
-    let k = come-by e .below in
-    let b = block-here (c .before .before .before .before) in
-    (s .pre .0 .accepts, ((k, b), (start-at (s .pre .0) _ k b, link-open (s .pre .1 .0) (at-node e))))
-
-mul-t31 : tie.Need-mul-t31
-mul-t31 c = search needs
-
-shared-slice-read-t50 : tie.Need-shared-slice-read-t50
-shared-slice-read-t50 c = omega (arith, come-by (read (c .before .before .before .before .before .before .before .before .before .before .before .before .before)))
-
-same-length-8 : tie.Need-same-length-8
-same-length-8 c = search needs
-
-same-length-9 : tie.Need-same-length-9
-same-length-9 c = search needs
-
-same-length-10 : tie.Need-same-length-10
-same-length-10 c = search needs
-
 returns-3 : tie.Need-returns-3
 returns-3 c =
-    let n = c .before .before .before .before .before .before .before .before .before .before .before .before in
+    let n = c .before .before .before .before .before .before .before .before .before in
     let e = read (n .before) in
     let s = entry (e .before) in
-    enters (s .pre .0) (s .pre .1 .0) _ (at-node e) (block-here n) refl refl (c .before .before .before .before .before .before .before .enter .ensures)
+    enters (s .pre .0) (s .pre .1 .0) _ (at-node e) (block-here n) refl refl (c .before .before .before .before .before .enter .ensures)
 
 pub step-spec : {M : Type 1} → statement M
 step-spec =
@@ -193,35 +194,32 @@ step-spec =
     shared-slice-read-leave
     cast-leave
     leave-requires
-    mul-t23
-    shared-slice-read-t28
-    cast-t26
-    mul-t29
+    mul-t20
     shared-slice-read-t25
+    cast-t23
+    mul-t26
+    shared-slice-read-t22
     same-length
     same-length-2
-    same-length-3
     returns
     cast-i
     sub-i
     node-at-requires
-    look-up-requires
+    cast-bindings
     mul-bindings
+    slice-read-bindings
+    mul-bindings-2
     slice-write-bindings
-    mul-t39
+    mul-t29
     shared-slice-read-t32
-    same-length-4
-    same-length-5
-    same-length-6
-    same-length-7
+    same-length-3
     returns-2
     mul-enter
     shared-slice-read-enter
     cast-enter
     enter-requires
-    mul-t31
-    shared-slice-read-t50
-    same-length-8
-    same-length-9
-    same-length-10
+    mul-t28
+    shared-slice-read-t42
+    same-length-4
+    same-length-5
     returns-3)

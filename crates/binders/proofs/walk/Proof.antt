@@ -1,4 +1,4 @@
--- `binders::walk` meets its contract. The loop's invariant is `Walking`; the measure is how many nodes the walk comes by.
+-- `binders::walk` meets its contract. The loop's invariant: `Walking`, and as many heads; the measure is how many nodes the walk comes by.
 -- Assumes nothing.
 use mathlib.Core.Path.{_≡_, refl, sym, _∙_}
 use mathlib.Core.Logic.{inl, inr, ⊎-elim}
@@ -15,21 +15,21 @@ use Rattle.binders.proofs.walk.Statement.{statement}
 use Rattle.binders.proofs.walk.Tie as tie
 
 abbrev Inv-loop : tie.InvT-loop
-Inv-loop words list parents firsts nexts starts bindings₀ heads₀ entry-nexts₀ numbers₀ size place₀ bindings heads entry-nexts numbers place =
-    Walking words list bindings heads entry-nexts numbers place
+Inv-loop words list parents firsts nexts starts bindings₀ heads₀ entry-nexts₀ size place₀ bindings heads entry-nexts place =
+    Walking words list bindings heads entry-nexts place × (length heads ≡ length heads₀)
 
 abbrev μ-loop : tie.MeasureT-loop
-μ-loop words list parents firsts nexts starts bindings₀ heads₀ entry-nexts₀ numbers₀ size place₀ bindings heads entry-nexts numbers place =
+μ-loop words list parents firsts nexts starts bindings₀ heads₀ entry-nexts₀ size place₀ bindings heads entry-nexts place =
     length (todo (tableOf words list) place)
 
-mul-t13 : tie.Need-mul-t13 Inv-loop μ-loop
-mul-t13 c = let s = c .before .before .before .before .before .before .before .before .before .before in omega (arith, nodes-few (s .pre .0))
+mul-t12 : tie.Need-mul-t12 Inv-loop μ-loop
+mul-t12 c = omega (arith, nodes-few (c .before .before .before .before .before .before .before .before .before .pre .0))
 
-shared-slice-read-t15 : tie.Need-shared-slice-read-t15 Inv-loop μ-loop
-shared-slice-read-t15 c = let s = c .before .before .before .before .before .before .before .before .before .before .before in omega (arith, nodes-few (s .pre .0), s .pre .0 .firsts-length)
+shared-slice-read-t14 : tie.Need-shared-slice-read-t14 Inv-loop μ-loop
+shared-slice-read-t14 c = let s = c .before .before .before .before .before .before .before .before .before .before in omega (arith, nodes-few (s .pre .0), s .pre .0 .firsts-length)
 
 loop-holds : tie.Need-loop-holds Inv-loop μ-loop
-loop-holds c = let s = c .before .before .before .before .before .before .before .before .before .before .before in begun (s .pre .0) _ _ (s .pre .1 .0) (s .pre .1 .1) refl refl
+loop-holds c = let s = c .before .before .before .before .before .before .before .before .before .before in (begun (s .pre .0) _ _ (s .pre .1 .0) (s .pre .1 .1) refl refl, refl)
 
 -- the loop's test, read either way
 goes-on : (link : ℕ) → not (eqb link 0) ≡ true → 0 < link
@@ -37,31 +37,28 @@ goes-on link e = let n = eqb-false link 0 (not-true _ e) in omega arith
 
 step-requires : tie.Need-step-requires Inv-loop μ-loop
 step-requires c κs =
-    let s = c .before .before .before .before .before .before .before .before .before .before .before .before .before .before .before .before .before .before in
-    let go = ⊎-elim (λ a. inl (a .taken)) (λ b. inr (goes-on _ (b .2 .taken))) (c .before .before .before .before .if1 .came) in
-    (s .pre .0, (c .before .before .before .before .before .before .loop .inv, go))
+    let s = c .before .before .before .before .before .before .before .before .before .before .before .before .before .before .before .before in
+    let go = ⊎-elim (λ a. inl (a .taken)) (λ b. inr (goes-on _ (b .2 .taken))) (c .before .before .before .if1 .came) in
+    (s .pre .0, (c .before .before .before .before .before .loop .inv .0, go))
 
 loop-less : tie.Need-loop-less Inv-loop μ-loop
-loop-less c = c .before .before .before .before .before .before .before .before .step .ensures .1
+loop-less c = c .before .before .before .before .before .before .step .ensures .1
 
 loop-again : tie.Need-loop-again Inv-loop μ-loop
-loop-again c = c .before .before .before .before .before .before .before .before .step .ensures .0
+loop-again c =
+    let d = c .before .before .before .before .before .before .step in (d .ensures .0, d .kept .1 .1 .1 .1 .1 .1 .1 .0 ∙ c .before .before .before .before .before .before .before .before .before .before .before .before .loop .inv .1)
 
 same-length : tie.Need-same-length Inv-loop μ-loop
-same-length c = c .before .before .before .before .loop .inv .bindings-length ∙ sym (c .before .before .before .before .before .before .before .before .before .before .before .before .before .before .before .before .pre .1 .0)
+same-length c = c .before .before .before .before .loop .inv .0 .bindings-length ∙ sym (c .before .before .before .before .before .before .before .before .before .before .before .before .before .before .before .pre .1 .0)
 
 same-length-2 : tie.Need-same-length-2 Inv-loop μ-loop
-same-length-2 c = c .before .before .before .before .loop .inv .opened .heads-length ∙ sym (c .before .before .before .before .before .before .before .before .before .before .before .before .before .before .before .before .pre .1 .1 .heads-length)
+same-length-2 c = c .before .before .before .before .loop .inv .1
 
 same-length-3 : tie.Need-same-length-3 Inv-loop μ-loop
-same-length-3 c = c .before .before .before .before .loop .inv .opened .nexts-length ∙ sym (c .before .before .before .before .before .before .before .before .before .before .before .before .before .before .before .before .pre .1 .1 .nexts-length)
-
-same-length-4 : tie.Need-same-length-4 Inv-loop μ-loop
-same-length-4 c = c .before .before .before .before .loop .inv .opened .numbers-length ∙ sym (c .before .before .before .before .before .before .before .before .before .before .before .before .before .before .before .before .pre .1 .1 .numbers-length)
+same-length-3 c = c .before .before .before .before .loop .inv .0 .opened .nexts-length ∙ sym (c .before .before .before .before .before .before .before .before .before .before .before .before .before .before .before .pre .1 .1 .nexts-length)
 
 returns : tie.Need-returns Inv-loop μ-loop
-returns c =
-    ended (c .before .before .before .before .before .before .before .before .before .before .before .before .before .before .before .before .pre .0) (c .before .before .before .before .loop .inv) (c .before .before .if1 .left) (eqb-true _ _ (not-false _ (c .if2 .left)))
+returns c = ended (c .before .before .before .before .before .before .before .before .before .before .before .before .before .before .before .pre .0) (c .before .before .before .before .loop .inv .0) (c .before .before .if1 .left) (eqb-true _ _ (not-false _ (c .if2 .left)))
 
 pub walk-spec : {M : Type 1} → statement M
 walk-spec =
@@ -69,8 +66,8 @@ walk-spec =
     (tie.spec
     Inv-loop
     μ-loop
-    mul-t13
-    shared-slice-read-t15
+    mul-t12
+    shared-slice-read-t14
     loop-holds
     step-requires
     loop-less
@@ -78,5 +75,4 @@ walk-spec =
     same-length
     same-length-2
     same-length-3
-    same-length-4
     returns)

@@ -56,7 +56,7 @@ find-binders-requires c κs =
       chains-hold = h .ensures .1 .0;
       starts-hold = h .ensures .1 .1 .0;
     } in
-    (a, p .1 .0 .levels-length)
+    (a, (h .ensures .1 .1 .1 .0, p .1 .0 .levels-length))
 
 same-length : tie.Need-same-length
 same-length c = search needs
@@ -86,7 +86,7 @@ returns c =
     let b : Started (s .args .words .now) (s .args .list .now) _ =
     record { checked = p .0; started = h .ensures .1 .1 .0; starts-long = h .kept .1 .1 .1 .1 .1 .1 .1 .1 .0 ∙ z .starts-length } in
     let d : Bound (s .args .words .now) (s .args .list .now) _ =
-    record { bindings-length = f .kept .1 .1 .1 .1 .1 .1 .0 ∙ p .1 .0 .levels-length; bindings-hold = f .ensures } in
+    record { bindings-length = f .kept .1 .1 .1 .1 .1 .1 .1 .0 ∙ p .1 .0 .levels-length; bindings-hold = f .ensures } in
     (a, (b, (d, h .ensures .1 .1 .1)))
 
 pub find-bindings-spec : {M : Type 1} → statement M
