@@ -13,7 +13,7 @@ use Rattle.lists.specs.Choice.{pick, pick-yes, pick-no, Is, is-true, is-false, 
 use Rattle.lists.specs.Members.{mem}
 use Rattle.lists.specs.Parts.{upTo}
 use Rattle.lists.proofs.Search.{lowest-le, lowest-none}
-use Rattle.lists.proofs.Members.{mem-append, mem-left, mem-right, mem-one, mem-head, mem-tail, mem-getD, mem-flatMap, mem-flatMap-from, or-group}
+use Rattle.lists.proofs.Members.{mem-append, mem-left, mem-right, mem-one, mem-head, mem-tail, mem-getD, mem-flatMap, or-group}
 use Rattle.lists.proofs.Parts.{term-le}
 use Rattle.formula.specs.Node.{Quantifier, exists, for-all, Node, constant, variable, negation, operator, block, Table, operands, isBlock, bound}
 use Rattle.formula.specs.Tree.{Tree, Proper, count}
@@ -21,17 +21,17 @@ use Rattle.formula.specs.Truth.{nodeFree, freeAt, free}
 use Rattle.formula.specs.Form.{Block, binds, formFree}
 use Rattle.formula.proofs.Unfolding.{freeAt-node}
 use Rattle.prenex_form.specs.Scope.{binder, inner, level, above, parent}
-use Rattle.prenex_form.specs.Names.{highestNumber, newNames, newName, copies, definitionVariable}
+use Rattle.prenex_form.specs.Names.{newNames, newName, copies, definitionVariable}
 use Rattle.prenex_form.specs.Levels.{blocksAt, levels, levelQuantifier}
 use Rattle.prenex_form.specs.Matrix.{kept, renamed, firstNodes, equation, constraint, further, constraints, wrap, levelNodes, nodesTo, prenexNodes, writtenNodes}
 use Rattle.prenex_form.specs.Prefix.{blockCount, leading, prefixBlock, prefixBlocks, writtenPrefix, writtenVariables}
 use Rattle.prenex_form.proofs.Paths.{climb, parent-lt, parent-names, binder-root, binder-step, binder-block, inner-level, level-le-levels, mem-blocksAt, blocksAt-lt, blocksAt-inner, inner-block}
-use Rattle.prenex_form.proofs.NameLaws.{variable-le, length-newNames, length-copies, newNames-above, copies-above, definition-above, newName-free, newName-bound}
+use Rattle.prenex_form.proofs.NameLaws.{variable-le, length-newNames, length-copies, newName-free, newName-bound}
 use Rattle.prenex_form.proofs.NodeLists.{listTable, Plain}
 use Rattle.prenex_form.proofs.Written.{length-firstNodes, getD-firstNodes, kept-le, kept-inner}
 use Rattle.prenex_form.proofs.WrittenOrder.{prenex-plain, written-table}
 use Rattle.prenex_form.proofs.WrittenTree.{prenex-tree}
-use Rattle.prenex_form.proofs.PrefixNames.{prefix-read}
+use Rattle.prenex_form.proofs.PrefixNames.{prefix-read, prefix-new}
 
 and-not : (a b : Bool) → (a && not b) ≡ true → b ≡ false
 and-not true true h = sym h
@@ -139,6 +139,11 @@ binds-one : (b : Block) (x : ℕ) → binds (b ∷ []) x ≡ mem x (b .variables
 unfolding binds
 binds-one b x = or-false (mem x (b .variables))
 
+binds-mem : (bs : List Block) (x : ℕ) → binds bs x ≡ mem x (flatMap (λ (b : Block). b .variables) bs)
+unfolding binds flatMap mem
+binds-mem [] x = refl
+binds-mem (b ∷ bs) x = ap (_||_ (mem x (b .variables))) (binds-mem bs x) ∙ sym (mem-append x (b .variables) _)
+
 module _ (g : ℕ → Block) (x : ℕ) where
   binds-each : (n : ℕ) → binds (upTo (λ j. g j ∷ []) (suc n)) x ≡ (binds (upTo (λ j. g j ∷ []) n) x || mem x (g n .variables))
   unfolding upTo
@@ -153,12 +158,6 @@ module _ (g : ℕ → Block) (x : ℕ) where
       go (is-true e) next = or-right (binds (upTo (λ j. g j ∷ []) n) x) _ (rw (eqb-true j n e) at m)
       go (is-false e) next = or-left _ _ (let k = eqb-false j n e in next (omega arith) m)
 
-  upTo-binds : (n : ℕ) → binds (upTo (λ j. g j ∷ []) n) x ≡ true → (j : ℕ) × (mem x (g j .variables) ≡ true)
-  unfolding upTo binds
-  upTo-binds zero h = clash h refl
-  upTo-binds (suc n) h =
-      or-cases (binds (upTo (λ j. g j ∷ []) n) x) (mem x (g n .variables)) (sym (binds-each n) ∙ h) (upTo-binds n) (λ m. (n, m))
-
 module _ (t : Table) where
   prefix-binds : (j x : ℕ) → j ≤ levels t → eqb (blockCount t) 0 ≡ false → mem x (prefixBlock t j .variables) ≡ true
       → binds (prefixBlocks t) x ≡ true
@@ -167,42 +166,10 @@ module _ (t : Table) where
       rw (pick-no _ [] (upTo (λ j. prefixBlock t j ∷ []) (suc (levels t))) e)
       (binds-upTo (prefixBlock t) x (suc (levels t)) j (omega arith) m)
 
-  prefix-from : (x : ℕ) → binds (prefixBlocks t) x ≡ true → (j : ℕ) × (mem x (prefixBlock t j .variables) ≡ true)
-  unfolding prefixBlocks binds
-  prefix-from x h = go (look (eqb (blockCount t) 0)) h
-    where
-      bs : List Block
-      bs = upTo (λ j. prefixBlock t j ∷ []) (suc (levels t))
-
-      go : Is (eqb (blockCount t) 0) → binds (pick (eqb (blockCount t) 0) [] bs) x ≡ true → (j : ℕ) × (mem x (prefixBlock t j .variables) ≡ true)
-      go (is-true e) h = clash (subst (λ l. binds l x ≡ true) (pick-yes _ [] bs e) h) refl
-      go (is-false e) h = upTo-binds (prefixBlock t) x (suc (levels t)) (subst (λ l. binds l x ≡ true) (pick-no _ [] bs e) h)
-
   some-block : (i : ℕ) → i < t .size → isBlock (t .node i) ≡ true → eqb (blockCount t) 0 ≡ false
   unfolding blockCount
   some-block i h b =
       ne-eqb (blockCount t) 0 (λ e. omega (arith, term-le (λ j. pick (isBlock (t .node j)) 1 0) (t .size) i h, pick-yes {A = ℕ} (isBlock (t .node i)) 1 0 b))
-
-  -- only new names: none of the table's numbers
-  leading-above : (j x : ℕ) → mem x (leading t j) ≡ true → highestNumber t < x
-  unfolding leading
-  leading-above zero x m = newNames-above t (t .size - 1) x m
-  leading-above (suc j) x m =
-      let r = mem-flatMap-from (λ i. newNames t i ++ (definitionVariable t i ∷ [])) x (blocksAt t (suc j)) m in
-      or-cases (mem x (newNames t (r .0))) (mem x (definitionVariable t (r .0) ∷ [])) (sym (mem-append x (newNames t (r .0)) _) ∙ r .2)
-      (newNames-above t (r .0) x)
-      (λ k. omega (arith, eqb-true x _ (sym (mem-one x (definitionVariable t (r .0))) ∙ k), definition-above t (r .0)))
-
-  copied-above : (j x : ℕ) → mem x (flatMap (copies t) (blocksAt t j)) ≡ true → highestNumber t < x
-  copied-above j x m =
-      let r = mem-flatMap-from (copies t) x (blocksAt t j) m in omega (arith, copies-above t (r .0) x (r .2))
-
-  prefix-above : (x : ℕ) → binds (prefixBlocks t) x ≡ true → highestNumber t < x
-  unfolding prefixBlock
-  prefix-above x h =
-      let r = prefix-from x h in
-      or-cases (mem x (leading t (r .0))) (mem x (flatMap (copies t) (blocksAt t (suc (r .0)))))
-      (sym (mem-append x (leading t (r .0)) _) ∙ r .1) (leading-above (r .0) x) (copied-above (suc (r .0)) x)
 
   module _ (tree : Tree t) where
     -- the names and the definition variable of an inner block are in the prefix block of its level, its copies in the one before
@@ -415,9 +382,12 @@ module _ (t : Table) (tree : Tree t) (x : ℕ) where
       (record { node = s .node; within = r .0; variable-is = r .1 ∙ e; unbound = plain-binder (prenexNodes t) (prenex-plain t tree) (s .node) x })
 
   table-unbound : free t x ≡ true → binds (prefixBlocks t) x ≡ false
+  unfolding writtenVariables
   table-unbound h =
       let s = free-stands t tree x h in
-      absent _ (λ b. omega (arith, prefix-above t x b, variable-le t (s .node) x (s .within) (s .variable-is)))
+      absent _ (λ b.
+      let m : mem x (writtenVariables t) ≡ true = sym (binds-mem (prefixBlocks t) x) ∙ b in
+      omega (arith, prefix-new t tree x m, variable-le t (s .node) x (s .within) (s .variable-is)))
 
 -- The written form has the table's free variables.
 pub same-free : (t : Table) → Proper t → (x : ℕ) → formFree (writtenNodes t) (writtenPrefix t) (writtenVariables t) x ≡ free t x

@@ -27,7 +27,7 @@ use Rattle.prenex_form.specs.Prefix.{blockCount, leading, prefixBlock, p
 use Rattle.prenex_form.specs.Matrix.{and, kept, renamed, firstNodes, equation, guard, constraint, further, constraints, wrap, levelNodes, nodesTo, prenexNodes}
 use Rattle.prenex_form.specs.Sizes.{prefixCount, sizes}
 use Rattle.prenex_form.proofs.Paths.{level-root, inner-lt, inner-level, level-le-levels, blocksAt-lt, blocksAt-inner, blocksAt-level, depth-levels, inner-block}
-use Rattle.prenex_form.proofs.NameLaws.{none-bound, variable-le, innerBound-is, innerBound-le, length-newNames, length-copies, newNames-le, copies-above, copies-le, definition-above, definition-le, newNames-apart, copies-apart, definition-apart, distinct-newNames, distinct-copies, newName-bound}
+use Rattle.prenex_form.proofs.NameLaws.{none-bound, variable-le, innerBound-is, innerBound-le, length-newNames, length-copies, newNames-above, newNames-le, copies-above, copies-le, definition-above, definition-le, newNames-apart, copies-apart, definition-apart, distinct-newNames, distinct-copies, newName-bound}
 use Rattle.prenex_form.proofs.Alternation.{quantifier-read}
 
 -- reading a prefix
@@ -287,6 +287,11 @@ module _ (t : Table) where
   origin-apart j k x (copy i h n e m) (copy i′ h′ n′ e′ m′) =
       let r : suc j ≡ suc k = sym e ∙ ap (level t) (copies-apart t i i′ x n n′ m m′) ∙ e′ in omega arith
 
+  origin-above : (j x : ℕ) → Origin t j x → highestNumber t < x
+  origin-above j x (lead i h e (name m)) = newNames-above t i x m
+  origin-above j x (lead i h e (definition n m)) = omega (arith, definition-above t i)
+  origin-above j x (copy i h n e m) = omega (arith, copies-above t i x m)
+
   origin-le : (j x : ℕ) → Origin t j x → x ≤ lastName t
   origin-le j x (lead i h e (name m)) = omega (arith, newNames-le t i x h m)
   origin-le j x (lead i h e (definition n m)) = omega (arith, definition-le t i h n)
@@ -357,16 +362,22 @@ module _ (t : Table) where
             (distinct-upTo (part t) (suc (levels t)) (λ j h. distinct-part j)
             (λ j k x h l m n. origin-apart j k x (part-origin j x m) (part-origin k x n)))
 
-    -- its names are at most the last one
-    pub prefix-le : (x : ℕ) → mem x (writtenVariables t) ≡ true → x ≤ lastName t
+    prefix-origin : (x : ℕ) → mem x (writtenVariables t) ≡ true → (j : ℕ) × Origin t j x
     unfolding mem
-    prefix-le x m = go (look (eqb (blockCount t) 0))
+    prefix-origin x m = go (look (eqb (blockCount t) 0))
       where
-        go : Is (eqb (blockCount t) 0) → x ≤ lastName t
+        go : Is (eqb (blockCount t) 0) → (j : ℕ) × Origin t j x
         go (is-true e) = clash (subst (λ l. mem x l ≡ true) (variables-none e) m) refl
         go (is-false e) =
             let r = mem-upTo-from (part t) (suc (levels t)) x (subst (λ l. mem x l ≡ true) (variables-parts e) m) in
-            origin-le (r .0) x (part-origin (r .0) x (r .2))
+            (r .0, part-origin (r .0) x (r .2))
+
+    -- its names are above the table's numbers, and at most the last one
+    pub prefix-new : (x : ℕ) → mem x (writtenVariables t) ≡ true → highestNumber t < x
+    prefix-new x m = let r = prefix-origin x m in origin-above (r .0) x (r .1)
+
+    pub prefix-le : (x : ℕ) → mem x (writtenVariables t) ≡ true → x ≤ lastName t
+    prefix-le x m = let r = prefix-origin x m in origin-le (r .0) x (r .1)
 
 pick-add : (b : Bool) (m n k : ℕ) → k ≡ m + n → pick b k 0 ≡ pick b m 0 + pick b n 0
 unfolding pick

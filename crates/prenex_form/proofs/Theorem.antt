@@ -19,7 +19,7 @@ use Rattle.prenex_form.proofs.Truth.{same-truth}
 use Rattle.prenex_form.proofs.FreeNames.{same-free}
 use Rattle.prenex_form.proofs.Limits.{highest-limit, bound-limit, size-limit}
 use Rattle.prenex_form.proofs.NodeLists.{words-read}
-use Rattle.prenex_form.proofs.PrefixNames.{prefix-length, prefix-distinct, prefix-entries, length-prefixBlocks, prefix-name-le, node-name-le, entries-le, blocks-le}
+use Rattle.prenex_form.proofs.PrefixNames.{prefix-length, prefix-distinct, prefix-entries, length-prefixBlocks, prefix-name-le, node-name-le, entries-le, blocks-le, prefix-new}
 use Rattle.prenex_form.proofs.PrefixShape.{prefix-count, prefix-whole, prefix-kinds-from, prefix-kinds-to, prefix-follow, prefix-fill}
 use Rattle.prenex_form.proofs.WrittenOrder.{prenex-plain}
 use Rattle.prenex_form.proofs.WrittenWords.{written-whole, written-count, written-kinds, written-tree, written-bound, written-few}
@@ -39,6 +39,7 @@ of-accepted ws ls a =
       same-truth = same-truth t (a .proper);
       same-free = same-free t (a .proper);
       bound-once = prefix-distinct t tree;
+      names-new = prefix-new t tree;
       whole-nodes = written-whole t tree;
       kinds-from = λ i h. written-kinds t tree i h .0;
       kinds-to = λ i h. written-kinds t tree i h .1;

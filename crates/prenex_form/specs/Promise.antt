@@ -17,7 +17,7 @@ use Rattle.formula.specs.Form.{prefixWidth, formTruth, formFree}
 use Rattle.formula.specs.Tree.{Tree}
 use Rattle.prenex_form.specs.declared.Sizes.{Sizes}
 use Rattle.prenex_form.specs.Scope.{depth}
-use Rattle.prenex_form.specs.Names.{boundCount}
+use Rattle.prenex_form.specs.Names.{highestNumber, boundCount}
 use Rattle.prenex_form.specs.Prefix.{blockCount}
 
 pub record PrenexOf (t : Table) (ns ps xs : List ℕ) : Type 0 where
@@ -27,6 +27,8 @@ pub record PrenexOf (t : Table) (ns ps xs : List ℕ) : Type 0 where
   pub same-free : (x : ℕ) → formFree ns ps xs x ≡ free t x
   -- "no variable bound twice"
   pub bound-once : distinct xs ≡ true
+  -- "get F + 1 and up": no number of the table stands in the prefix
+  pub names-new : (x : ℕ) → mem x xs ≡ true → highestNumber t < x
   -- "no quantifier below the prefix": every node is of kind 1 to 4, and the nodes are a tree
   pub whole-nodes : length ns ≡ width * nodeCount ns
   pub kinds-from : (i : ℕ) → i < nodeCount ns → 1 ≤ field ns i 0
