@@ -9,6 +9,11 @@ static void print(const char *name, const uint32_t *words, size_t count, size_t 
         printf("%u%c", (unsigned)words[i], (i + 1) % width ? ' ' : '\n');
 }
 
+static int refused(const uint32_t *answer) {
+    fprintf(stderr, "refused: %u at %u\n", (unsigned)answer[0], (unsigned)answer[1]);
+    return 1;
+}
+
 int main(void) {
     const uint32_t words[] = {2, 1, 0, 0,  2, 2, 0, 0,  2, 1, 0, 0,
                               4, 8, 1, 2,  5, 0, 1, 3,  4, 6, 0, 4};
@@ -16,16 +21,18 @@ int main(void) {
     uint32_t answer[9];
     wakubinryo_measure(words, 24, list, 1, answer);
     if (answer[0] != 0)
-        return fprintf(stderr, "refused: %u at %u\n", (unsigned)answer[0], (unsigned)answer[1]), 1;
+        return refused(answer);
     size_t nodes = answer[6], blocks = answer[7], variables = answer[8];
     uint32_t *out = malloc((4 * nodes + 3 * blocks + variables) * sizeof *out);
     if (out == NULL)
         return 1;
     uint32_t *prefix = out + 4 * nodes, *names = prefix + 3 * blocks;
     wakubinryo_lift(words, 24, list, 1, out, 4 * nodes, prefix, 3 * blocks, names, variables, answer);
+    if (answer[0] != 0)
+        return free(out), refused(answer);
     print("nodes", out, nodes, 4);
     print("prefix", prefix, blocks, 3);
     print("variables", names, variables, 1);
     free(out);
-    return answer[0] != 0;
+    return 0;
 }

@@ -60,11 +60,11 @@
  *
  * All lengths count 32-bit words. A call reads the words and the list lent to
  * it, writes the answer and the buffers lent to it, and touches nothing else:
- * it allocates nothing, keeps nothing and uses less than 128 KiB of stack. On
- * refusal no buffer has changed, whatever the buffers held. If done, a
- * buffer's words after the last one written keep their content. Pointers are
- * aligned and not null, even where the length is 0, and what is written must
- * not overlap anything else lent.
+ * it allocates nothing and keeps nothing. It uses less than 256 KiB of stack;
+ * this is measured, not proved. On refusal no buffer has changed, whatever the
+ * buffers held. If done, a buffer's words after the last one written keep
+ * their content. Pointers are aligned and not null, even where the length is
+ * 0, and what is written must not overlap anything else lent.
  */
 #ifndef WAKUBINRYO_H
 #define WAKUBINRYO_H
@@ -131,7 +131,8 @@ void wakubinryo_lift(const uint32_t *words, size_t words_len,
  *
  * Numbers 0 to 9. If done, answer[2] is how many they are, and names holds
  * them, ascending and once each. It gives 9 exactly if the table is accepted
- * and names is shorter than that; 2,048 words are always enough.
+ * and names is shorter than that. 2,048 words are always enough, because a
+ * tree of 4,096 nodes has at most 2,048 leaves.
  */
 void wakubinryo_free_variables(const uint32_t *words, size_t words_len,
                                const uint32_t *list, size_t list_len,

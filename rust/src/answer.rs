@@ -1,26 +1,28 @@
 //! What the three operations answer.
 
-/// Why a table, or a call, is refused. The value is the refusal's number.
+/// Why a table, or a call, is refused. The value is the refusal's number; the
+/// word in brackets is document 01's.
 #[derive(Clone, Copy, Debug, PartialEq, Eq, PartialOrd, Ord, Hash)]
 #[repr(u32)]
 pub enum Reason {
-    /// No words, or not a multiple of four.
+    /// (ragged) No words, or not a multiple of four.
     PartialNode = 1,
-    /// More than 4,096 nodes or list entries.
+    /// (oversize) More than 4,096 nodes or list entries.
     TooLarge = 2,
-    /// An unknown kind, or a field outside its range.
+    /// (odd node) An unknown kind, or a field outside its range.
     MalformedNode = 3,
-    /// An operand or body at or above its own node.
+    /// (forward) An operand or body at or above its own node.
     ForwardReference = 4,
-    /// A block's range passes the end of the list.
+    /// (overhang) A block's range passes the end of the list.
     RangePastEnd = 5,
-    /// This block's count brings the sum of counts over 4,096.
+    /// (crowd) This block's count brings the sum of counts over 4,096.
     TooManyVariables = 6,
-    /// An entry of the block's range is no variable, or stands in it twice.
+    /// (bad name) An entry of the block's range is no variable, or stands in it
+    /// twice.
     BadVariable = 7,
-    /// The lowest node below the last that isn't named exactly once.
+    /// (not a tree) The lowest node below the last that isn't named exactly once.
     NotATree = 8,
-    /// An output buffer is shorter than the size needed.
+    /// (no room) An output buffer is shorter than the size needed.
     BufferTooShort = 9,
 }
 
@@ -64,36 +66,41 @@ pub struct Refusal {
 /// Sizes of an accepted table and of its prenex form.
 #[derive(Clone, Copy, Debug, Default, PartialEq, Eq)]
 pub struct Sizes {
-    /// Nodes of the table, n.
-    pub nodes: u32,
-    /// Quantifier blocks of the table, b.
-    pub blocks: u32,
-    /// Sum of the blocks' counts, q.
-    pub bound: u32,
+    /// Nodes of the table.
+    pub n: u32,
+    /// Blocks of the table.
+    pub b: u32,
+    /// The sum of the blocks' counts.
+    pub q: u32,
     /// The largest number of blocks on a path from the root.
     pub depth: u32,
     /// Nodes of the prenex form, four words each.
-    pub form_nodes: u32,
+    pub nodes: u32,
     /// Prefix blocks of the prenex form, three words each.
-    pub form_blocks: u32,
+    pub blocks: u32,
     /// Prefix variables of the prenex form, one word each.
-    pub form_variables: u32,
+    pub entries: u32,
+}
+
+impl Sizes {
+    /// Sizes from their words, in the order that the C interface has them.
+    pub fn from_words([n, b, q, depth, nodes, blocks, entries]: [u32; 7]) -> Sizes {
+        Sizes {
+            n,
+            b,
+            q,
+            depth,
+            nodes,
+            blocks,
+            entries,
+        }
+    }
 }
 
 /// Answers as the C interface gives them.
 pub fn size_words(answer: Result<Sizes, Refusal>) -> [u32; 9] {
     match answer {
-        Ok(s) => [
-            0,
-            0,
-            s.nodes,
-            s.blocks,
-            s.bound,
-            s.depth,
-            s.form_nodes,
-            s.form_blocks,
-            s.form_variables,
-        ],
+        Ok(s) => [0, 0, s.n, s.b, s.q, s.depth, s.nodes, s.blocks, s.entries],
         Err(r) => [r.reason.number(), r.position, 0, 0, 0, 0, 0, 0, 0],
     }
 }

@@ -5,6 +5,7 @@
 //! all valuations of a few variables at once, as a set of bits.
 
 use std::collections::BTreeSet;
+use std::iter::successors;
 
 /// The variables that are true; all others are false.
 pub type Valuation = BTreeSet<u32>;
@@ -18,9 +19,8 @@ fn root(words: &[u32]) -> u32 {
     (words.len() / 4 - 1) as u32
 }
 
-fn range<T: Copy + Into<u64>>(list: &[u32], first: T, count: T) -> &[u32] {
-    let (first, count): (u64, u64) = (first.into(), count.into());
-    &list[first as usize..(first + count) as usize]
+fn range(list: &[u32], first: u32, count: u32) -> &[u32] {
+    &list[first as usize..][..count as usize]
 }
 
 fn is_exists(kind: u32) -> bool {
@@ -107,29 +107,42 @@ pub fn form_value(
 /// The numbers with a free occurrence: a variable node that no block above it
 /// covers.
 pub fn free_occurrences(words: &[u32], list: &[u32]) -> BTreeSet<u32> {
-    fn walk(words: &[u32], list: &[u32], i: u32, bound: &[u32], free: &mut BTreeSet<u32>) {
-        let [kind, a, b, c] = node(words, i);
-        match kind {
-            1 => {}
-            2 => {
-                if !bound.contains(&a) {
-                    free.insert(a);
-                }
+    // The nearest block above each node: nodes are named by higher ones.
+    let mut above = vec![None; words.len() / 4];
+    for i in (0..=root(words)).rev() {
+        let outer = above[i as usize];
+        match node(words, i) {
+            [3, a, _, _] => above[a as usize] = outer,
+            [4, _, b, c] => {
+                above[b as usize] = outer;
+                above[c as usize] = outer;
             }
-            3 => walk(words, list, a, bound, free),
-            4 => {
-                walk(words, list, b, bound, free);
-                walk(words, list, c, bound, free);
-            }
-            _ => {
-                let inside = [bound, range(list, a, b)].concat();
-                walk(words, list, c, &inside, free);
-            }
+            [5 | 6, _, _, c] => above[c as usize] = Some(i),
+            _ => {}
         }
     }
-    let mut free = BTreeSet::new();
-    walk(words, list, root(words), &[], &mut free);
-    free
+    let is_free = |i: u32, number: u32| {
+        let mut blocks = successors(above[i as usize], |&block| above[block as usize]);
+        blocks.all(|block| {
+            let [_, first, count, _] = node(words, block);
+            !range(list, first, count).contains(&number)
+        })
+    };
+    (0..=root(words))
+        .map(|i| (i, node(words, i)))
+        .filter(|&(i, [kind, number, ..])| kind == 2 && is_free(i, number))
+        .map(|(_, [_, number, ..])| number)
+        .collect()
+}
+
+/// The numbers in the ranges of a table's blocks.
+pub fn variables_in_ranges(words: &[u32], list: &[u32]) -> BTreeSet<u32> {
+    words
+        .chunks_exact(4)
+        .filter(|node| node[0] == 5 || node[0] == 6)
+        .flat_map(|node| range(list, node[1], node[2]))
+        .copied()
+        .collect()
 }
 
 /// The numbers at the variable nodes of a table or form.
@@ -163,8 +176,9 @@ impl Function {
         self.variables.iter().position(|&v| v == variable)
     }
 
-    /// Visits each pair of values that differ at the k-th variable alone.
-    fn pairs(&mut self, k: usize, combine: impl Fn(u64, u64) -> u64) {
+    /// Replaces the values under each two valuations that differ at the k-th
+    /// variable alone by their combination.
+    fn combine(&mut self, k: usize, combination: impl Fn(u64, u64) -> u64) {
         const HIGH: [u64; 6] = [
             0xAAAA_AAAA_AAAA_AAAA,
             0xCCCC_CCCC_CCCC_CCCC,
@@ -176,7 +190,7 @@ impl Function {
         if k < 6 {
             let (shift, high) = (1 << k, HIGH[k]);
             for word in &mut self.bits {
-                let new = combine(*word & !high, (*word & high) >> shift) & !high;
+                let new = combination(*word & !high, (*word & high) >> shift) & !high;
                 *word = new | new << shift;
             }
         } else {
@@ -184,7 +198,7 @@ impl Function {
             for pair in self.bits.chunks_exact_mut(2 * stride) {
                 let (low, high) = pair.split_at_mut(stride);
                 for (low, high) in low.iter_mut().zip(high) {
-                    *low = combine(*low, *high);
+                    *low = combination(*low, *high);
                     *high = *low;
                 }
             }
@@ -196,9 +210,9 @@ impl Function {
         for &variable in variables {
             if let Some(k) = self.index(variable) {
                 if exists {
-                    self.pairs(k, |low, high| low | high);
+                    self.combine(k, |low, high| low | high);
                 } else {
-                    self.pairs(k, |low, high| low & high);
+                    self.combine(k, |low, high| low & high);
                 }
             }
         }
@@ -241,7 +255,9 @@ fn projection(variables: &[u32], k: usize) -> Function {
     function
 }
 
-fn node_functions(words: &[u32], list: &[u32], variables: &[u32]) -> Function {
+/// The truth value of a table as a function of variables, among them all that
+/// stand at its variable nodes.
+pub fn table_function(words: &[u32], list: &[u32], variables: &[u32]) -> Function {
     let mut values: Vec<Option<Function>> = Vec::new();
     for words in words.chunks_exact(4) {
         let &[kind, a, b, c] = words else {
@@ -278,12 +294,6 @@ fn node_functions(words: &[u32], list: &[u32], variables: &[u32]) -> Function {
     values.pop().flatten().expect("a root")
 }
 
-/// The truth value of a table as a function of variables, among them all that
-/// stand at its variable nodes.
-pub fn table_function(words: &[u32], list: &[u32], variables: &[u32]) -> Function {
-    node_functions(words, list, variables)
-}
-
 /// The truth value of a prenex form as a function of variables, among them all
 /// that stand at its variable nodes.
 pub fn form_function(
@@ -292,7 +302,7 @@ pub fn form_function(
     prefix_variables: &[u32],
     variables: &[u32],
 ) -> Function {
-    let mut function = node_functions(nodes, &[], variables);
+    let mut function = table_function(nodes, &[], variables);
     for block in prefix.chunks_exact(3).rev() {
         let &[kind, first, count] = block else {
             unreachable!()

@@ -431,13 +431,7 @@ pub fn damaged(rng: &mut Rng, profile: &Profile, reason: Reason) -> Option<(Tabl
             i
         }
         Reason::ForwardReference => {
-            let users = table.where_kind(|kind| kind >= 3);
-            let i = *users.get(rng.below(users.len().max(1)))?;
-            let field = match table.node(i)[0] {
-                3 => 1,
-                4 => rng.pick(&[2, 3]),
-                _ => 3,
-            };
+            let (i, field) = any_reference(rng, &table)?;
             let (own, end) = (i as u32, table.len() as u32);
             // 0x4000_0000 and its like are low again once multiplied by four.
             let wrong = [
@@ -502,13 +496,7 @@ pub fn damaged(rng: &mut Rng, profile: &Profile, reason: Reason) -> Option<(Tabl
                 table.push([1, 1, 0, 0]);
                 table.len() - 2
             } else {
-                let users = table.where_kind(|kind| kind >= 3);
-                let i = *users.get(rng.below(users.len().max(1)))?;
-                let field = match table.node(i)[0] {
-                    3 => 1,
-                    4 => rng.pick(&[2, 3]),
-                    _ => 3,
-                };
+                let (i, field) = any_reference(rng, &table)?;
                 let before = table.node(i)[field] as usize;
                 let now = rng.below(i);
                 if now == before {
@@ -521,6 +509,18 @@ pub fn damaged(rng: &mut Rng, profile: &Profile, reason: Reason) -> Option<(Tabl
         Reason::BufferTooShort => return None,
     };
     Some((table, reason.at(position)))
+}
+
+/// A node that names another, and the field that does. None if there is none.
+fn any_reference(rng: &mut Rng, table: &Table) -> Option<(usize, usize)> {
+    let users = table.where_kind(|kind| kind >= 3);
+    let i = *users.get(rng.below(users.len().max(1)))?;
+    let field = match table.node(i)[0] {
+        3 => 1,
+        4 => rng.pick(&[2, 3]),
+        _ => 3,
+    };
+    Some((i, field))
 }
 
 /// The first block with a fault in its range.
@@ -576,7 +576,7 @@ fn too_many(rng: &mut Rng) -> (Table, Refusal) {
 pub type Family = fn(usize) -> Table;
 
 /// The families of the benchmark.
-pub const FAMILIES: [(&str, Family); 7] = [
+pub const FAMILIES: [(&str, Family); 8] = [
     ("comparator chain", comparator_chain),
     ("deep nest", deep_nest),
     ("wide row of blocks", wide_row),
@@ -584,6 +584,7 @@ pub const FAMILIES: [(&str, Family); 7] = [
     ("row, one number", one_number_row),
     ("row, leaves first", leaves_first_row),
     ("climb, leaves bound", bound_climb),
+    ("nest, one number", one_number_nest),
 ];
 
 /// Puts nots on the root until the table has `nodes` nodes.
@@ -596,79 +597,77 @@ fn fill_up(mut table: Table, nodes: usize) -> Table {
     table
 }
 
+/// A constant, then steps of `step` nodes while they fit, then nots. `add` is
+/// given the root so far and the step's number from 1 up, and gives the new root.
+fn repeated(
+    nodes: usize,
+    constant: u32,
+    step: usize,
+    add: impl Fn(&mut Table, u32, u32) -> u32,
+) -> Table {
+    let mut table = Table::default();
+    let mut root = table.push([1, constant, 0, 0]);
+    for k in 1..=(nodes - 1) / step {
+        root = add(&mut table, root, k as u32);
+    }
+    fill_up(table, nodes)
+}
+
 /// x < y bit by bit from the lowest: x free, y bound eight bits at a time,
 /// exists and for-all in turn.
 pub fn comparator_chain(nodes: usize) -> Table {
     const STAGE: u32 = 8;
-    let mut table = Table::default();
-    let mut less = table.push([1, 0, 0, 0]);
-    let mut kind = 5;
-    for stage in 0.. {
-        if table.len() + 9 * STAGE as usize + 1 > nodes {
-            break;
-        }
-        let bits = stage * STAGE + 1..=(stage + 1) * STAGE;
-        for bit in bits.clone() {
-            let (x, y) = (2 * bit, 2 * bit + 1);
-            let left = table.variable(x);
-            let left = table.not(left);
-            let right = table.variable(y);
-            let here = table.operator(8, left, right);
-            let left = table.variable(x);
-            let right = table.variable(y);
-            let same = table.operator(9, left, right);
-            let before = table.operator(8, same, less);
-            less = table.operator(14, here, before);
-        }
-        let bound: Vec<u32> = bits.map(|bit| 2 * bit + 1).collect();
-        less = table.block(kind, &bound, less);
-        kind = 11 - kind;
-    }
-    fill_up(table, nodes)
+    repeated(
+        nodes,
+        0,
+        9 * STAGE as usize + 1,
+        |table, mut less, stage| {
+            let bits = (stage - 1) * STAGE + 1..=stage * STAGE;
+            for bit in bits.clone() {
+                let (x, y) = (2 * bit, 2 * bit + 1);
+                let left = table.variable(x);
+                let left = table.not(left);
+                let right = table.variable(y);
+                let here = table.operator(8, left, right);
+                let left = table.variable(x);
+                let right = table.variable(y);
+                let same = table.operator(9, left, right);
+                let before = table.operator(8, same, less);
+                less = table.operator(14, here, before);
+            }
+            let bound: Vec<u32> = bits.map(|bit| 2 * bit + 1).collect();
+            table.block(6 - stage % 2, &bound, less)
+        },
+    )
 }
 
 /// One block in another, each with a variable of its own.
 pub fn deep_nest(nodes: usize) -> Table {
-    let mut table = Table::default();
-    let mut body = table.push([1, 1, 0, 0]);
-    for number in 1.. {
-        if table.len() + 3 > nodes {
-            break;
-        }
+    repeated(nodes, 1, 3, |table, body, number| {
         let variable = table.variable(number);
         let joined = table.operator(if number % 2 == 0 { 9 } else { 6 }, variable, body);
-        body = table.block(5 + number % 2, &[number], joined);
-    }
-    fill_up(table, nodes)
+        table.block(5 + number % 2, &[number], joined)
+    })
 }
 
 /// Blocks side by side, two variables each.
 pub fn wide_row(nodes: usize) -> Table {
-    let mut table = Table::default();
-    let mut row = table.push([1, 1, 0, 0]);
-    for k in 1.. {
-        if table.len() + 5 > nodes {
-            break;
-        }
+    repeated(nodes, 1, 5, |table, row, k| {
         let left = table.variable(2 * k);
         let right = table.variable(2 * k + 1);
         let body = table.operator(9, left, right);
         let block = table.block(5 + k % 2, &[2 * k, 2 * k + 1], body);
-        row = table.operator(8, row, block);
-    }
-    fill_up(table, nodes)
+        table.operator(8, row, block)
+    })
 }
 
 /// Blocks side by side that all bind the same number.
 pub fn one_number_row(nodes: usize) -> Table {
-    let mut table = Table::default();
-    let mut row = table.push([1, 1, 0, 0]);
-    while table.len() + 3 <= nodes {
+    repeated(nodes, 1, 3, |table, row, _| {
         let leaf = table.variable(1);
         let block = table.block(5, &[1], leaf);
-        row = table.operator(8, row, block);
-    }
-    fill_up(table, nodes)
+        table.operator(8, row, block)
+    })
 }
 
 /// As `one_number_row`, with all leaves first, then all blocks, then what
@@ -686,8 +685,10 @@ pub fn leaves_first_row(nodes: usize) -> Table {
     fill_up(table, nodes)
 }
 
-/// Many leaves under a nest of blocks: half of the nodes are blocks.
-fn leaves_under_nest(nodes: usize, leaf: impl Fn(u32) -> u32) -> Table {
+/// Many leaves under a nest of blocks: half of the nodes are blocks. `leaf`
+/// gives the number at each leaf from 0 up, `bound` the one that each block
+/// from 1 up binds.
+fn leaves_under_nest(nodes: usize, leaf: impl Fn(u32) -> u32, bound: impl Fn(u32) -> u32) -> Table {
     let mut table = Table::default();
     let mut body = table.variable(leaf(0));
     for k in 1.. {
@@ -697,24 +698,60 @@ fn leaves_under_nest(nodes: usize, leaf: impl Fn(u32) -> u32) -> Table {
         let variable = table.variable(leaf(k));
         body = table.operator(6, body, variable);
     }
-    for number in 1.. {
+    for k in 1.. {
         if table.len() == nodes {
             break;
         }
-        body = table.block(5 + number % 2, &[number], body);
+        body = table.block(5 + k % 2, &[bound(k)], body);
     }
     table
 }
 
 /// Many free leaves under a deep nest; no block covers their numbers.
 pub fn climb(nodes: usize) -> Table {
-    leaves_under_nest(nodes, |k| nodes as u32 + k)
+    leaves_under_nest(nodes, |k| nodes as u32 + k, |k| k)
 }
 
 /// As `climb`, with every leaf bound by the outermost block.
 pub fn bound_climb(nodes: usize) -> Table {
     let outermost = climb(nodes).blocks().len() as u32;
-    leaves_under_nest(nodes, |_| outermost)
+    leaves_under_nest(nodes, |_| outermost, |k| k)
+}
+
+/// Many free leaves under a deep nest whose blocks all bind the same number,
+/// which leaves the same remainder by 1,024 as the leaves' own.
+pub fn one_number_nest(nodes: usize) -> Table {
+    leaves_under_nest(nodes, |_| 1 + 1024, |_| 1)
+}
+
+/// The largest form's table: a variable, 4,094 blocks in one another that bind
+/// the 4,096 highest numbers, and a not, so that all blocks are inner ones. No
+/// form has more nodes, prefix blocks or variables, or higher names.
+pub fn largest_form() -> Table {
+    let mut table = Table::default();
+    let mut body = table.variable(HIGHEST);
+    let mut next = HIGHEST - LIMIT as u32 + 1;
+    for k in 0..LIMIT as u32 - 2 {
+        // Two of the blocks bind two variables, the others one.
+        let count = if k < 2 { 2 } else { 1 };
+        let bound: Vec<u32> = (next..next + count).collect();
+        body = table.block(5 + k % 2, &bound, body);
+        next += count;
+    }
+    table.not(body);
+    table
+}
+
+/// As many leaves as a table can have, all of them free variables with numbers
+/// of their own, the highest there are.
+pub fn most_free_variables() -> Table {
+    let mut table = Table::default();
+    let mut joined = table.variable(HIGHEST);
+    for k in 1..LIMIT as u32 / 2 {
+        let leaf = table.variable(HIGHEST - k);
+        joined = table.operator(6, joined, leaf);
+    }
+    table
 }
 
 #[cfg(test)]
@@ -730,7 +767,7 @@ mod tests {
             let profile = Profile::random(&mut rng, nodes);
             let table = accepted(&mut rng, &profile);
             let sizes = reference::measure(&table.words, &table.list);
-            assert_eq!(sizes.map(|s| s.nodes as usize), Ok(nodes), "{table:?}");
+            assert_eq!(sizes.map(|s| s.n as usize), Ok(nodes), "{table:?}");
         }
     }
 
@@ -810,10 +847,11 @@ mod tests {
             for (name, family) in FAMILIES {
                 let table = family(nodes);
                 let sizes = reference::measure(&table.words, &table.list);
-                assert_eq!(sizes.map(|s| s.nodes as usize), Ok(nodes), "{name}");
+                assert_eq!(sizes.map(|s| s.n as usize), Ok(nodes), "{name}");
             }
             let sizes = |table: Table| reference::measure(&table.words, &table.list).unwrap();
             assert_eq!(sizes(bound_climb(nodes)), sizes(climb(nodes)));
+            assert_eq!(sizes(one_number_nest(nodes)), sizes(climb(nodes)));
         }
     }
 }

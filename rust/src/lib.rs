@@ -112,20 +112,10 @@ fn refusal(number: u32, position: u32) -> Refusal {
 }
 
 fn sizes(answer: [u32; 9]) -> Result<Sizes, Refusal> {
-    let [number, position, nodes, blocks, bound, depth, form_nodes, form_blocks, form_variables] =
-        answer;
-    if number != 0 {
-        return Err(refusal(number, position));
+    match answer {
+        [0, _, sizes @ ..] => Ok(Sizes::from_words(sizes)),
+        [number, position, ..] => Err(refusal(number, position)),
     }
-    Ok(Sizes {
-        nodes,
-        blocks,
-        bound,
-        depth,
-        form_nodes,
-        form_blocks,
-        form_variables,
-    })
 }
 
 /// The sizes of a table and of its prenex form.
@@ -172,9 +162,9 @@ impl PrenexForm {
     /// Zeroed buffers of exactly the sizes that a table's form needs.
     pub fn with_sizes(sizes: &Sizes) -> PrenexForm {
         PrenexForm {
-            nodes: vec![0; 4 * sizes.form_nodes as usize],
-            prefix: vec![0; 3 * sizes.form_blocks as usize],
-            variables: vec![0; sizes.form_variables as usize],
+            nodes: vec![0; 4 * sizes.nodes as usize],
+            prefix: vec![0; 3 * sizes.blocks as usize],
+            variables: vec![0; sizes.entries as usize],
         }
     }
 }

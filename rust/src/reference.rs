@@ -1,7 +1,8 @@
 //! The three operations in plain Rust, independent of the static library: the
 //! other side of the comparison tests and of the benchmark.
 //!
-//! All passes are linear in nodes, list entries covered and words written.
+//! All passes are linear in nodes, list entries covered, words written and the
+//! highest number.
 
 use crate::answer::{Reason, Refusal, Sizes};
 
@@ -145,23 +146,23 @@ fn check<'a>(words: &'a [u32], list: &[u32]) -> Result<Summary<'a>, Refusal> {
     let [kind, _, count, _] = table[last];
     let root_count = matches!(kind, EXISTS | FOR_ALL).then_some(count);
     let mut sizes = Sizes {
-        nodes: table.len() as u32,
-        blocks,
-        bound: bound as u32,
+        n: table.len() as u32,
+        b: blocks,
+        q: bound as u32,
         depth: depth[last].into(),
-        form_nodes: table.len() as u32 + added,
-        form_blocks: if blocks == 0 {
+        nodes: table.len() as u32 + added,
+        blocks: if blocks == 0 {
             0
         } else {
             u32::from(depth[last]) + 1
         },
-        form_variables: 2 * bound as u32 + blocks,
+        entries: 2 * bound as u32 + blocks,
     };
     if let Some(count) = root_count {
         // A root block goes, needs no definition and opens the prefix.
-        sizes.form_nodes -= 1 + definition_size(count);
-        sizes.form_blocks -= 1;
-        sizes.form_variables -= count + 1;
+        sizes.nodes -= 1 + definition_size(count);
+        sizes.blocks -= 1;
+        sizes.entries -= count + 1;
     }
     Ok(Summary {
         table,
@@ -248,13 +249,13 @@ pub fn lift(
 ) -> Result<Sizes, Refusal> {
     let summary = check(words, list)?;
     let sizes = summary.sizes;
-    let nodes_len = 4 * sizes.form_nodes as usize;
-    let prefix_len = 3 * sizes.form_blocks as usize;
-    let variables_len = sizes.form_variables as usize;
+    let nodes_len = 4 * sizes.nodes as usize;
+    let prefix_len = 3 * sizes.blocks as usize;
+    let variables_len = sizes.entries as usize;
     if nodes.len() < nodes_len || prefix.len() < prefix_len || variables.len() < variables_len {
         return Err(Reason::BufferTooShort.at(0));
     }
-    if sizes.blocks == 0 {
+    if sizes.b == 0 {
         nodes[..words.len()].copy_from_slice(words);
         return Ok(sizes);
     }
@@ -266,7 +267,7 @@ pub fn lift(
     let mut blocks = write_matrix(&summary, list, &mut nodes[..kept]);
     // The root has the highest index, so a root block is the last.
     let root = summary.root_count.and_then(|_| blocks.pop());
-    let levels = by_level(&blocks, sizes.form_blocks as usize - 1);
+    let levels = by_level(&blocks, sizes.blocks as usize - 1);
     let outermost = root.as_ref().map_or(FOR_ALL, |root| root.kind);
 
     write_definitions(
@@ -287,11 +288,11 @@ pub fn lift(
 fn write_matrix(summary: &Summary, list: &[u32], out: &mut [Node]) -> Vec<Block> {
     let table = summary.table;
     let sizes = summary.sizes;
-    let inner_bound = sizes.bound - summary.root_count.unwrap_or(0);
+    let inner_bound = sizes.q - summary.root_count.unwrap_or(0);
     let mut names = summary.highest + 1;
-    let mut copies = names + sizes.bound;
+    let mut copies = names + sizes.q;
     let mut definition = copies + inner_bound;
-    let mut blocks = Vec::with_capacity(sizes.blocks as usize);
+    let mut blocks = Vec::with_capacity(sizes.b as usize);
     let mut block_at = vec![0u16; table.len()];
     for (i, &[kind, _, count, body]) in table.iter().enumerate() {
         if kind == EXISTS || kind == FOR_ALL {
@@ -319,7 +320,7 @@ fn write_matrix(summary: &Summary, list: &[u32], out: &mut [Node]) -> Vec<Block>
         Leave(u32),
     }
     let mut name_of: Vec<u32> = (0..=summary.highest).collect();
-    let mut hidden = Vec::with_capacity(sizes.bound as usize);
+    let mut hidden = Vec::with_capacity(sizes.q as usize);
     let mut level = 0;
     let mut steps = Vec::with_capacity(table.len());
     let mut i = table.len() - 1;

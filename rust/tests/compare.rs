@@ -2,68 +2,56 @@
 
 mod common;
 
-use common::{assert_same, Case, Prefill};
+use common::{assert_same, each, Case, Prefill};
 use std::collections::HashMap;
+use std::ops::RangeInclusive;
 use wakubinryo::generate::{accepted, damaged, mutated};
-use wakubinryo::generate::{Profile, Rng, Table, FAMILIES};
-use wakubinryo::Reason;
-
-/// Runs `one` for tables 0 to `tables`, each with a generator of its own.
-fn each(name: &str, tables: u64, mut one: impl FnMut(&mut Rng, u64)) {
-    for number in 0..tables {
-        let _case = Case(name, number);
-        let mut rng = Rng::new(number.wrapping_mul(0x1234_5678_9ABC_DEF1) ^ name.len() as u64);
-        one(&mut rng, number);
-    }
-}
+use wakubinryo::generate::{Profile, Table, FAMILIES};
+use wakubinryo::{Reason, Sizes};
 
 fn prefill(number: u64) -> [Prefill; 1] {
     [Prefill::ALL[number as usize % 4]]
 }
 
-#[test]
-fn small_tables() {
-    each("small tables", 50_000, |rng, number| {
-        let nodes = rng.between(1, 40);
+/// Compares random accepted tables of so many nodes, with buffers that are up
+/// to `spare` words too long, and gives their sizes.
+fn accepted_tables(
+    name: &str,
+    tables: u64,
+    nodes: RangeInclusive<usize>,
+    spare: usize,
+) -> Vec<Sizes> {
+    let mut all = Vec::new();
+    each(name, tables, |rng, number| {
+        let nodes = rng.between(*nodes.start(), *nodes.end());
         let profile = Profile::random(rng, nodes);
         let table = accepted(rng, &profile);
-        let spare = rng.between(1, 60);
+        let spare = rng.between(1, spare);
         let sizes = assert_same(&table, &prefill(number), spare);
-        assert!(sizes.is_ok());
+        all.push(sizes.expect("accepted"));
     });
+    all
+}
+
+#[test]
+fn small_tables() {
+    accepted_tables("small tables", 50_000, 1..=40, 60);
 }
 
 #[test]
 fn medium_tables() {
-    each("medium tables", 4_000, |rng, number| {
-        let nodes = rng.between(40, 700);
-        let profile = Profile::random(rng, nodes);
-        let table = accepted(rng, &profile);
-        let spare = rng.between(1, 900);
-        let sizes = assert_same(&table, &prefill(number), spare);
-        assert!(sizes.is_ok());
-    });
+    accepted_tables("medium tables", 4_000, 40..=700, 900);
 }
 
 #[test]
 fn large_tables() {
-    let mut deepest = 0;
-    let mut most_bound = 0;
-    each("large tables", 600, |rng, number| {
-        let nodes = match number % 4 {
-            0 => 4096,
-            1 => rng.between(4000, 4096),
-            _ => rng.between(700, 4096),
-        };
-        let profile = Profile::random(rng, nodes);
-        let table = accepted(rng, &profile);
-        let spare = rng.between(1, 5000);
-        let sizes = assert_same(&table, &prefill(number), spare).expect("accepted");
-        deepest = deepest.max(sizes.depth);
-        most_bound = most_bound.max(sizes.bound);
-    });
-    assert!(deepest > 2000, "depth {deepest} at most");
-    assert!(most_bound == 4096, "{most_bound} bound variables at most");
+    let mut sizes = accepted_tables("large tables", 300, 700..=4096, 5000);
+    sizes.extend(accepted_tables("largest tables", 150, 4000..=4096, 5000));
+    sizes.extend(accepted_tables("full tables", 150, 4096..=4096, 5000));
+    let deepest = sizes.iter().map(|s| s.depth).max();
+    let most_bound = sizes.iter().map(|s| s.q).max();
+    assert!(deepest > Some(2000), "depth {deepest:?} at most");
+    assert_eq!(most_bound, Some(4096));
 }
 
 #[test]
@@ -72,7 +60,7 @@ fn families() {
         for nodes in [128, 1000, 1024, 2048, 4095, 4096] {
             let _case = Case(name, nodes as u64);
             let sizes = assert_same(&family(nodes), &Prefill::ALL, 11);
-            assert_eq!(sizes.map(|s| s.nodes as usize), Ok(nodes));
+            assert_eq!(sizes.map(|s| s.n as usize), Ok(nodes));
         }
     }
 }

@@ -2,35 +2,16 @@
 
 mod common;
 
-use common::{assert_lift, assert_operations, library_measure, reference_form};
-use common::{reference_free_variables, Prefill};
+use common::{assert_lift, assert_operations, assert_refused, library_measure};
+use common::{reference_form, reference_free_variables, Prefill};
+use common::{LIBRARY_LIFT, NOTHING, TOO_SHORT};
 use wakubinryo::brute::{self, Valuation};
 use wakubinryo::generate::Table;
-use wakubinryo::{PrenexForm, Reason, Refusal, Sizes};
-
-fn refused(reason: Reason, position: u32) -> Result<Sizes, Refusal> {
-    Err(Refusal { reason, position })
-}
-
-/// Holds library and reference to a refusal.
-fn assert_refused(table: &Table, reason: Reason, position: u32) {
-    let answer = refused(reason, position);
-    assert_eq!(reference_form(table), (answer, PrenexForm::default()));
-    assert_operations(table, answer, &PrenexForm::default(), &[], &Prefill::ALL, 7);
-}
+use wakubinryo::{PrenexForm, Reason, Sizes};
 
 /// Holds library and reference to a form.
 fn assert_form(table: &Table, sizes: [u32; 7], form: &PrenexForm, names: &[u32]) {
-    let [nodes, blocks, bound, depth, form_nodes, form_blocks, form_variables] = sizes;
-    let sizes = Ok(Sizes {
-        nodes,
-        blocks,
-        bound,
-        depth,
-        form_nodes,
-        form_blocks,
-        form_variables,
-    });
+    let sizes = Ok(Sizes::from_words(sizes));
     assert_eq!(reference_form(table), (sizes, form.clone()));
     assert_eq!(reference_free_variables(table).1, names);
     assert_operations(table, sizes, form, names, &Prefill::ALL, 7);
@@ -174,19 +155,16 @@ fn exists_below_an_operator() {
 #[test]
 fn room_of_59_words_and_of_60() {
     let (table, expected) = exists_below_xor();
-    let too_short = [9, 0, 0, 0, 0, 0, 0, 0, 0];
-    let done = [0, 0, 6, 1, 1, 1, 15, 2, 3];
+    let done = Ok(Sizes::from_words([6, 1, 1, 1, 15, 2, 3]));
+    let assert_room = |words, prefill, answer, form| {
+        let lengths = [words, 100, 100];
+        assert_lift(LIBRARY_LIFT, &table, lengths, prefill, answer, form);
+    };
     for prefill in Prefill::ALL {
-        assert_lift(
-            &table,
-            [59, 100, 100],
-            prefill,
-            too_short,
-            &PrenexForm::default(),
-        );
-        assert_lift(&table, [60, 100, 100], prefill, done, &expected);
+        assert_room(59, prefill, Err(TOO_SHORT), &NOTHING);
+        assert_room(60, prefill, done, &expected);
     }
-    assert_eq!(library_measure(&table), done);
+    assert_eq!(library_measure(&table), [0, 0, 6, 1, 1, 1, 15, 2, 3]);
 }
 
 #[test]
@@ -276,19 +254,4 @@ fn ranges_at_the_edges_of_32_bits() {
         let table = Table::new(&[[2, 1, 0, 0], [5, first, count, 0]], &[1, 2]);
         assert_refused(&table, Reason::RangePastEnd, 1);
     }
-}
-
-/// The largest prefix, and names as high as they get.
-#[test]
-fn names_at_the_limit() {
-    let list: Vec<u32> = (61_440..=65_535).collect();
-    let nodes = [[2, 65_535, 0, 0], [6, 0, 4096, 0], [3, 1, 0, 0]];
-    let table = Table::new(&nodes, &list);
-    let (sizes, _) = reference_form(&table);
-    let sizes = sizes.expect("accepted");
-    assert_eq!(sizes.form_nodes, 3 + 4 * 4096 + 5);
-    assert_eq!(sizes.form_variables, 2 * 4096 + 1);
-    let (_, expected) = reference_form(&table);
-    assert_eq!(expected.variables.iter().max(), Some(&(65_535 + 8192 + 1)));
-    assert_operations(&table, Ok(sizes), &expected, &[], &Prefill::ALL, 3);
 }

@@ -2,19 +2,9 @@
 
 mod common;
 
-use common::{assert_same, Prefill};
+use common::{assert_refused, assert_same, Prefill};
 use wakubinryo::generate::Table;
-use wakubinryo::Reason::{self, *};
-
-fn assert_refused(table: &Table, reason: Reason, position: usize) {
-    let given = assert_same(table, &Prefill::ALL, 9);
-    assert_eq!(
-        given,
-        Err(reason.at(position)),
-        "{:?}",
-        table.words.get(..40)
-    );
-}
+use wakubinryo::Reason::*;
 
 fn numbers(count: u32) -> Vec<u32> {
     (1..=count).collect()
@@ -131,7 +121,7 @@ fn sum_of_counts_at_the_limit() {
         &[1; 4095],
     ] {
         let bound: u32 = counts.iter().sum();
-        assert_eq!(sizes(counts).map(|s| s.bound), Ok(bound), "{counts:?}");
+        assert_eq!(sizes(counts).map(|s| s.q), Ok(bound), "{counts:?}");
     }
     for (counts, position) in [
         (&[4096, 1][..], 2),

@@ -2,11 +2,11 @@
 
 mod common;
 
-use common::Case;
-use std::collections::HashSet;
+use common::{each, Case};
+use std::collections::BTreeSet;
 use wakubinryo::brute;
-use wakubinryo::generate::{accepted, Order, Profile, Rng, Table, FAMILIES};
-use wakubinryo::{free_variables, measure, prenex_form, PrenexForm, Sizes};
+use wakubinryo::generate::{accepted, largest_form, Profile, Table, FAMILIES};
+use wakubinryo::{free_variables, measure, prenex_form, PrenexForm};
 
 /// The number of variables that brute force is asked to go through.
 const MOST: usize = 16;
@@ -46,31 +46,22 @@ fn assert_same_truth(table: &Table) -> bool {
 /// Size bounds and shape of the form that the library writes.
 fn assert_well_formed(table: &Table) {
     let sizes = measure(&table.words, &table.list).expect("accepted");
-    let Sizes {
-        nodes,
-        blocks,
-        bound,
-        depth,
-        form_nodes,
-        form_blocks,
-        form_variables,
-    } = sizes;
-    assert!(form_nodes <= nodes + 5 * blocks + 4 * bound);
-    assert!(form_variables <= 2 * bound + blocks);
-    assert!(form_blocks <= depth + 1);
-    assert_eq!(form_blocks == 0, blocks == 0);
+    assert!(sizes.nodes <= sizes.n + 5 * sizes.b + 4 * sizes.q);
+    assert!(sizes.entries <= 2 * sizes.q + sizes.b);
+    assert!(sizes.blocks <= sizes.depth + 1);
+    assert_eq!(sizes.blocks == 0, sizes.b == 0);
 
     let PrenexForm {
         nodes,
         prefix,
         variables,
     } = prenex_form(&table.words, &table.list).expect("accepted");
-    assert_eq!(nodes.len(), 4 * form_nodes as usize);
-    assert_eq!(prefix.len(), 3 * form_blocks as usize);
-    assert_eq!(variables.len(), form_variables as usize);
+    assert_eq!(nodes.len(), 4 * sizes.nodes as usize);
+    assert_eq!(prefix.len(), 3 * sizes.blocks as usize);
+    assert_eq!(variables.len(), sizes.entries as usize);
 
     // No quantifiers in the matrix, and it is a tree.
-    let mut uses = vec![0; form_nodes as usize];
+    let mut uses = vec![0; sizes.nodes as usize];
     for (i, node) in nodes.chunks_exact(4).enumerate() {
         let operands = match node[0] {
             1 | 2 => &[],
@@ -95,22 +86,24 @@ fn assert_well_formed(table: &Table) {
         assert_eq!(block[1], end);
         end += block[2];
     }
-    assert_eq!(end, form_variables);
+    assert_eq!(end, sizes.entries);
 
-    // Prefix variables are distinct and new in the table.
-    let distinct: HashSet<u32> = variables.iter().copied().collect();
-    assert_eq!(distinct.len(), variables.len());
-    assert!(brute::variables_at_nodes(&table.words).is_disjoint(&distinct.into_iter().collect()));
+    // Prefix variables are distinct, and neither at a variable node nor in a
+    // range of the table.
+    let bound: BTreeSet<u32> = variables.iter().copied().collect();
+    assert_eq!(bound.len(), variables.len());
+    assert!(bound.is_disjoint(&brute::variables_at_nodes(&table.words)));
+    assert!(bound.is_disjoint(&brute::variables_in_ranges(&table.words, &table.list)));
+
+    // The form's other variables are those with a free occurrence in the table.
+    let free = &brute::variables_at_nodes(&nodes) - &bound;
+    assert_eq!(free, brute::free_occurrences(&table.words, &table.list));
 }
 
 /// The free variables as the definition says.
 fn assert_free_variables(table: &Table) {
-    let mut expected = brute::variables_at_nodes(&table.words);
-    for node in table.words.chunks_exact(4).filter(|node| node[0] >= 5) {
-        for entry in &table.list[node[1] as usize..(node[1] + node[2]) as usize] {
-            expected.remove(entry);
-        }
-    }
+    let expected = &brute::variables_at_nodes(&table.words)
+        - &brute::variables_in_ranges(&table.words, &table.list);
     let mut names = vec![0; 4096];
     let written = free_variables(&table.words, &table.list, &mut names).expect("accepted");
     assert!(names[..written as usize].iter().eq(&expected));
@@ -120,19 +113,17 @@ fn assert_free_variables(table: &Table) {
 fn truth_is_kept() {
     let mut compared = 0;
     let mut with_blocks = 0;
-    for number in 0..60_000 {
-        let _case = Case("tiny tables", number);
-        let mut rng = Rng::new(number);
-        let profile = Profile::tiny(&mut rng);
-        let table = accepted(&mut rng, &profile);
+    each("tiny tables", 60_000, |rng, _| {
+        let profile = Profile::tiny(rng);
+        let table = accepted(rng, &profile);
         assert_well_formed(&table);
         assert_free_variables(&table);
         if assert_same_truth(&table) {
             compared += 1;
             let sizes = measure(&table.words, &table.list).expect("accepted");
-            with_blocks += u32::from(sizes.blocks > 1);
+            with_blocks += u32::from(sizes.b > 1);
         }
-    }
+    });
     assert!(compared > 45_000, "only {compared} compared");
     assert!(
         with_blocks > 15_000,
@@ -175,22 +166,24 @@ fn truth_is_kept_below_every_operator() {
 /// The direct evaluators agree with the functions used above.
 #[test]
 fn both_evaluators_agree() {
-    for number in 0..3_000 {
-        let _case = Case("tables for both evaluators", number);
-        let mut rng = Rng::new(!number);
+    let mut compared = 0;
+    let mut with_blocks = 0;
+    each("tables for both evaluators", 3_000, |rng, _| {
         let profile = Profile {
             nodes: rng.between(1, 9),
-            ..Profile::tiny(&mut rng)
+            ..Profile::tiny(rng)
         };
-        let table = accepted(&mut rng, &profile);
+        let table = accepted(rng, &profile);
         let form = prenex_form(&table.words, &table.list).expect("accepted");
         let variables: Vec<u32> = brute::variables_at_nodes(&table.words)
             .into_iter()
             .collect();
         let of_form: Vec<u32> = brute::variables_at_nodes(&form.nodes).into_iter().collect();
         if form.variables.len() > 8 {
-            continue;
+            return;
         }
+        compared += 1;
+        with_blocks += u32::from(!form.prefix.is_empty());
         let table_truth = brute::table_function(&table.words, &table.list, &variables);
         let form_truth = brute::form_function(&form.nodes, &form.prefix, &form.variables, &of_form);
         for mut valuation in brute::valuations(&variables) {
@@ -201,42 +194,24 @@ fn both_evaluators_agree() {
             assert_eq!(of_form, form_truth.value(&valuation));
             assert_eq!(of_table, of_form);
         }
-    }
+    });
+    assert!(compared > 2_500, "only {compared} compared");
+    assert!(with_blocks > 1_500, "only {with_blocks} with blocks");
 }
 
 #[test]
 fn large_forms_are_well_formed() {
-    for number in 0..400 {
-        let _case = Case("large forms", number);
-        let mut rng = Rng::new(number ^ 0xABCD);
+    each("large forms", 400, |rng, _| {
         let nodes = rng.between(100, 4096);
-        let profile = Profile::random(&mut rng, nodes);
-        let table = accepted(&mut rng, &profile);
+        let profile = Profile::random(rng, nodes);
+        let table = accepted(rng, &profile);
         assert_well_formed(&table);
         assert_free_variables(&table);
-    }
+    });
     for (name, family) in FAMILIES {
         let _case = Case(name, 4096);
         assert_well_formed(&family(4096));
         assert_free_variables(&family(4096));
     }
-}
-
-/// A table of the largest form: every node but the leaf an inner block or the
-/// root, all variables bound.
-#[test]
-fn the_largest_form_is_well_formed() {
-    let mut rng = Rng::new(5);
-    let profile = Profile {
-        nodes: 4096,
-        numbers: (1..=4096).collect(),
-        order: Order::Newest,
-        weights: [0, 0, 0, 1],
-        most_count: 2,
-        most_bound: 4096,
-    };
-    let table = accepted(&mut rng, &profile);
-    let sizes = measure(&table.words, &table.list).expect("accepted");
-    assert!(sizes.form_nodes > 30_000, "{sizes:?}");
-    assert_well_formed(&table);
+    assert_well_formed(&largest_form());
 }

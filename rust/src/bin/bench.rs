@@ -115,11 +115,9 @@ fn main() {
                 Some([l, p]) => format!("{:>11.2} {:>10.2}", library / l, plain / p),
                 None => String::new(),
             };
-            let Sizes {
-                nodes, form_nodes, ..
-            } = bench.sizes;
+            let Sizes { n, nodes, .. } = bench.sizes;
             let line = format!(
-                "{name:<20} {nodes:>5} {form_nodes:>8} {library:>7.1} {plain:>10.1} {:>7.2} {growth}",
+                "{name:<20} {n:>5} {nodes:>8} {library:>7.1} {plain:>10.1} {:>7.2} {growth}",
                 library / plain
             );
             println!("{}", line.trim_end());

@@ -1,10 +1,12 @@
-//! Comparing the library with the reference on one table.
+//! Comparing the library with the reference, table by table.
 
 #![allow(dead_code)]
 
 use wakubinryo::answer::{count_words, size_words};
-use wakubinryo::generate::Table;
-use wakubinryo::{raw, reference, PrenexForm, Refusal, Sizes};
+use wakubinryo::generate::{Rng, Table};
+use wakubinryo::reference::LIMIT;
+use wakubinryo::{free_variables, lift, measure, prenex_form, raw, reference};
+use wakubinryo::{PrenexForm, Reason, Refusal, Sizes};
 
 /// Words that buffers hold before a call.
 #[derive(Clone, Copy, Debug)]
@@ -23,12 +25,16 @@ impl Prefill {
         Prefill::Counting,
     ];
 
-    fn word(self, at: usize) -> u32 {
+    /// This many words. The buffers of a call, numbered from 0, hold different
+    /// ones where the words are not all zeros or ones.
+    fn words(self, buffer: u32, len: usize) -> Vec<u32> {
         match self {
-            Prefill::Zeros => 0,
-            Prefill::Ones => u32::MAX,
-            Prefill::Pattern => 0xDEAD_BEEF,
-            Prefill::Counting => (at as u32).wrapping_mul(2_654_435_761),
+            Prefill::Zeros => vec![0; len],
+            Prefill::Ones => vec![u32::MAX; len],
+            Prefill::Pattern => vec![0xDEAD_BEEF + buffer; len],
+            Prefill::Counting => (0..len as u32)
+                .map(|at| (buffer << 24 | at).wrapping_mul(2_654_435_761))
+                .collect(),
         }
     }
 }
@@ -36,44 +42,43 @@ impl Prefill {
 const GUARD: usize = 8;
 
 /// A buffer to lend, with words on both sides that no call may touch.
-pub struct Lent {
+struct Lent {
     words: Vec<u32>,
-    prefill: Prefill,
+    before: Vec<u32>,
 }
 
 impl Lent {
-    pub fn new(len: usize, prefill: Prefill) -> Lent {
-        let words = (0..len + 2 * GUARD).map(|at| prefill.word(at)).collect();
-        Lent { words, prefill }
+    fn new(len: usize, prefill: Prefill, buffer: u32) -> Lent {
+        let words = prefill.words(buffer, len + 2 * GUARD);
+        let before = words.clone();
+        Lent { words, before }
     }
 
-    pub fn lend(&mut self) -> &mut [u32] {
+    fn lend(&mut self) -> &mut [u32] {
         let end = self.words.len() - GUARD;
         &mut self.words[GUARD..end]
     }
 
     /// Asserts that these words were written from the start on and that
     /// nothing else has changed.
-    pub fn assert_holds(&self, written: &[u32], what: &str) {
-        let end = GUARD + written.len();
-        assert!(end + GUARD <= self.words.len(), "{what}: more than lent");
-        if self.words[GUARD..end] != *written {
-            let at = (0..written.len()).find(|&k| self.words[GUARD + k] != written[k]);
-            let at = at.expect("they differ");
+    fn assert_holds(self, written: &[u32], what: &str) {
+        let Lent {
+            words,
+            before: mut expected,
+        } = self;
+        let lent = expected.len() - 2 * GUARD;
+        assert!(written.len() <= lent, "{what}: more than lent");
+        expected[GUARD..][..written.len()].copy_from_slice(written);
+        if words != expected {
+            let differs = |&at: &usize| words[at] != expected[at];
+            let at = (0..words.len()).find(differs).expect("they differ");
             panic!(
-                "{what}: word {at} is {}, not {}",
-                self.words[GUARD + at],
-                written[at]
+                "{what}: word {} is {}, not {}; {} of {lent} are written",
+                at as i64 - GUARD as i64,
+                words[at],
+                expected[at],
+                written.len()
             );
-        }
-        for (at, &word) in self.words.iter().enumerate() {
-            if !(GUARD..end).contains(&at) && word != self.prefill.word(at) {
-                panic!(
-                    "{what}: changed word {} after {}",
-                    at as i64 - GUARD as i64,
-                    written.len()
-                );
-            }
         }
     }
 }
@@ -86,6 +91,32 @@ pub fn library_measure(table: &Table) -> [u32; 9] {
     raw::measure(&table.words, &table.list, &mut answer);
     answer
 }
+
+/// A lift with its answer as words: the library's own, or the wrapper's.
+pub type Lift = fn(&Table, &mut [u32], &mut [u32], &mut [u32]) -> [u32; 9];
+
+pub const LIBRARY_LIFT: Lift = |table, nodes, prefix, variables| {
+    let mut answer = [UNANSWERED; 9];
+    let Table { words, list } = table;
+    raw::lift(words, list, nodes, prefix, variables, &mut answer);
+    answer
+};
+
+const WRAPPED_LIFT: Lift = |table, nodes, prefix, variables| {
+    size_words(lift(&table.words, &table.list, nodes, prefix, variables))
+};
+
+/// A call for the free variables with its answer as words.
+pub type FreeVariables = fn(&Table, &mut [u32]) -> [u32; 3];
+
+pub const LIBRARY_FREE_VARIABLES: FreeVariables = |table, names| {
+    let mut answer = [UNANSWERED; 3];
+    raw::free_variables(&table.words, &table.list, names, &mut answer);
+    answer
+};
+
+const WRAPPED_FREE_VARIABLES: FreeVariables =
+    |table, names| count_words(free_variables(&table.words, &table.list, names));
 
 /// The reference's answer, and what it writes into exact buffers.
 pub fn reference_form(table: &Table) -> (Result<Sizes, Refusal>, PrenexForm) {
@@ -115,46 +146,64 @@ pub fn reference_free_variables(table: &Table) -> (Result<u32, Refusal>, Vec<u32
 /// Lifts into buffers of these lengths and holds answer and buffers to what
 /// is expected.
 pub fn assert_lift(
+    lift: Lift,
     table: &Table,
     lengths: [usize; 3],
     prefill: Prefill,
-    answer: [u32; 9],
+    expected: Result<Sizes, Refusal>,
     form: &PrenexForm,
 ) {
-    let [mut nodes, mut prefix, mut variables] = lengths.map(|len| Lent::new(len, prefill));
-    let mut given = [UNANSWERED; 9];
-    raw::lift(
-        &table.words,
-        &table.list,
-        nodes.lend(),
-        prefix.lend(),
-        variables.lend(),
-        &mut given,
-    );
+    let mut nodes = Lent::new(lengths[0], prefill, 0);
+    let mut prefix = Lent::new(lengths[1], prefill, 1);
+    let mut variables = Lent::new(lengths[2], prefill, 2);
+    let given = lift(table, nodes.lend(), prefix.lend(), variables.lend());
+    let answer = size_words(expected);
     assert_eq!(given, answer, "answer of lift, buffers {lengths:?}");
     nodes.assert_holds(&form.nodes, "nodes");
     prefix.assert_holds(&form.prefix, "prefix");
     variables.assert_holds(&form.variables, "variables");
 }
 
+/// Lists the free variables into a buffer of this length and holds answer and
+/// buffer to what is expected.
 pub fn assert_free_variables(
+    free_variables: FreeVariables,
     table: &Table,
     len: usize,
     prefill: Prefill,
-    answer: [u32; 3],
+    expected: Result<u32, Refusal>,
     names: &[u32],
 ) {
-    let mut lent = Lent::new(len, prefill);
-    let mut given = [UNANSWERED; 3];
-    raw::free_variables(&table.words, &table.list, lent.lend(), &mut given);
+    let mut lent = Lent::new(len, prefill, 0);
+    let given = free_variables(table, lent.lend());
+    let answer = count_words(expected);
     assert_eq!(given, answer, "answer of free_variables, {len} words");
     lent.assert_holds(names, "names");
 }
 
-const TOO_SHORT: [u32; 9] = [9, 0, 0, 0, 0, 0, 0, 0, 0];
+/// What a call with a buffer that is too short answers, and what it writes.
+pub const TOO_SHORT: Refusal = Refusal {
+    reason: Reason::BufferTooShort,
+    position: 0,
+};
+pub static NOTHING: PrenexForm = PrenexForm {
+    nodes: Vec::new(),
+    prefix: Vec::new(),
+    variables: Vec::new(),
+};
+
+/// Words enough for any buffer, if the table were accepted.
+fn ample(Table { words, list }: &Table) -> usize {
+    let is_block = |node: &&[u32]| node[0] == 5 || node[0] == 6;
+    let blocks = words.chunks_exact(4).filter(is_block);
+    let counts = blocks.map(|node| list.len().min(node[2] as usize));
+    // Four words for each of n + 5 b + 4 q nodes.
+    6 * words.len() + 16 * counts.sum::<usize>().min(LIMIT) + 16
+}
 
 /// Holds the library's three operations to given results, with buffers that
-/// are exact, each too short in turn, and long. `spare` varies the lengths.
+/// are exact, long and, for an accepted table, each too short in turn. `spare`
+/// varies the lengths.
 pub fn assert_operations(
     table: &Table,
     sizes: Result<Sizes, Refusal>,
@@ -163,34 +212,73 @@ pub fn assert_operations(
     prefills: &[Prefill],
     spare: usize,
 ) {
-    let answer = size_words(sizes);
-    assert_eq!(library_measure(table), answer, "answer of measure");
-    let count = count_words(sizes.map(|_| names.len() as u32));
+    assert_eq!(library_measure(table), size_words(sizes), "measure");
+    assert_wrappers(table, sizes, form, names, prefills[0]);
+    let lift = LIBRARY_LIFT;
+    let free_variables = LIBRARY_FREE_VARIABLES;
+    let count = sizes.map(|_| names.len() as u32);
     let exact = [form.nodes.len(), form.prefix.len(), form.variables.len()];
     let long = exact.map(|len| len + spare);
     for &prefill in prefills {
-        assert_lift(table, exact, prefill, answer, form);
-        assert_lift(table, long, prefill, answer, form);
-        assert_free_variables(table, names.len(), prefill, count, names);
-        assert_free_variables(table, names.len() + spare, prefill, count, names);
+        for lengths in [exact, long] {
+            assert_lift(lift, table, lengths, prefill, sizes, form);
+        }
+        for len in [names.len(), names.len() + spare] {
+            assert_free_variables(free_variables, table, len, prefill, count, names);
+        }
         if sizes.is_err() {
-            assert_lift(table, [0; 3], prefill, answer, form);
+            let ample = ample(table);
+            assert_lift(lift, table, [ample; 3], prefill, sizes, form);
+            assert_free_variables(free_variables, table, ample, prefill, count, names);
             continue;
         }
-        let nothing = PrenexForm::default();
         for k in (0..3).filter(|&k| exact[k] > 0) {
             for others in [exact, long] {
                 for len in [exact[k] - 1, exact[k] - 1 - spare % exact[k]] {
                     let mut short = others;
                     short[k] = len;
-                    assert_lift(table, short, prefill, TOO_SHORT, &nothing);
+                    assert_lift(lift, table, short, prefill, Err(TOO_SHORT), &NOTHING);
                 }
             }
         }
         if !names.is_empty() {
             for len in [names.len() - 1, names.len() - 1 - spare % names.len()] {
-                assert_free_variables(table, len, prefill, [9, 0, 0], &[]);
+                assert_free_variables(free_variables, table, len, prefill, Err(TOO_SHORT), &[]);
             }
+        }
+    }
+}
+
+/// Holds the wrapper's operations to given results, with buffers that are
+/// exact and, for an accepted table, too short.
+fn assert_wrappers(
+    table: &Table,
+    sizes: Result<Sizes, Refusal>,
+    form: &PrenexForm,
+    names: &[u32],
+    prefill: Prefill,
+) {
+    let lift = WRAPPED_LIFT;
+    let free_variables = WRAPPED_FREE_VARIABLES;
+    let Table { words, list } = table;
+    assert_eq!(measure(words, list), sizes, "wrapped measure");
+    let written = prenex_form(words, list);
+    assert_eq!(
+        written.as_ref(),
+        sizes.as_ref().map(|_| form),
+        "prenex_form"
+    );
+
+    let count = sizes.map(|_| names.len() as u32);
+    let exact = [form.nodes.len(), form.prefix.len(), form.variables.len()];
+    assert_lift(lift, table, exact, prefill, sizes, form);
+    assert_free_variables(free_variables, table, names.len(), prefill, count, names);
+    if sizes.is_ok() {
+        let short = [exact[0] - 1, exact[1], exact[2]];
+        assert_lift(lift, table, short, prefill, Err(TOO_SHORT), &NOTHING);
+        if !names.is_empty() {
+            let len = names.len() - 1;
+            assert_free_variables(free_variables, table, len, prefill, Err(TOO_SHORT), &[]);
         }
     }
 }
@@ -205,7 +293,14 @@ pub fn assert_same(table: &Table, prefills: &[Prefill], spare: usize) -> Result<
     sizes
 }
 
-/// Runs a comparison and prints the table's number and seed if it fails.
+/// Holds library and reference to a refusal.
+pub fn assert_refused(table: &Table, reason: Reason, position: usize) {
+    let given = assert_same(table, &Prefill::ALL, 9);
+    let start = table.words.get(..40);
+    assert_eq!(given, Err(reason.at(position)), "{start:?}");
+}
+
+/// Prints a name and a number if a test panics while it is there.
 pub struct Case<'a>(pub &'a str, pub u64);
 
 impl Drop for Case<'_> {
@@ -213,5 +308,18 @@ impl Drop for Case<'_> {
         if std::thread::panicking() {
             eprintln!("in {} number {}", self.0, self.1);
         }
+    }
+}
+
+/// Runs `one` for `tables` numbers from 0 up, each with a generator of its own
+/// that the name and the number fix.
+pub fn each(name: &str, tables: u64, mut one: impl FnMut(&mut Rng, u64)) {
+    let of_name = name.bytes().fold(0, |seed: u64, byte| {
+        (seed ^ u64::from(byte)).wrapping_mul(0x100_0000_01B3)
+    });
+    for number in 0..tables {
+        let _case = Case(name, number);
+        let mut rng = Rng::new(number.wrapping_mul(0x1234_5678_9ABC_DEF1) ^ of_name);
+        one(&mut rng, number);
     }
 }

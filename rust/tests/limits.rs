@@ -1,0 +1,80 @@
+//! What is largest: the form, a block, the free variables, the stack of a call.
+
+mod common;
+
+use common::{assert_free_variables, assert_same, reference_form, reference_free_variables};
+use common::{library_measure, Prefill, LIBRARY_FREE_VARIABLES, LIBRARY_LIFT, TOO_SHORT};
+use std::thread;
+use wakubinryo::answer::{count_words, size_words};
+use wakubinryo::generate::{largest_form, most_free_variables, Table};
+use wakubinryo::{PrenexForm, Sizes};
+
+#[test]
+fn the_largest_form() {
+    let table = largest_form();
+    let sizes = assert_same(&table, &Prefill::ALL, 3);
+    // 4,096 + 5 * 4,094 + 4 * 4,096 nodes, 4,094 + 1 blocks, 2 * 4,096 + 4,094
+    // variables.
+    let expected = [4096, 4094, 4096, 4094, 40_950, 4095, 12_286];
+    assert_eq!(sizes, Ok(Sizes::from_words(expected)));
+    let (_, form) = reference_form(&table);
+    // Above 65,535 come names, copies and definition variables. The variable
+    // node has the last name, the outermost block's.
+    assert_eq!(form.variables.iter().max(), Some(&77_821));
+    assert_eq!(form.nodes[..4], [2, 65_535 + 4096, 0, 0]);
+}
+
+#[test]
+fn the_largest_block() {
+    let list: Vec<u32> = (61_440..=65_535).collect();
+    let nodes = [[2, 65_535, 0, 0], [6, 0, 4096, 0], [3, 1, 0, 0]];
+    let table = Table::new(&nodes, &list);
+    let sizes = assert_same(&table, &Prefill::ALL, 3);
+    let expected = [3, 1, 4096, 1, 3 + 4 * 4096 + 5, 2, 2 * 4096 + 1];
+    assert_eq!(sizes, Ok(Sizes::from_words(expected)));
+    let (_, form) = reference_form(&table);
+    assert_eq!(form.variables.last(), Some(&(65_535 + 2 * 4096 + 1)));
+}
+
+#[test]
+fn the_most_free_variables() {
+    let table = most_free_variables();
+    assert_eq!(table.len(), 4095);
+    let names: Vec<u32> = (65_535 - 2047..=65_535).collect();
+    let call = LIBRARY_FREE_VARIABLES;
+    for prefill in Prefill::ALL {
+        assert_free_variables(call, &table, 2048, prefill, Ok(2048), &names);
+        assert_free_variables(call, &table, 2047, prefill, Err(TOO_SHORT), &[]);
+    }
+    assert!(assert_same(&table, &Prefill::ALL, 3).is_ok());
+}
+
+/// The stack that include/wakubinryo.h says is enough for a call.
+const STACK: usize = 256 * 1024;
+
+/// The three calls in a thread with no more stack than that.
+#[test]
+fn stack_of_the_calls() {
+    for table in [largest_form(), most_free_variables()] {
+        let (sizes, expected) = reference_form(&table);
+        let (count, expected_names) = reference_free_variables(&table);
+        let mut form = PrenexForm::with_sizes(&sizes.expect("accepted"));
+        let mut names = vec![0; expected_names.len()];
+        let calls = move || {
+            let measured = library_measure(&table);
+            let PrenexForm {
+                nodes,
+                prefix,
+                variables,
+            } = &mut form;
+            let lifted = LIBRARY_LIFT(&table, nodes, prefix, variables);
+            let listed = LIBRARY_FREE_VARIABLES(&table, &mut names);
+            (measured, lifted, form, listed, names)
+        };
+        let thread = thread::Builder::new().stack_size(STACK).spawn(calls);
+        let given = thread.expect("a thread").join().expect("no panic");
+        let sizes = size_words(sizes);
+        let counts = count_words(count);
+        assert!(given == (sizes, sizes, expected, counts, expected_names));
+    }
+}
