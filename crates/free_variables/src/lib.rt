@@ -41,9 +41,7 @@ pub struct Listed {
 // Writes a table's free variables, ascending and once each, to the start of `names`. Nothing is written unless there is
 // room for all of them.
 //
-// The contract rules out a lister that writes each name as it comes to it and refuses when the buffer is full: then the
-// buffer has changed; and one that tests each variable node for a block above it, and so lists a number that stands free
-// in one part of the table and is covered by a block in another.
+// The contract rules out a lister whose buffer is written on refusal, and one by which the highest number is left out.
 pub fn free_variables(words: &[u32], list: &[u32], names: &mut [u32]) -> Listed
     ensures { λ r. ⌜ _≡_ {A = Outcome} (record { answer = r; names = now (names .exit) }) (listed (now (words .entry)) (now (list .entry)) (now (names .entry))) ⌝ }
 {

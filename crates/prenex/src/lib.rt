@@ -43,8 +43,8 @@ pub struct Answer {
 
 // Measures a table: its nodes, blocks, bound variables and depth, and what lifting it writes.
 //
-// The contract rules out a measure that invents sizes, as one that counts the root block's variables
-// twice, and one that accepts a table which the checker refuses.
+// The contract rules out a measure with invented sizes, as one that counts the root block's variables
+// twice, and one that accepts what is refused by the checker.
 pub fn measure(words: &[u32], list: &[u32]) -> Answer
     ensures { λ r. ⌜ r ≡ measured (now (words .entry)) (now (list .entry)) ⌝ }
 {
@@ -121,8 +121,8 @@ fn sizes_of(words: &[u32], list: &[u32], counts: Counts) -> Sizes
 // Lifts a table's quantifiers: writes the nodes, the prefix and the variables of its prenex form to
 // the starts of three buffers.
 //
-// The contract rules out a lift that leaves a deeper block in the matrix, and one that writes to a
-// buffer before it knows that all three are long enough.
+// The contract rules out a lift by which deeper blocks are left in the matrix, and one that writes to
+// a buffer whose room is not tested.
 pub fn lift(
     words: &[u32],
     list: &[u32],

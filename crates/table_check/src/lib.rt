@@ -75,8 +75,8 @@ pub struct Verdict {
 
 // Refuses a table by document 01's refusals 1 to 8, in that order, or accepts it.
 //
-// The contract rules out a checker that tests all nodes for one refusal before it goes on to the next, and so reports
-// another node than the lowest with a fault; and one that accepts every table whose nodes are named at least once.
+// The contract rules out a checker that tests the limit before the end of the list, and so gives refusal 6 where 5
+// comes first; and one that accepts every table whose nodes are named at least once.
 pub fn check(words: &[u32], list: &[u32]) -> Verdict
     ensures { λ r. ⌜ r ≡ verdict (now (words .entry)) (now (list .entry)) ⌝ }
 {

@@ -24,8 +24,8 @@ pub extern "C" fn wakubinryo_measure(words: &[u32], list: &[u32], answer: &mut [
 
 // Lifts a table into three buffers: number, position and the seven sizes.
 //
-// The contract rules out a lift that hands on another buffer than the one it was lent, and an answer
-// that is not the lift's.
+// The contract rules out a lift with two buffers exchanged, and one that takes the table's words for
+// its list.
 #[no_mangle]
 pub extern "C" fn wakubinryo_lift(
     words: &[u32],
@@ -43,8 +43,7 @@ pub extern "C" fn wakubinryo_lift(
 
 // Lists a table's free variables: number, position and how many names were written.
 //
-// The contract rules out an answer that counts names which were not written, and one that leaves the
-// position out.
+// The contract rules out an answer with the position left out, and one about another table.
 #[no_mangle]
 pub extern "C" fn wakubinryo_free_variables(
     words: &[u32],
