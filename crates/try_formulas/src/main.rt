@@ -1,9 +1,9 @@
 // Document 01's "Formulas to try": each formula's name and what measuring says of it, and the prenex
 // form of one of them.
-ghost use Prim.Native.Nat.{_+_, _*_, _≤_};
-ghost use lib.ListN.{length};
-ghost use Rattle.formula.specs.Words.{width};
+use formula::NEGATION;
+use formula::VARIABLE;
 use formula::WIDTH;
+use prefix_writer::PREFIX_WIDTH;
 use prenex::Answer;
 
 const OUT: i32 = 1;
@@ -48,9 +48,9 @@ fn show_number(before: &[u8], x: u32) {
     io::print_decimal(OUT, wide(x));
 }
 
-// Lifts variable 1 xor (exists 2: 2 and 1), once with a word too little room for its nodes.
-fn form() {
-    let words = [
+// Variable 1 xor (exists 2: 2 and 1).
+fn block_below_xor() -> [u32; 24] {
+    [
         2,
         1,
         0,
@@ -75,7 +75,12 @@ fn form() {
         6,
         0,
         4,
-    ];
+    ]
+}
+
+// Lifts that formula, once with a word too little room for its nodes.
+fn form() {
+    let words = block_below_xor();
     let list = [2];
     let mut short = [0u32; 59];
     let mut nodes = [0u32; 60];
@@ -88,7 +93,7 @@ fn form() {
     io::write_all(OUT, b"a block below an exclusive or, lifted into 60 words");
     show_answer(done);
     show_rows(b"nodes\n", &nodes, WIDTH);
-    show_rows(b"prefix\n", &prefix, 3);
+    show_rows(b"prefix\n", &prefix, PREFIX_WIDTH);
     show_rows(b"variables\n", &variables, 1);
 }
 
@@ -139,6 +144,7 @@ fn small() {
 // The formulas with blocks and short lists.
 fn ranges() {
     let none = [0u32; 1];
+    let words = block_below_xor();
     show(
         b"exists nothing over constant 0",
         &[1, 0, 0, 0, 5, 0, 0, 0],
@@ -149,36 +155,7 @@ fn ranges() {
         &[1, 1, 0, 0, 5, 0, 0, 0, 3, 1, 0, 0],
         &none[..0],
     );
-    show(
-        b"a block below an exclusive or",
-        &[
-            2,
-            1,
-            0,
-            0,
-            2,
-            2,
-            0,
-            0,
-            2,
-            1,
-            0,
-            0,
-            4,
-            8,
-            1,
-            2,
-            5,
-            0,
-            1,
-            3,
-            4,
-            6,
-            0,
-            4,
-        ],
-        &[2],
-    );
+    show(b"a block below an exclusive or", &words, &[2]);
     show(
         b"two blocks that bind one number",
         &[2, 1, 0, 0, 2, 1, 0, 0, 6, 0, 1, 1, 4, 8, 0, 2, 5, 0, 1, 3],
@@ -277,25 +254,14 @@ fn chain(words: &mut [u32]) {
     if n == 0 {
         return;
     }
-    put_node(words, 0, 2, 1);
+    formula::put_node(words, 0, VARIABLE, 1, 0, 0);
     let mut below: u32 = 0;
     let mut i = 1;
     while i < n {
-        put_node(words, i, 3, below);
+        formula::put_node(words, i, NEGATION, below, 0, 0);
         below = std::num::wrapping_add_u32(below, 1);
         i += 1;
     }
-}
-
-// Kind and first field of node i; the other fields are 0.
-fn put_node(words: &mut [u32], i: usize, kind: u32, a: u32)
-    requires { ⌜ width * i + width ≤ length (now words) ⌝ }
-{
-    let at = WIDTH * i;
-    words[at] = kind;
-    words[at + 1] = a;
-    words[at + 2] = 0;
-    words[at + 3] = 0;
 }
 
 // 1, 2, 3 and so on.
