@@ -1,6 +1,6 @@
 -- The words of the first nodes of a prenex form, by what is read of the input.
 -- Assumes nothing.
-use mathlib.Core.Path.{_≡_, refl, sym, _∙_, ap, subst}
+use mathlib.Core.Path.{_≡_, refl, sym, _∙_, ap}
 use mathlib.Core.Bool.{true, false}
 use mathlib.Core.List.{List, [], _∷_, _++_, flatMap, append-nil}
 use Prim.Native.Nat.{ℕ, zero, suc, _+_, _-_, _*_, _≤_, _<_}
@@ -8,7 +8,7 @@ use native.Mathlib.Omega.{arith}
 use native.Mathlib.Numerals.{add-one}
 use lib.Dec.{eqb, leb, ltb}
 use lib.ListN.{length, getD, length-append}
-use borrow.Author.Tests.{ltb-true, ltb-false, le-leb, lt-leb, eqb-true, eqb-false}
+use borrow.Author.Tests.{ltb-true, ltb-false, le-leb, lt-leb}
 use Rattle.lists.specs.Choice.{pick-yes, pick-no, Is, is-true, is-false, look, clash}
 use Rattle.lists.specs.Parts.{upTo, overwrite}
 use Rattle.lists.proofs.Parts.{flatMap-append, length-each}
@@ -24,7 +24,7 @@ use Rattle.table_check.proofs.Accepted.{formed-cases, accepted-holds}
 use Rattle.prenex_form.specs.Scope.{binder, inner}
 use Rattle.prenex_form.specs.Names.{highestNumber, boundCount, firstName, newName, definitionVariable}
 use Rattle.prenex_form.specs.Matrix.{kept, renamed, firstNodes, nodeWords}
-use Rattle.prenex_form.proofs.Paths.{inner-is}
+use Rattle.prenex_form.proofs.Paths.{kept-le, kept-inner}
 use Rattle.prenex_form.proofs.NodeLists.{length-words}
 use Rattle.prenex_form.proofs.Limits.{bound-limit, highest-limit}
 use Rattle.arrays.specs.Held.{boundEntry}
@@ -83,19 +83,7 @@ module _ {ws ls bindings : List ℕ} {names : ℕ} (b : Bound ws ls bindings nam
 -- The nodes that are kept: all but a root that is a block.
 module _ (t : Table) (i : ℕ) (h : i < kept t) where
   pub kept-lt : i < t .size
-  unfolding kept
-  kept-lt = omega arith
-
-  kept-inner : isBlock (t .node i) ≡ true → inner t i ≡ true
-  unfolding kept
-  kept-inner b = go (look (eqb (suc i) (t .size)))
-    where
-      go : Is (eqb (suc i) (t .size)) → inner t i ≡ true
-      go (is-true e) =
-          let q : i ≡ t .size - 1 = omega (arith, eqb-true (suc i) (t .size) e) in
-          let one = pick-yes {A = ℕ} (isBlock (t .node (t .size - 1))) 1 0 (subst (λ j. isBlock (t .node j) ≡ true) q b) in
-          absurd (omega arith)
-      go (is-false e) = inner-is t i (omega (arith, eqb-false (suc i) (t .size) e, kept-lt)) ∙ b
+  kept-lt = omega (arith, kept-le t)
 
 digit-is : (a : ℕ) → a ≤ 1 → digit (eqb a 1) ≡ a
 unfolding digit

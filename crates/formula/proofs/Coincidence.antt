@@ -23,7 +23,7 @@ EqualAt p v u = (x : ℕ) → p x ≡ true → v x ≡ u x
 abbrev pub Only : (ℕ → Bool) → (Valuation → Bool) → Type 0
 Only p f = (v u : Valuation) → EqualAt p v u → f v ≡ f u
 
--- Past a stretch that two valuations share, they are equal wherever they were.
+-- Past a range that two valuations share, they are equal wherever they were.
 past : (p r : ℕ → Bool) (xs : List ℕ) (v u v' u' : Valuation)
     → ((x : ℕ) → mem x xs ≡ false → p x ≡ true → r x ≡ true)
     → EqualAt r v u → Inside xs v' u' → Outside xs v' v → Outside xs u' u → EqualAt p v' u'

@@ -1,15 +1,16 @@
--- Which node the words of a table make at each kind.
+-- Which node the words of a table make at each kind, and which kinds make blocks.
 -- Assumes nothing.
-use mathlib.Core.Path.{_≡_, refl}
-use mathlib.Core.Bool.{false}
+use mathlib.Core.Path.{_≡_, refl, sym, _∙_}
+use mathlib.Core.Bool.{true, false}
 use mathlib.Core.List.{List}
 use Prim.Native.Nat.{ℕ, zero, suc, _<_}
 use native.Mathlib.Omega.{arith}
 use lib.Dec.{eqb}
 use borrow.Author.Tests.{ne-eqb}
-use Rattle.lists.specs.Choice.{pick}
-use Rattle.formula.specs.Node.{exists, for-all, constant, variable, negation, operator, block}
-use Rattle.formula.specs.Words.{field, range, nodeOf, nodeAt}
+use Rattle.lists.specs.Choice.{pick, clash}
+use Rattle.formula.specs.Node.{exists, for-all, constant, variable, negation, operator, block, isBlock}
+use Rattle.formula.specs.Words.{isBlockKind, field, range, nodeOf, nodeAt}
+use Rattle.formula.specs.Form.{quantifierOf}
 
 -- A word is one of the six kinds, or none.
 pub data Kind (k : ℕ) : Type 0 where
@@ -65,3 +66,34 @@ module _ (ws ls : List ℕ) (i : ℕ) where
       → eqb (field ws i 0) 5 ≡ false → eqb (field ws i 0) 6 ≡ false → nodeAt ws ls i ≡ constant false
   unfolding nodeAt nodeOf pick
   node-none e1 e2 e3 e4 e5 e6 = rw (e1, e2, e3, e4, e5, e6)
+
+  -- a node is a block where its kind is a block's
+  pub is-block : isBlock (nodeAt ws ls i) ≡ isBlockKind (field ws i 0)
+  unfolding isBlock isBlockKind
+  is-block = go (kind-of (field ws i 0))
+    where
+      go : Kind (field ws i 0) → isBlock (nodeAt ws ls i) ≡ isBlockKind (field ws i 0)
+      go (kind-constant e) = rw (node-constant e, e)
+      go (kind-variable e) = rw (node-variable e, e)
+      go (kind-negation e) = rw (node-negation e, e)
+      go (kind-operator e) = rw (node-operator e, e)
+      go (kind-exists e) = rw (node-exists e, e)
+      go (kind-for-all e) = rw (node-for-all e, e)
+      go (kind-none e1 e2 e3 e4 e5 e6) = rw (node-none e1 e2 e3 e4 e5 e6, e5, e6)
+
+  pub block-kind : isBlock (nodeAt ws ls i) ≡ true → isBlockKind (field ws i 0) ≡ true
+  block-kind b = sym is-block ∙ b
+
+  pub node-block : isBlock (nodeAt ws ls i) ≡ true
+      → nodeAt ws ls i ≡ block (quantifierOf (field ws i 0)) (range ls (field ws i 1) (field ws i 2)) (field ws i 3)
+  unfolding isBlock quantifierOf pick
+  node-block b = go (kind-of (field ws i 0))
+    where
+      go : Kind (field ws i 0) → nodeAt ws ls i ≡ block (quantifierOf (field ws i 0)) (range ls (field ws i 1) (field ws i 2)) (field ws i 3)
+      go (kind-constant e) = clash b (rw (node-constant e))
+      go (kind-variable e) = clash b (rw (node-variable e))
+      go (kind-negation e) = clash b (rw (node-negation e))
+      go (kind-operator e) = clash b (rw (node-operator e))
+      go (kind-exists e) = node-exists e ∙ rw e
+      go (kind-for-all e) = node-for-all e ∙ rw e
+      go (kind-none e1 e2 e3 e4 e5 e6) = clash b (rw (node-none e1 e2 e3 e4 e5 e6))

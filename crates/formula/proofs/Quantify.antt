@@ -28,11 +28,6 @@ unfoldable pub decides : Quantifier → Bool
 decides exists = true
 decides for-all = false
 
-pub dual-dual : (q : Quantifier) → dual (dual q) ≡ q
-unfolding dual
-dual-dual exists = refl
-dual-dual for-all = refl
-
 pub decides-dual : (q : Quantifier) → decides (dual q) ≡ not (decides q)
 unfolding dual decides
 decides-dual exists = refl

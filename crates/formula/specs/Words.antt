@@ -1,7 +1,7 @@
 -- Words as nodes (document 01, "The formula table"): "a lent run of 32-bit words, four to a node (kind and three fields),
 -- and a lent list of 32-bit variable numbers. Nodes count from 0. The last node is the root."
 -- Assumes nothing.
-use mathlib.Core.Bool.{false}
+use mathlib.Core.Bool.{Bool, false, _||_}
 use mathlib.Core.List.{List}
 use Prim.Native.Nat.{ℕ, _+_, _*_, _/_}
 use lib.Dec.{eqb}
@@ -19,6 +19,10 @@ nodeCount ws = length ws / width
 -- Word f of node i: the kind at 0, the fields at 1, 2 and 3.
 unfoldable pub field : List ℕ → ℕ → ℕ → ℕ
 field ws i f = getD ws (width * i + f) 0
+
+-- Kinds 5 and 6: "exists block, for-all block".
+unfoldable pub isBlockKind : ℕ → Bool
+isBlockKind kind = eqb kind 5 || eqb kind 6
 
 -- "A block binds the `count` entries from `first` on" (document 01: the block's stretch).
 unfoldable pub range : List ℕ → ℕ → ℕ → List ℕ

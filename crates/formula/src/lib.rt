@@ -1,11 +1,12 @@
 // What formula tables and prenex forms mean: nodes, ranges, valuations, truth. Definitions stand
-// in specs/, their laws in proofs/. The code here reads and writes one node's words.
+// in specs/, their laws in proofs/. The code here reads and writes one node's words
+// and tests a kind.
 ghost use mathlib.Core.List.{[], _∷_};
 ghost use mathlib.Core.Path.{_≡_};
 ghost use Prim.Native.Nat.{_+_, _*_, _≤_};
 ghost use lib.ListN.{length};
 ghost use Rattle.lists.specs.Parts.{overwrite};
-ghost use Rattle.formula.specs.Words.{width, field};
+ghost use Rattle.formula.specs.Words.{width, isBlockKind, field};
 
 // The words of a node: a kind and three fields. Nothing else says how many there are.
 pub const WIDTH: usize = 4;
@@ -22,6 +23,13 @@ pub const OPERATOR: u32 = 4;
 pub const EXISTS_BLOCK: u32 = 5;
 
 pub const FOR_ALL_BLOCK: u32 = 6;
+
+// Whether a kind is a block's.
+pub fn is_block_kind(kind: u32) -> bool
+    ensures { λ r. ⌜ r ≡ isBlockKind kind ⌝ }
+{
+    (kind == EXISTS_BLOCK) | (kind == FOR_ALL_BLOCK)
+}
 
 // A node's words: its kind and what stands in its fields.
 pub struct NodeWords {

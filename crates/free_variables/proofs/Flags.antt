@@ -10,7 +10,7 @@ use native.Mathlib.Omega.{arith}
 use lib.Dec.{eqb, leb, ltb}
 use lib.ListN.{length, getD, set, drop, replicate, length-set, length-drop, length-replicate}
 use lib.Seq.{take-suc, getD-drop}
-use borrow.Author.Tests.{eqb-true, ne-eqb, ltb-true, ltb-false, lt-ltb, le-ltb, leb-true, not-true, not-false}
+use borrow.Author.Tests.{eqb-true, ne-eqb, ltb-true, ltb-false, lt-ltb, le-ltb, leb-true}
 use Rattle.lists.specs.Choice.{pick, pick-yes, pick-no, Is, is-true, is-false, look, clash, and-left, and-right, absent}
 use Rattle.lists.specs.Search.{lowest}
 use Rattle.lists.specs.Members.{mem}
@@ -18,12 +18,12 @@ use Rattle.lists.specs.Parts.{upTo}
 use Rattle.lists.proofs.Search.{lowest-holds, lowest-cong}
 use Rattle.lists.proofs.Members.{mem-append, mem-one, mem-getD, all-mem}
 use Rattle.lists.proofs.Parts.{upTo-cong}
-use Rattle.lists.proofs.Stores.{getD-set}
+use Rattle.lists.proofs.Stores.{getD-set, getD-filled}
 use Rattle.formula.specs.Node.{bound}
-use Rattle.formula.specs.Words.{nodeCount, field, range, nodeAt, tableOf}
+use Rattle.formula.specs.Words.{nodeCount, field, range, nodeAt, tableOf, isBlockKind}
 use Rattle.formula.proofs.Nodes.{Kind, kind-constant, kind-variable, kind-negation, kind-operator, kind-exists, kind-for-all, kind-none, kind-of, node-constant, node-variable, node-negation, node-operator, node-exists, node-for-all, node-none}
 use Rattle.formula.proofs.Ranges.{range-length, range-at}
-use Rattle.table_check.specs.Verdict.{isNumber, isBlockKind}
+use Rattle.table_check.specs.Verdict.{isNumber}
 use Rattle.table_check.specs.Accepted.{Accepted}
 use Rattle.prenex_form.specs.Names.{highestNumber}
 use Rattle.prenex_form.specs.FreeVariables.{standsAt, someNode, isFreeVariable, freeVariables}
@@ -106,16 +106,11 @@ unset-flag flags y h x = getD-set flags y false false h x ∙ pick-and (eqb x y)
 
 -- Marking the variable nodes.
 
-getD-unset : (n x : ℕ) → getD (replicate {A = Bool} n false) x false ≡ false
-getD-unset zero x = refl
-getD-unset (suc n) zero = refl
-getD-unset (suc n) (suc x) = getD-unset n x
-
 pub marked-none : (ws : List ℕ) (n : ℕ) → n ≡ 65536 → Marked ws (replicate n false) 0 0
 marked-none ws n e =
     record {
       wide = length-replicate {A = Bool} n false ∙ e;
-      marks = λ x. getD-unset n x ∙ sym (variable-none ws x);
+      marks = λ x. getD-filled n x false ∙ sym (variable-none ws x);
       low = omega arith;
       under = λ x h. clash h (variable-none ws x);
     }
@@ -196,20 +191,6 @@ module _ (ws ls : List ℕ) (flags : List Bool) (i : ℕ) (u : Unmarked ws ls fl
   unmarked-block b after same step =
       unmarked-next after same
       (λ x. step x ∙ rw (pick-yes (isBlockKind (field ws i 0)) (range ls (field ws i 1) (field ws i 2)) [] b))
-
--- The code's test for a node that is no block.
-none-or : (a b : Bool) → (not a && not b) ≡ not (a || b)
-none-or true b = refl
-none-or false b = refl
-
-module _ (kind : ℕ) where
-  pub no-block : (not (eqb kind 5) && not (eqb kind 6)) ≡ true → isBlockKind kind ≡ false
-  unfolding isBlockKind
-  no-block t = not-true _ (sym (none-or (eqb kind 5) (eqb kind 6)) ∙ t)
-
-  pub is-block : (not (eqb kind 5) && not (eqb kind 6)) ≡ false → isBlockKind kind ≡ true
-  unfolding isBlockKind
-  is-block t = not-false _ (sym (none-or (eqb kind 5) (eqb kind 6)) ∙ t)
 
 -- One entry of a block's range.
 

@@ -10,8 +10,7 @@ use Rattle.lists.specs.Choice.{pick}
 use Rattle.lists.specs.Search.{lowest}
 use Rattle.lists.specs.Members.{mem}
 use Rattle.lists.specs.Parts.{upTo, overwrite}
-use Rattle.formula.specs.Words.{nodeCount, field, range}
-use Rattle.table_check.specs.Verdict.{isBlockKind}
+use Rattle.formula.specs.Words.{nodeCount, field, range, isBlockKind}
 use Rattle.free_variables.specs.Outcome.{Outcome, refused}
 
 -- Some number below n passes the test.

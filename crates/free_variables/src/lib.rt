@@ -18,8 +18,6 @@ ghost use Rattle.free_variables.specs.Steps.{
   flagged,
   listing,
 };
-use formula::EXISTS_BLOCK;
-use formula::FOR_ALL_BLOCK;
 use formula::VARIABLE;
 
 // The length of an array that a variable's number is an index of.
@@ -131,7 +129,7 @@ fn unmark_node(words: &[u32], list: &[u32], flags: &mut [bool], i: usize)
     ensures { λ r. ⌜ Unmarked (now (words .entry)) (now (list .entry)) (now (flags .exit)) (i + 1) ⌝ }
 {
     let node = formula::node_at(words, i);
-    if (node.kind != EXISTS_BLOCK) & (node.kind != FOR_ALL_BLOCK) {
+    if !formula::is_block_kind(node.kind) {
         return;
     }
     unmark_range(list, flags, node.a, node.b);

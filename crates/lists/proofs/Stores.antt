@@ -1,13 +1,19 @@
--- What an array holds after one store within it.
+-- What a new array holds, and what one holds after a store within it.
 -- Assumes nothing.
-use mathlib.Core.Path.{_≡_, sym, _∙_, ap, subst}
+use mathlib.Core.Path.{_≡_, refl, sym, _∙_, ap, subst}
 use mathlib.Core.List.{List}
-use Prim.Native.Nat.{ℕ, _<_}
+use Prim.Native.Nat.{ℕ, zero, suc, _<_}
 use lib.Dec.{eqb}
-use lib.ListN.{length, getD, set}
+use lib.ListN.{length, getD, set, replicate}
 use lib.Seq.{getD-set-same, getD-set-other}
 use borrow.Author.Tests.{eqb-true, eqb-false}
 use Rattle.lists.specs.Choice.{Is, is-true, is-false, look, pick, pick-yes, pick-no}
+
+-- a new array holds its one value at every index, within it and past its end
+pub getD-filled : {A : Type 0} (n x : ℕ) (a : A) → getD (replicate n a) x a ≡ a
+getD-filled zero x a = refl
+getD-filled (suc n) zero a = refl
+getD-filled (suc n) (suc x) a = getD-filled n x a
 
 module _ {ℓ} {A : Type ℓ} (xs : List A) (e : ℕ) (v d : A) (h : e < length xs) where
   -- what holds of v where k is e, and of the old element where it is not, holds of the element at k

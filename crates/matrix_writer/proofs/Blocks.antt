@@ -8,17 +8,18 @@ use native.Mathlib.Omega.{arith}
 use lib.Dec.{eqb}
 use lib.ListN.{length, getD}
 use borrow.Author.Tests.{ne-eqb}
-use Rattle.lists.specs.Choice.{pick, pick-yes, clash, and-left}
+use Rattle.lists.specs.Choice.{pick, and-left}
 use Rattle.lists.specs.Parts.{sum, upTo}
 use Rattle.lists.proofs.Parts.{getD-numbers, sum-grows, upTo-cong}
-use Rattle.formula.specs.Node.{block, Table, isBlock}
-use Rattle.formula.specs.Words.{width, nodeCount, field, range, nodeOf, nodeAt, tableOf}
+use Rattle.formula.specs.Node.{Table, isBlock}
+use Rattle.formula.specs.Words.{width, nodeCount, field, nodeOf, nodeAt, tableOf}
 use Rattle.formula.specs.Form.{quantifierOf}
 use Rattle.formula.specs.Tree.{count, boundBelow}
-use Rattle.formula.proofs.Nodes.{Kind, kind-of, kind-constant, kind-variable, kind-negation, kind-operator, kind-exists, kind-for-all, kind-none}
-use Rattle.table_check.specs.Verdict.{limit, isBlockKind, countAt, verdict, accepted}
+use Rattle.formula.proofs.Nodes.{Kind, kind-of, kind-constant, kind-variable, kind-negation, kind-operator, kind-exists, kind-for-all, kind-none, block-kind, node-block}
+use Rattle.table_check.specs.Verdict.{limit, verdict, accepted}
 use Rattle.table_check.specs.Accepted.{Accepted}
 use Rattle.table_check.proofs.Accepted.{count-at, accepted-holds}
+use Rattle.table_check.proofs.Faults.{count-block}
 use Rattle.prenex_form.specs.Scope.{inner}
 use Rattle.prenex_form.specs.Names.{highestNumber, firstName, newNames, boundCount, copies}
 use Rattle.prenex_form.specs.Levels.{quantifierAt}
@@ -28,27 +29,6 @@ use Rattle.prenex_form.proofs.NameLaws.{copies-shift}
 use Rattle.arrays.specs.Held.{Starts, firstNew, firstCopy}
 use Rattle.matrix_writer.specs.Entries.{entryNodes, entriesNodes}
 use Rattle.matrix_writer.specs.Chain.{InnerBlock}
-
-block-of : (ls : List ℕ) (kind a b d : ℕ) → Kind kind → isBlock (nodeOf ls kind a b d) ≡ true
-    → nodeOf ls kind a b d ≡ block (quantifierOf kind) (range ls a b) d
-unfolding nodeOf pick isBlock quantifierOf
-block-of ls kind a b d (kind-constant e) h = clash (rw e at h) refl
-block-of ls kind a b d (kind-variable e) h = clash (rw e at h) refl
-block-of ls kind a b d (kind-negation e) h = clash (rw e at h) refl
-block-of ls kind a b d (kind-operator e) h = clash (rw e at h) refl
-block-of ls kind a b d (kind-exists e) h = rw e
-block-of ls kind a b d (kind-for-all e) h = rw e
-block-of ls kind a b d (kind-none e1 e2 e3 e4 e5 e6) h = clash (rw (e1, e2, e3, e4, e5, e6) at h) refl
-
-block-kind : (ls : List ℕ) (kind a b d : ℕ) → Kind kind → isBlock (nodeOf ls kind a b d) ≡ true → isBlockKind kind ≡ true
-unfolding nodeOf pick isBlock isBlockKind
-block-kind ls kind a b d (kind-constant e) h = clash (rw e at h) refl
-block-kind ls kind a b d (kind-variable e) h = clash (rw e at h) refl
-block-kind ls kind a b d (kind-negation e) h = clash (rw e at h) refl
-block-kind ls kind a b d (kind-operator e) h = clash (rw e at h) refl
-block-kind ls kind a b d (kind-exists e) h = rw e
-block-kind ls kind a b d (kind-for-all e) h = rw e
-block-kind ls kind a b d (kind-none e1 e2 e3 e4 e5 e6) h = clash (rw (e1, e2, e3, e4, e5, e6) at h) refl
 
 quantifier-of : (ls : List ℕ) (kind a b d : ℕ) → Kind kind → quantifierAt (nodeOf ls kind a b d) ≡ quantifierOf kind
 unfolding nodeOf pick quantifierAt quantifierOf
@@ -99,14 +79,12 @@ module _ (ws ls : List ℕ) (ok : Accepted ws ls) (i : ℕ) (b : InnerBlock (tab
   is-block = and-left _ _ (b .is-inner)
 
   pub body-is : bodyOf (tableOf ws ls .node i) ≡ field ws i 3
-  unfolding tableOf nodeAt bodyOf
-  body-is = ap bodyOf (block-of ls (field ws i 0) (field ws i 1) (field ws i 2) (field ws i 3) (kind-of (field ws i 0)) is-block)
+  unfolding tableOf bodyOf
+  body-is = ap bodyOf (node-block ws ls i is-block)
 
   pub count-is : count (tableOf ws ls) i ≡ field ws i 2
-  unfolding tableOf nodeAt countAt
-  count-is =
-      count-at ws ls i (ok .fits i (b .below))
-      ∙ pick-yes _ _ _ (block-kind ls (field ws i 0) (field ws i 1) (field ws i 2) (field ws i 3) (kind-of (field ws i 0)) is-block)
+  unfolding tableOf
+  count-is = count-at ws ls i (ok .fits i (b .below)) ∙ count-block ws i (block-kind ws ls i is-block)
 
   -- the block's entries are among all
   pub entries-within : boundBelow (tableOf ws ls) i + count (tableOf ws ls) i ≤ boundCount (tableOf ws ls)

@@ -1,30 +1,17 @@
--- Kinds and counts of nodes by their words, and the kinds of prefix blocks.
+-- Kinds of nodes by their words, and the kinds of prefix blocks.
 -- Assumes nothing.
-use mathlib.Core.Path.{_≡_, sym}
-use mathlib.Core.Bool.{true, false}
+use mathlib.Core.Path.{_≡_}
 use mathlib.Core.List.{List}
 use Prim.Native.Nat.{ℕ, _+_, _-_, _*_, _≤_}
 use native.Mathlib.Omega.{arith}
 use lib.ListN.{length}
-use Rattle.lists.specs.Choice.{pick, pick-yes, pick-no}
+use Rattle.lists.specs.Choice.{pick}
 use Rattle.formula.specs.Words.{width, nodeCount, field, nodeOf, nodeAt, tableOf}
 use Rattle.formula.proofs.Nodes.{Kind, kind-of, kind-constant, kind-variable, kind-negation, kind-operator, kind-exists, kind-for-all, kind-none}
-use Rattle.table_check.specs.Verdict.{isBlockKind, countAt, verdict, accepted}
+use Rattle.table_check.specs.Verdict.{verdict, accepted}
 use Rattle.table_check.proofs.Accepted.{accepted-holds}
 use Rattle.prenex_form.specs.Levels.{quantifierAt, levelQuantifier}
 use Rattle.prenex_form.specs.Prefix.{kindOf}
-
--- counts
-
-pub count-block : (ws : List ℕ) (i : ℕ) → isBlockKind (field ws i 0) ≡ true → field ws i 2 ≡ countAt ws i
-unfolding countAt
-count-block ws i e = sym (pick-yes _ _ _ e)
-
-pub count-none : (ws : List ℕ) (i : ℕ) → isBlockKind (field ws i 0) ≡ false → 0 ≡ countAt ws i
-unfolding countAt
-count-none ws i e = sym (pick-no _ _ _ e)
-
--- kinds
 
 kind-exists-is : (ls : List ℕ) (kind a b c : ℕ) → kind ≡ 5 → 5 ≡ kindOf (quantifierAt (nodeOf ls kind a b c))
 unfolding nodeOf quantifierAt kindOf pick

@@ -350,7 +350,7 @@ fn count_at(words: &[u32], i: usize) -> usize
     ensures { λ r. ⌜ r ≡ countAt (now (words .entry)) i ⌝ }
 {
     let node = formula::node_at(words, i);
-    if (node.kind == EXISTS_BLOCK) | (node.kind == FOR_ALL_BLOCK) {
+    if formula::is_block_kind(node.kind) {
         return node.b as usize;
     }
     0

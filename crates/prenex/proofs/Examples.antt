@@ -13,11 +13,11 @@ use Rattle.lists.specs.Search.{lowest}
 use Rattle.lists.specs.Members.{mem, all, distinct, times, place}
 use Rattle.lists.specs.Parts.{upTo, numbers, sum, highest, overwrite}
 use Rattle.formula.specs.Node.{dual, operands, isBlock, bound}
-use Rattle.formula.specs.Words.{width, field, range, nodeOf, nodeAt, tableOf}
+use Rattle.formula.specs.Words.{width, field, range, nodeOf, nodeAt, tableOf, isBlockKind}
 use Rattle.formula.specs.Valuation.{Valuation, update, join, quant}
 use Rattle.formula.specs.Truth.{bit, digit, operatorValue, nodeValue, value, truth}
 use Rattle.formula.specs.Tree.{timesNamed, count, boundBelow}
-use Rattle.table_check.specs.Verdict.{isNumber, isBlockKind, partialNode, tooLarge, wellFormed, forwardReference, rangePastEnd, countAt, tooManyVariables, badVariable, nodeFault, notNamedOnce, verdict}
+use Rattle.table_check.specs.Verdict.{isNumber, partialNode, tooLarge, wellFormed, forwardReference, rangePastEnd, countAt, tooManyVariables, badVariable, nodeFault, notNamedOnce, verdict}
 use Rattle.prenex_form.specs.Scope.{parent, pathUp, path, above, binder, inner, howMany, level, depth}
 use Rattle.prenex_form.specs.Names.{maximum, highestAt, highestNumber, boundCount, firstName, newNames, newName, innerBoundBelow, innerBelow, copies, definitionVariable}
 use Rattle.prenex_form.specs.Levels.{blocksAt, levels, quantifierAt, levelQuantifier}

@@ -2,16 +2,13 @@
 ghost use mathlib.Core.Path.{_≡_};
 ghost use Prim.Native.Nat.{_+_, _*_, _-_, _≤_};
 ghost use lib.Dec.{eqb};
-ghost use lib.ListN.{length, take};
+ghost use lib.ListN.{take};
 ghost use Rattle.lists.specs.Choice.{pick};
-ghost use Rattle.lists.specs.Parts.{overwrite};
 ghost use Rattle.formula.specs.Node.{isBlock};
 ghost use Rattle.formula.specs.Words.{width, nodeCount, nodeAt, tableOf};
 ghost use Rattle.formula.specs.Form.{prefixWidth};
 ghost use Rattle.table_check.specs.Verdict.{verdict, accepted};
-ghost use Rattle.prenex_form.specs.Levels.{levels as deepestLevel};
 ghost use Rattle.prenex_form.specs.Sizes.{sizes as sizesOf};
-ghost use Rattle.prenex_form.specs.Matrix.{writtenNodes};
 ghost use Rattle.prenex_form.specs.Promise.{PrenexOf};
 ghost use Rattle.prenex_form.specs.Names.{highestNumber, boundCount};
 ghost use Rattle.scopes.specs.Passes.{Placed, BlockCounts};
@@ -19,6 +16,7 @@ ghost use Rattle.prefix_writer.specs.Held.{Started, Chained};
 ghost use Rattle.prenex.specs.Arrays.{Blank, Bound, Room, Written};
 ghost use Rattle.prenex.specs.Outcome.{refusal as refusalOf, done as doneOf, measured, after, lifted};
 use names::NameCounter;
+use prefix_writer::PREFIX_WIDTH;
 use prenex_form::Sizes;
 use scopes::Counts;
 
@@ -27,9 +25,6 @@ const LIMIT: usize = 4096;
 
 // One scope for each node, and that outside all blocks.
 const SCOPES: usize = 4097;
-
-// Words to a prefix block.
-const PREFIX_WIDTH: usize = prefix_writer::PREFIX_WIDTH;
 
 // The number of the refusal for want of room (document 01: no room).
 const BUFFER_TOO_SHORT: u32 = 9;
@@ -348,7 +343,7 @@ fn root_blocks(words: &[u32], list: &[u32]) -> u32
     ensures { λ r. ⌜ r ≡ pick (isBlock (nodeAt (now (words .entry)) (now (list .entry)) (nodeCount (now (words .entry)) - 1))) 1 0 ⌝ }
 {
     let root = formula::node_at(words, words.len() / formula::WIDTH - 1);
-    if (root.kind == formula::EXISTS_BLOCK) | (root.kind == formula::FOR_ALL_BLOCK) {
+    if formula::is_block_kind(root.kind) {
         return 1;
     }
     0

@@ -25,10 +25,10 @@ use Rattle.prenex_form.specs.Names.{newNames, newName, copies, definitio
 use Rattle.prenex_form.specs.Levels.{blocksAt, levels, levelQuantifier}
 use Rattle.prenex_form.specs.Matrix.{kept, renamed, firstNodes, equation, constraint, further, constraints, wrap, levelNodes, nodesTo, prenexNodes, writtenNodes}
 use Rattle.prenex_form.specs.Prefix.{blockCount, leading, prefixBlock, prefixBlocks, writtenPrefix, writtenVariables}
-use Rattle.prenex_form.proofs.Paths.{climb, parent-lt, parent-names, binder-root, binder-step, binder-block, inner-level, level-le-levels, mem-blocksAt, blocksAt-lt, blocksAt-inner, inner-block}
-use Rattle.prenex_form.proofs.NameLaws.{variable-le, length-newNames, length-copies, newName-free, newName-bound}
+use Rattle.prenex_form.proofs.Paths.{climb, parent-lt, parent-names, binder-root, binder-step, binder-block, inner-level, level-le-levels, mem-blocksAt, blocksAt-lt, blocksAt-inner, inner-block, kept-le, kept-inner}
+use Rattle.prenex_form.proofs.NameLaws.{variable-le, length-newNames, length-copies, newName-free, newName-bound, newNames-above, copies-above, definition-above}
 use Rattle.prenex_form.proofs.NodeLists.{listTable, Plain}
-use Rattle.prenex_form.proofs.Written.{length-firstNodes, getD-firstNodes, kept-le, kept-inner}
+use Rattle.prenex_form.proofs.Written.{length-firstNodes, getD-firstNodes}
 use Rattle.prenex_form.proofs.WrittenOrder.{prenex-plain, written-table}
 use Rattle.prenex_form.proofs.WrittenTree.{prenex-tree}
 use Rattle.prenex_form.proofs.PrefixNames.{prefix-read, prefix-new}

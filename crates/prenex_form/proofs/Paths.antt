@@ -11,7 +11,7 @@ use Rattle.lists.specs.Choice.{pick, pick-yes, pick-no, Is, is-true, is-false, 
 use Rattle.lists.specs.Search.{lowest}
 use Rattle.lists.specs.Members.{mem, times, place}
 use Rattle.lists.specs.Parts.{highest}
-use Rattle.lists.proofs.Search.{lowest-holds, lowest-is, lowest-none, lowest-cong}
+use Rattle.lists.proofs.Search.{lowest-le, lowest-holds, lowest-is, lowest-none, lowest-cong}
 use Rattle.lists.proofs.Members.{mem-one, mem-head, times-zero, times-positive, mem-nil}
 use Rattle.lists.proofs.Parts.{two-terms-le, sum-positive, mem-upTo, mem-upTo-from, highest-ge, highest-attained, highest-le, pick-le}
 use Rattle.formula.specs.Node.{Node, constant, variable, negation, operator, block, Table, operands, isBlock, bound}
@@ -97,6 +97,25 @@ inner-block t i h = and-left (isBlock (t .node i)) _ h
 inner-root : (t : Table) (i : ℕ) → suc i ≡ t .size → inner t i ≡ false
 unfolding inner
 inner-root t i h = rw (eq-eqb (suc i) (t .size) h) (and-false (isBlock (t .node i)))
+
+-- all nodes are kept but a root that is a block
+pub kept-le : (t : Table) → kept t ≤ t .size
+unfolding kept
+kept-le t = omega arith
+
+pub kept-root : (t : Table) (i : ℕ) → suc i ≡ t .size → isBlock (t .node i) ≡ true → kept t ≡ i
+unfolding kept
+kept-root t i h b =
+    let e : t .size - 1 ≡ i = omega arith in
+    let y : _≡_ {A = ℕ} (pick (isBlock (t .node (t .size - 1))) 1 0) 1 = rw e (pick-yes _ _ _ b) in omega arith
+
+pub kept-inner : (t : Table) (i : ℕ) → i < kept t → isBlock (t .node i) ≡ true → inner t i ≡ true
+unfolding inner
+kept-inner t i h b = and-both _ _ b (ap not (ne-eqb (suc i) (t .size) (λ e. omega (arith, kept-root t i e b))))
+
+pub binder-le : (t : Table) (i x : ℕ) → binder t i x ≤ t .size
+unfolding binder
+binder-le t i x = lowest-le _ (t .size)
 
 -- node b is a block that binds x
 abbrev binds : Table → ℕ → ℕ → Bool
@@ -336,6 +355,9 @@ module _ (t : Table) (tree : Tree t) where
       go (is-false e) q =
           let r : binder t i x ≡ binder t j x = q ∙ pick-no _ _ _ e in
           rw r refl ∙ sym (pick-no _ _ _ e)
+
+  pub root-outer : inner t (t .size - 1) ≡ false
+  root-outer = inner-root t (t .size - 1) (omega (arith, tree .nonempty))
 
   -- levels
   pub level-root : (i : ℕ) → suc i ≡ t .size → level t i ≡ 0

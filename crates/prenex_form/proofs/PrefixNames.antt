@@ -2,7 +2,7 @@
 -- says. The names of the prefix and of the nodes are at most `lastName`.
 -- Assumes nothing.
 use mathlib.Core.Path.{_≡_, refl, sym, _∙_, ap, subst}
-use mathlib.Core.Bool.{Bool, true, false, not, _&&_}
+use mathlib.Core.Bool.{Bool, true, false, _&&_}
 use mathlib.Core.List.{List, [], _∷_, _++_, flatMap, append-assoc, append-nil}
 use Prim.Native.Nat.{ℕ, zero, suc, _+_, _*_, _-_, _/_, _≤_, _<_, max}
 use native.Mathlib.Omega.{arith}
@@ -11,7 +11,7 @@ use lib.Dec.{eqb, ltb}
 use lib.ListN.{length, getD, take, drop, length-append}
 use lib.Seq.{drop-at, take-at, getD-append-add}
 use borrow.Author.Tests.{eqb-true, eqb-false, ne-eqb, ltb-true}
-use Rattle.lists.specs.Choice.{pick, pick-yes, pick-no, Is, is-true, is-false, look, clash, and-left, and-both}
+use Rattle.lists.specs.Choice.{pick, pick-yes, pick-no, Is, is-true, is-false, look, clash, and-left}
 use Rattle.lists.specs.Members.{mem, distinct}
 use Rattle.lists.specs.Parts.{sum, upTo}
 use Rattle.lists.proofs.Members.{mem-head, mem-tail, mem-one, mem-neither, mem-flatMap-from, mem-getD, distinct-append}
@@ -26,7 +26,7 @@ use Rattle.prenex_form.specs.Levels.{blocksAt, levels, quantifierAt, lev
 use Rattle.prenex_form.specs.Prefix.{blockCount, leading, prefixBlock, prefixBlocks, kindOf, prefixWords, writtenPrefix, writtenVariables}
 use Rattle.prenex_form.specs.Matrix.{and, kept, renamed, firstNodes, equation, guard, constraint, further, constraints, wrap, levelNodes, nodesTo, prenexNodes}
 use Rattle.prenex_form.specs.Sizes.{prefixCount, sizes}
-use Rattle.prenex_form.proofs.Paths.{level-root, inner-lt, inner-level, level-le-levels, blocksAt-lt, blocksAt-inner, blocksAt-level, depth-levels, inner-block}
+use Rattle.prenex_form.proofs.Paths.{level-root, inner-lt, inner-level, level-le-levels, blocksAt-lt, blocksAt-inner, blocksAt-level, depth-levels, inner-block, root-outer, kept-le, kept-inner}
 use Rattle.prenex_form.proofs.NameLaws.{none-bound, variable-le, innerBound-is, innerBound-le, length-newNames, length-copies, newNames-above, newNames-le, copies-above, copies-le, definition-above, definition-le, newNames-apart, copies-apart, definition-apart, distinct-newNames, distinct-copies, newName-bound}
 use Rattle.prenex_form.proofs.Alternation.{quantifier-read}
 
@@ -455,13 +455,6 @@ module _ (t : Table) where
   length-own i = omega (arith, length-append (newNames t i) (definitionVariable t i ∷ []), length-newNames t i)
 
   module _ (tree : Tree t) where
-    root-outer : inner t (t .size - 1) ≡ false
-    root-outer = go (look (inner t (t .size - 1)))
-      where
-        go : Is (inner t (t .size - 1)) → inner t (t .size - 1) ≡ false
-        go (is-true n) = absurd (omega (arith, inner-lt t tree (t .size - 1) (root-lt t tree) n))
-        go (is-false n) = n
-
     inner-levels : (g : ℕ → List ℕ) (m : ℕ) → levels t ≤ m
         → sum (λ j. length (flatMap g (blocksAt t (suc j)))) m ≡ sum (λ i. pick (inner t i) (length (g i)) 0) (t .size)
     inner-levels g m h =
@@ -497,7 +490,7 @@ module _ (t : Table) where
         let b : sum (count t) (t .size) ≡ sum (count t) (suc r) = ap (sum (count t)) (sym (root-is t tree)) in
         let c : sum (λ i. pick (inner t i) (count t i) 0) (t .size) ≡ sum (λ i. pick (inner t i) (count t i) 0) (suc r)
         = ap (sum (λ i. pick (inner t i) (count t i) 0)) (sym (root-is t tree)) in
-        let z : pick (inner t r) (count t r) 0 ≡ 0 = pick-no (inner t r) (count t r) 0 root-outer in
+        let z : pick (inner t r) (count t r) 0 ≡ 0 = pick-no (inner t r) (count t r) 0 (root-outer t tree) in
         omega (arith, innerBound-is t r (root-lt t tree))
 
     parts-entries : length (upTo (part t) (suc (levels t))) ≡ sizes t .entries
@@ -563,20 +556,6 @@ wrap-nameless exists m c = refl
 wrap-nameless for-all m c = refl
 
 module _ (t : Table) where
-  kept-le : kept t ≤ t .size
-  unfolding kept
-  kept-le = omega arith
-
-  -- the blocks among the first nodes are inner
-  kept-inner : (i : ℕ) → i < kept t → isBlock (t .node i) ≡ true → inner t i ≡ true
-  unfolding kept inner
-  kept-inner i h b = and-both (isBlock (t .node i)) _ b (ap not (ne-eqb (suc i) (t .size) last))
-    where
-      last : suc i ≡ t .size → ⊥
-      last e =
-          let r : i ≡ t .size - 1 = omega arith in
-          omega (arith, pick-yes {A = ℕ} (isBlock (t .node (t .size - 1))) 1 0 (rw r at b))
-
   newName-le : (i x : ℕ) → i < t .size → t .node i ≡ variable x → newName t i x ≤ lastName t
   unfolding newName
   newName-le i x h e = go (look (ltb (binder t i x) (t .size)))
@@ -594,10 +573,10 @@ module _ (t : Table) where
     where
       go : (nd : Node) → t .node i ≡ nd → highestAt (renamed t i nd) ≤ lastName t
       go (constant b) e = omega arith
-      go (variable x) e = newName-le i x (omega (arith, kept-le)) e
+      go (variable x) e = newName-le i x (omega (arith, kept-le t)) e
       go (negation a) e = omega arith
       go (operator f a b) e = omega arith
-      go (block q xs a) e = definition-le t i (omega (arith, kept-le)) (kept-inner i h (ap isBlock e))
+      go (block q xs a) e = definition-le t i (omega (arith, kept-le t)) (kept-inner t i h (ap isBlock e))
 
   first-le : peak (firstNodes t) ≤ lastName t
   unfolding firstNodes peak

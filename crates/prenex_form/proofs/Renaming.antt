@@ -11,7 +11,6 @@ use lib.ListN.{length, getD}
 use borrow.Author.Tests.{ltb-true, ltb-false, lt-leb}
 use Rattle.lists.specs.Choice.{pick-yes, pick-no, Is, is-true, is-false, look, and-both}
 use Rattle.lists.specs.Members.{mem, place}
-use Rattle.lists.proofs.Search.{lowest-le}
 use Rattle.lists.proofs.Members.{mem-head, mem-tail, place-lt, getD-place}
 use Rattle.lists.proofs.Parts.{getD-numbers}
 use Rattle.formula.specs.Node.{Quantifier, Node, constant, variable, negation, operator, block, Table, operands, isBlock, bound}
@@ -22,16 +21,12 @@ use Rattle.formula.proofs.Quantify.{Outside, quant-two}
 use Rattle.prenex_form.specs.Scope.{binder, inner, level}
 use Rattle.prenex_form.specs.Names.{highestNumber, firstName, newNames, newName}
 use Rattle.prenex_form.proofs.Cut.{cutNode, cut, valueAt}
-use Rattle.prenex_form.proofs.Paths.{above-higher, binder-above, newName-root, newName-step, inner-level}
+use Rattle.prenex_form.proofs.Paths.{above-higher, binder-above, newName-root, newName-step, inner-level, binder-le}
 use Rattle.prenex_form.proofs.NameLaws.{variable-le, length-newNames, newNames-above, newNames-apart, distinct-newNames, newName-free, newName-bound}
 
 -- Seen from node i, w gives each number's new name what v gives the number.
 abbrev Related : Table → ℕ → Valuation → Valuation → Type 0
 Related t i v w = (x : ℕ) → x ≤ highestNumber t → v x ≡ w (newName t i x)
-
-binder-le : (t : Table) (i x : ℕ) → binder t i x ≤ t .size
-unfolding binder
-binder-le t i x = lowest-le _ (t .size)
 
 newNames-at : (t : Table) (i k : ℕ) → k < count t i → getD (newNames t i) k 0 ≡ firstName t i + k
 unfolding newNames

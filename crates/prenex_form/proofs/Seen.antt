@@ -9,7 +9,6 @@ use lib.Dec.{eqb, ltb, leb}
 use borrow.Author.Tests.{ltb-true, ltb-false, eqb-true, eq-eqb, leb-true, le-leb}
 use Rattle.lists.specs.Choice.{pick, pick-yes, pick-no, Is, is-true, is-false, look, clash, and-left, and-right, and-both, or-right, or-cases}
 use Rattle.lists.specs.Members.{mem, all}
-use Rattle.lists.proofs.Search.{lowest-le}
 use Rattle.lists.proofs.Members.{mem-one, mem-head, mem-tail}
 use Rattle.formula.specs.Node.{Node, constant, variable, negation, operator, block, Table, operands, isBlock}
 use Rattle.formula.specs.Tree.{Tree}
@@ -22,7 +21,7 @@ use Rattle.prenex_form.specs.Names.{highestNumber, newName, newNames, co
 use Rattle.prenex_form.specs.Levels.{blocksAt, quantifierAt, levelQuantifier}
 use Rattle.prenex_form.specs.Matrix.{kept, bodyOf}
 use Rattle.prenex_form.proofs.Cut.{cutNode, cut, valueAt, agree, guarded, holds, blockHolds, joined, matrixAt}
-use Rattle.prenex_form.proofs.Paths.{body-named, parent-is, climb, path-root, path-step, path-self, above-root, above-step, above-cases, binder-block, binder-above, level-root, above-level, above-level-le, blocksAt-lt, blocksAt-inner, blocksAt-level, root-body, inner-block}
+use Rattle.prenex_form.proofs.Paths.{body-named, parent-is, climb, path-root, path-step, path-self, above-root, above-step, above-cases, binder-block, binder-above, level-root, above-level, above-level-le, blocksAt-lt, blocksAt-inner, blocksAt-level, root-body, inner-block, binder-le}
 use Rattle.prenex_form.proofs.NameLaws.{variable-le, newName-free, newName-bound, newNames-above, newNames-le, copies-above, copies-le, definition-above, newNames-apart, copies-apart}
 
 -- the nodes of a cut: nothing but blocks is changed, a block to a definition variable or to a block with its new names
@@ -175,10 +174,6 @@ module _ (t : Table) (tree : Tree t) where
         definitions = λ b l n e p. keeps (definitionVariable t b) (s .definitions b l n e (path-up a i h k b l p));
       }
 
-  binder-le : (i x : ℕ) → binder t i x ≤ t .size
-  unfolding binder
-  binder-le i x = lowest-le _ (t .size)
-
   -- the new name at a variable node is a number of the input, or a new name of a block above
   pub name-cases : (P : ℕ → Type 0) (i x : ℕ) → i < t .size → t .node i ≡ variable x
       → ((y : ℕ) → y ≤ highestNumber t → P y)
@@ -192,7 +187,7 @@ module _ (t : Table) (tree : Tree t) where
           g (binder t i x) (newName t i x) k (binder-block t tree i x k) (binder-above t tree i x k) (newName-bound t i x k)
       go (is-false l) =
           let k = ltb-false (binder t i x) (t .size) l in
-          let o = binder-le i x in
+          let o = binder-le t i x in
           let q = newName-free t i x (omega arith) in f (newName t i x) (omega (arith, variable-le t i x h e))
 
   same-block : (c i : ℕ) (v u : Valuation) → i < t .size → isBlock (t .node i) ≡ true

@@ -24,7 +24,7 @@ use Rattle.prenex_form.specs.Levels.{blocksAt, levels, quantifierAt, lev
 use Rattle.prenex_form.specs.Matrix.{kept, writtenNodes}
 use Rattle.prenex_form.specs.Prefix.{blockCount, leading, prefixBlock, prefixBlocks, writtenPrefix, writtenVariables}
 use Rattle.prenex_form.proofs.Cut.{valueAt, matrixAt}
-use Rattle.prenex_form.proofs.Paths.{inner-lt, level-le-levels, blocksAt-lt, blocksAt-inner, blocksAt-level, level-nonempty, root-body}
+use Rattle.prenex_form.proofs.Paths.{level-le-levels, blocksAt-lt, blocksAt-inner, blocksAt-level, level-nonempty, root-body, root-outer}
 use Rattle.prenex_form.proofs.NameLaws.{none-bound}
 use Rattle.prenex_form.proofs.Renaming.{renamed-truth}
 use Rattle.prenex_form.proofs.Seen.{value-real}
@@ -81,10 +81,6 @@ module _ (t : Table) (tree : Tree t) where
       ∙ ap (λ is. quant (levelQuantifier t (levels t)) (flatMap (copies t) is) (bound-matrix (suc (levels t))) v) none-deeper
 
   -- at the root
-  root-outer : inner t (t .size - 1) ≡ false
-  root-outer =
-      let h = tree .nonempty in absent _ (λ n. omega (arith, inner-lt t tree (t .size - 1) (omega arith) n))
-
   root-other : isBlock (t .node (t .size - 1)) ≡ false → kept t ≡ t .size
   unfolding kept
   root-other b = omega (arith, pick-no {A = ℕ} (isBlock (t .node (t .size - 1))) 1 0 b)
@@ -99,7 +95,7 @@ module _ (t : Table) (tree : Tree t) where
       let k = tree .nonempty in
       ap (λ a. quant (quantifierAt (t .node (t .size - 1))) (newNames t (t .size - 1)) (valueAt t 0 a) v)
       (sym (root-body t tree (t .size - 1) (omega arith) b))
-      ∙ sym (value-real t tree 0 (t .size - 1) (omega arith) b (rw root-outer refl) v)
+      ∙ sym (value-real t tree 0 (t .size - 1) (omega arith) b (rw (root-outer t tree) refl) v)
   root-value v (is-false b) =
       ap (λ xs. quant (quantifierAt (t .node (t .size - 1))) xs (valueAt t 0 (kept t - 1)) v) (root-names b)
       ∙ ap (λ n. valueAt t 0 (n - 1) v) (root-other b)

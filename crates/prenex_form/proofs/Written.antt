@@ -1,15 +1,15 @@
 -- The value of the written nodes: the matrix after all levels.
 -- Assumes nothing.
 use mathlib.Core.Path.{_≡_, refl, sym, _∙_, ap, ap₂}
-use mathlib.Core.Bool.{Bool, true, false, not, _&&_, Bool·beq, and-true}
+use mathlib.Core.Bool.{Bool, true, false, _&&_, Bool·beq, and-true}
 use mathlib.Core.List.{List, [], _∷_, _++_}
 use Prim.Native.Nat.{ℕ, zero, suc, _+_, _-_, _*_, _≤_, _<_}
 use native.Mathlib.Omega.{arith}
 use native.Mathlib.Nat.{le-of-suc-le-suc, not-suc-le-zero}
-use lib.Dec.{eqb, leb, eqb·suc-zero}
+use lib.Dec.{leb, eqb·suc-zero}
 use lib.ListN.{length, getD, take, length-append}
 use lib.Seq.{take-all}
-use borrow.Author.Tests.{eqb-true, le-leb}
+use borrow.Author.Tests.{le-leb}
 use Rattle.lists.specs.Choice.{pick, pick-yes, pick-no, Is, is-true, is-false, look, clash, and-both}
 use Rattle.lists.specs.Members.{mem, all}
 use Rattle.lists.specs.Parts.{upTo}
@@ -25,7 +25,7 @@ use Rattle.prenex_form.specs.Names.{newName, newNames, copies, definitio
 use Rattle.prenex_form.specs.Levels.{blocksAt, levels, quantifierAt, levelQuantifier}
 use Rattle.prenex_form.specs.Matrix.{and, iff, implies, kept, renamed, firstNodes, bodyOf, equation, guard, constraint, further, constraints, wrap, levelNodes, nodesTo, prenexNodes}
 use Rattle.prenex_form.proofs.Cut.{cutNode, cut, valueAt, agree, guarded, holds, blockHolds, joined, matrixAt}
-use Rattle.prenex_form.proofs.Paths.{inner-lt, level-le-levels, blocksAt-lt, blocksAt-inner, level-nonempty, kept-positive, inner-block, body-named}
+use Rattle.prenex_form.proofs.Paths.{inner-lt, kept-le, kept-inner, level-le-levels, blocksAt-lt, blocksAt-inner, level-nonempty, kept-positive, inner-block, body-named}
 use Rattle.prenex_form.proofs.NameLaws.{length-newNames, length-copies}
 use Rattle.prenex_form.proofs.NodeLists.{listTable, Val, val-constant, val-variable, val-negation, val-operator, val-is, val-truth, Placed, placed-all, placed-left, placed-right, placed-at}
 
@@ -355,26 +355,6 @@ length-firstNodes t = length-each (λ i. renamed t i (t .node i)) (kept t)
 pub getD-firstNodes : (t : Table) (i : ℕ) → i < kept t → getD (firstNodes t) i (constant false) ≡ renamed t i (t .node i)
 unfolding firstNodes
 getD-firstNodes t i h = getD-each (λ i. renamed t i (t .node i)) (kept t) i (constant false) h
-
-pub kept-le : (t : Table) → kept t ≤ t .size
-unfolding kept
-kept-le t = omega arith
-
--- a root that is a block is not kept
-pub kept-root : (t : Table) (i : ℕ) → suc i ≡ t .size → isBlock (t .node i) ≡ true → kept t ≡ i
-unfolding kept
-kept-root t i h b =
-    let e : t .size - 1 ≡ i = omega arith in
-    let y : _≡_ {A = ℕ} (pick (isBlock (t .node (t .size - 1))) 1 0) 1 = rw e (pick-yes _ _ _ b) in omega arith
-
-kept-inner-by : (t : Table) (i : ℕ) → i < kept t → isBlock (t .node i) ≡ true → Is (eqb (suc i) (t .size)) → inner t i ≡ true
-unfolding inner
-kept-inner-by t i h b (is-true e) =
-    let k = kept-root t i (eqb-true _ _ e) b in absurd (omega arith)
-kept-inner-by t i h b (is-false e) = and-both _ _ b (ap not e)
-
-pub kept-inner : (t : Table) (i : ℕ) → i < kept t → isBlock (t .node i) ≡ true → inner t i ≡ true
-kept-inner t i h b = kept-inner-by t i h b (look (eqb (suc i) (t .size)))
 
 module _ (t : Table) (ms : List Node) (v : Valuation) (c : ℕ) where
   -- one node, given the values of those below it

@@ -14,6 +14,7 @@ use Rattle.formula.specs.Node.{isBlock}
 use Rattle.formula.specs.declared.NodeWords.{NodeWords}
 use Rattle.formula.specs.Words.{nodeCount, range, nodeAt, tableOf}
 use Rattle.formula.specs.Tree.{count, boundBelow}
+use Rattle.formula.proofs.Nodes.{block-kind}
 use Rattle.table_check.specs.Verdict.{limit, verdict, accepted}
 use Rattle.table_check.proofs.Accepted.{accepted-holds}
 use Rattle.prenex_form.specs.Scope.{inner, level}
@@ -24,7 +25,7 @@ use Rattle.arrays.proofs.Enclosing.{enclosing-le}
 use Rattle.arrays.proofs.Entries.{boundBelow-next, boundBelow-grows}
 use Rattle.scopes.specs.declared.Passed.{Passed}
 use Rattle.scopes.specs.Passes.{Cleared, LevelsFrom, MembersFrom, ChainedFrom}
-use Rattle.scopes.proofs.Nodes.{accepted-tree, nodes-few, ReadAt, kind-read, variable-read, plain-member, plain-highest, block-highest}
+use Rattle.scopes.proofs.Nodes.{accepted-tree, nodes-few, ReadAt, variable-read, plain-member, plain-highest, block-highest}
 use Rattle.scopes.proofs.Scopes.{level-small, outer-plain, outer-root, inner-rest}
 use Rattle.scopes.proofs.Counting.{from-here, count-read}
 use Rattle.scopes.proofs.Chains.{chains-start, chains-skip, chains-put, chains-end}
@@ -76,7 +77,7 @@ module _ (ws ls : List ℕ) (ok : verdict ws ls ≡ accepted) (i : ℕ) (h : i <
   -- a block's entries lie within the list, and there are no more than entries up to it
   module _ (w : NodeWords) (r : ReadAt ws i w) (e : isBlock (nodeAt ws ls i) ≡ true) where
     pub entries-within : w .a + w .b ≤ length ls
-    entries-within = omega (arith, r .1, r .2, accepted-holds ws ls ok .fits i h (kind-read ws ls i w r e))
+    entries-within = omega (arith, r .1, r .2, accepted-holds ws ls ok .fits i h (block-kind ws ls i e))
 
     start-before : boundBelow (tableOf ws ls) (i + 1) ≡ boundBelow (tableOf ws ls) i + w .b
     start-before = rw (add-one, count-read ws ls ok i h w r e) (boundBelow-next (tableOf ws ls) i)

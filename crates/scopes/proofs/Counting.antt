@@ -15,6 +15,7 @@ use Rattle.formula.specs.Node.{Table, isBlock, bound}
 use Rattle.formula.specs.declared.NodeWords.{NodeWords}
 use Rattle.formula.specs.Words.{nodeCount, nodeAt, tableOf}
 use Rattle.formula.specs.Tree.{Tree, count, boundBelow}
+use Rattle.formula.proofs.Nodes.{block-kind}
 use Rattle.table_check.specs.Verdict.{limit, countAt, verdict, accepted}
 use Rattle.table_check.proofs.Accepted.{accepted-holds, count-at}
 use Rattle.prenex_form.specs.Scope.{parent, inner, level}
@@ -26,7 +27,7 @@ use Rattle.prenex_form.proofs.Paths.{parent-lt, parent-higher, level-root, leve
 use Rattle.prenex_form.proofs.NameLaws.{none-bound, innerBound-le}
 use Rattle.scopes.specs.declared.Counts.{Counts}
 use Rattle.scopes.specs.Passes.{withRoot, withInner, Small, CountsFrom, BlockCounts}
-use Rattle.scopes.proofs.Nodes.{accepted-tree, nodes-few, ReadAt, kind-read}
+use Rattle.scopes.proofs.Nodes.{accepted-tree, nodes-few, ReadAt}
 use Rattle.scopes.proofs.Scopes.{outer-plain, outer-root, inner-rest}
 
 -- sums over the nodes below i
@@ -163,7 +164,7 @@ module _ (t : Table) where
 module _ (ws ls : List ℕ) (ok : verdict ws ls ≡ accepted) (i : ℕ) (h : i < nodeCount ws) where
   pub count-read : (w : NodeWords) → ReadAt ws i w → isBlock (nodeAt ws ls i) ≡ true → w .b ≡ count (tableOf ws ls) i
   unfolding countAt
-  count-read w r e = r .2 ∙ sym (count-at ws ls i (λ b. accepted-holds ws ls ok .fits i h b) ∙ pick-yes _ _ _ (kind-read ws ls i w r e))
+  count-read w r e = r .2 ∙ sym (count-at ws ls i (λ b. accepted-holds ws ls ok .fits i h b) ∙ pick-yes _ _ _ (block-kind ws ls i e))
 
   module _ (c : Counts) (s : CountsFrom (tableOf ws ls) (i + 1) c) where
     pub plain-counted : isBlock (nodeAt ws ls i) ≡ false → CountsFrom (tableOf ws ls) i c

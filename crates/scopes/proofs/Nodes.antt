@@ -1,42 +1,21 @@
 -- Blocks, operands, members and numbers of a table, from the words of its nodes.
 -- Assumes nothing.
 use mathlib.Core.Path.{_≡_, refl, sym, _∙_, ap}
-use mathlib.Core.Bool.{true, false, _||_}
+use mathlib.Core.Bool.{true, false}
 use mathlib.Core.List.{List, [], _∷_}
 use Prim.Native.Nat.{ℕ, _<_, _≤_}
 use native.Mathlib.Omega.{arith}
-use lib.Dec.{eqb}
 use Rattle.lists.specs.Choice.{pick, clash}
 use Rattle.lists.specs.Members.{mem}
 use Rattle.formula.specs.Node.{Node, constant, variable, negation, operator, block, operands, isBlock}
 use Rattle.formula.specs.declared.NodeWords.{NodeWords}
-use Rattle.formula.specs.Words.{nodeCount, field, range, nodeOf, nodeAt, tableOf}
+use Rattle.formula.specs.Words.{nodeCount, field, range, nodeOf, nodeAt, tableOf, isBlockKind}
 use Rattle.formula.specs.Tree.{Tree}
-use Rattle.formula.proofs.Nodes.{Kind, kind-of, kind-constant, kind-variable, kind-negation, kind-operator, kind-exists, kind-for-all, kind-none, node-variable}
-use Rattle.table_check.specs.Verdict.{limit, isBlockKind, verdict, accepted}
+use Rattle.formula.proofs.Nodes.{Kind, kind-of, kind-constant, kind-variable, kind-negation, kind-operator, kind-exists, kind-for-all, kind-none, node-variable, is-block, node-block}
+use Rattle.table_check.specs.Verdict.{limit, verdict, accepted}
 use Rattle.table_check.proofs.Accepted.{accepted-holds}
 use Rattle.prenex_form.specs.Names.{maximum, highestAt}
 use Rattle.arrays.specs.Held.{isMember}
-
-block-by : (ls : List ℕ) (kind a b c : ℕ) → Kind kind → isBlock (nodeOf ls kind a b c) ≡ (eqb kind 5 || eqb kind 6)
-unfolding nodeOf pick isBlock
-block-by ls kind a b c (kind-constant e) = rw e
-block-by ls kind a b c (kind-variable e) = rw e
-block-by ls kind a b c (kind-negation e) = rw e
-block-by ls kind a b c (kind-operator e) = rw e
-block-by ls kind a b c (kind-exists e) = rw e
-block-by ls kind a b c (kind-for-all e) = rw e
-block-by ls kind a b c (kind-none e1 e2 e3 e4 e5 e6) = rw (e1, e2, e3, e4, e5, e6)
-
-body-by : (ls : List ℕ) (kind a b c : ℕ) → Kind kind → isBlock (nodeOf ls kind a b c) ≡ true → operands (nodeOf ls kind a b c) ≡ c ∷ []
-unfolding nodeOf pick isBlock operands
-body-by ls kind a b c (kind-constant e) h = clash h (rw e)
-body-by ls kind a b c (kind-variable e) h = clash h (rw e)
-body-by ls kind a b c (kind-negation e) h = clash h (rw e)
-body-by ls kind a b c (kind-operator e) h = clash h (rw e)
-body-by ls kind a b c (kind-exists e) h = rw e
-body-by ls kind a b c (kind-for-all e) h = rw e
-body-by ls kind a b c (kind-none e1 e2 e3 e4 e5 e6) h = clash h (rw (e1, e2, e3, e4, e5, e6))
 
 none-by : (ls : List ℕ) (kind a b c : ℕ) → Kind kind → (kind ≡ 3 → ⊥) → (kind ≡ 4 → ⊥) → isBlock (nodeOf ls kind a b c) ≡ false
     → operands (nodeOf ls kind a b c) ≡ []
@@ -59,16 +38,6 @@ plain-by ls kind a b c (kind-exists e) n h = clash (rw e) h
 plain-by ls kind a b c (kind-for-all e) n h = clash (rw e) h
 plain-by ls kind a b c (kind-none e1 e2 e3 e4 e5 e6) n h = rw (e1, e2, e3, e4, e5, e6)
 
-highest-by : (ls : List ℕ) (kind a b c : ℕ) → Kind kind → isBlock (nodeOf ls kind a b c) ≡ true → highestAt (nodeOf ls kind a b c) ≡ maximum (range ls a b)
-unfolding nodeOf pick isBlock highestAt
-highest-by ls kind a b c (kind-constant e) h = clash h (rw e)
-highest-by ls kind a b c (kind-variable e) h = clash h (rw e)
-highest-by ls kind a b c (kind-negation e) h = clash h (rw e)
-highest-by ls kind a b c (kind-operator e) h = clash h (rw e)
-highest-by ls kind a b c (kind-exists e) h = rw e
-highest-by ls kind a b c (kind-for-all e) h = rw e
-highest-by ls kind a b c (kind-none e1 e2 e3 e4 e5 e6) h = clash h (rw (e1, e2, e3, e4, e5, e6))
-
 pub plain-highest : (nd : Node) → isMember nd ≡ false → highestAt nd ≡ 0
 unfolding isMember highestAt
 plain-highest (constant b) h = refl
@@ -82,17 +51,12 @@ abbrev pub ReadAt : List ℕ → ℕ → NodeWords → Type 0
 ReadAt ws i n = (n .kind ≡ field ws i 0) × (n .a ≡ field ws i 1) × (n .b ≡ field ws i 2) × (n .c ≡ field ws i 3)
 
 module _ (ws ls : List ℕ) (i : ℕ) (n : NodeWords) (r : ReadAt ws i n) where
-  pub block-read : (eqb (n .kind) 5 || eqb (n .kind) 6) ≡ isBlock (nodeAt ws ls i)
-  unfolding nodeAt
-  block-read = rw (r .0) (sym (block-by ls (field ws i 0) (field ws i 1) (field ws i 2) (field ws i 3) (kind-of (field ws i 0))))
-
-  pub kind-read : isBlock (nodeAt ws ls i) ≡ true → isBlockKind (field ws i 0) ≡ true
-  unfolding isBlockKind
-  kind-read e = rw (r .0) at (block-read ∙ e)
+  pub block-read : isBlockKind (n .kind) ≡ isBlock (nodeAt ws ls i)
+  block-read = ap isBlockKind (r .0) ∙ sym (is-block ws ls i)
 
   -- a kind that is no block's
-  pub plain-read : (k : ℕ) → n .kind ≡ k → (eqb k 5 || eqb k 6) ≡ false → isBlock (nodeAt ws ls i) ≡ false
-  plain-read k e f = sym block-read ∙ ap (λ j. eqb j 5 || eqb j 6) e ∙ f
+  pub plain-read : (k : ℕ) → n .kind ≡ k → isBlockKind k ≡ false → isBlock (nodeAt ws ls i) ≡ false
+  plain-read k e f = sym block-read ∙ ap isBlockKind e ∙ f
 
   pub negation-read : n .kind ≡ 3 → operands (nodeAt ws ls i) ≡ n .a ∷ []
   unfolding nodeAt nodeOf pick operands
@@ -103,8 +67,8 @@ module _ (ws ls : List ℕ) (i : ℕ) (n : NodeWords) (r : ReadAt ws i n) where
   operator-read e = let k : field ws i 0 ≡ 4 = sym (r .0) ∙ e in rw (k, r .2, r .3)
 
   pub body-read : isBlock (nodeAt ws ls i) ≡ true → operands (nodeAt ws ls i) ≡ n .c ∷ []
-  unfolding nodeAt
-  body-read h = rw (r .3) (body-by ls (field ws i 0) (field ws i 1) (field ws i 2) (field ws i 3) (kind-of (field ws i 0)) h)
+  unfolding operands
+  body-read h = rw (r .3) (ap operands (node-block ws ls i h))
 
   pub none-read : (n .kind ≡ 3 → ⊥) → (n .kind ≡ 4 → ⊥) → isBlock (nodeAt ws ls i) ≡ false → operands (nodeAt ws ls i) ≡ []
   unfolding nodeAt
@@ -123,8 +87,8 @@ module _ (ws ls : List ℕ) (i : ℕ) (n : NodeWords) (r : ReadAt ws i n) where
   plain-member p e = plain-by ls (field ws i 0) (field ws i 1) (field ws i 2) (field ws i 3) (kind-of (field ws i 0)) (λ k. p (r .0 ∙ k)) e
 
   pub block-highest : isBlock (nodeAt ws ls i) ≡ true → highestAt (nodeAt ws ls i) ≡ maximum (range ls (n .a) (n .b))
-  unfolding nodeAt
-  block-highest e = rw (r .1, r .2) (highest-by ls (field ws i 0) (field ws i 1) (field ws i 2) (field ws i 3) (kind-of (field ws i 0)) e)
+  unfolding highestAt
+  block-highest e = rw (r .1, r .2) (ap highestAt (node-block ws ls i e))
 
 module _ (ws ls : List ℕ) (ok : verdict ws ls ≡ accepted) where
   pub accepted-tree : Tree (tableOf ws ls)

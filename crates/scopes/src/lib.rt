@@ -3,7 +3,7 @@
 ghost use mathlib.Core.Bool.{true};
 ghost use mathlib.Core.List.{[], _∷_};
 ghost use mathlib.Core.Path.{_≡_};
-ghost use Prim.Native.Nat.{ℕ, suc, _+_, _*_, _<_, _≤_, max};
+ghost use Prim.Native.Nat.{suc, _+_, _*_, _<_, _≤_, max};
 ghost use lib.Dec.{eqb};
 ghost use lib.ListN.{length, getD, set};
 ghost use Rattle.lists.specs.Choice.{pick};
@@ -34,8 +34,6 @@ ghost use Rattle.scopes.specs.Passes.{
   CountsFrom,
   BlockCounts,
 };
-use formula::EXISTS_BLOCK;
-use formula::FOR_ALL_BLOCK;
 use formula::NEGATION;
 use formula::OPERATOR;
 use formula::VARIABLE;
@@ -46,14 +44,6 @@ const NODES_PER_VARIABLE: u32 = 4;
 const NODES_PER_BLOCK: u32 = 5;
 
 const NODES_PER_EMPTY_BLOCK: u32 = 3;
-
-fn is_block(words: &[u32], list: &[u32], i: usize) -> bool
-    requires { ⌜ i < nodeCount (now words) ⌝ }
-    ensures { λ r. ⌜ r ≡ isBlock (nodeAt (now (words .entry)) (now (list .entry)) i) ⌝ }
-{
-    let node = formula::node_at(words, i);
-    (node.kind == EXISTS_BLOCK) | (node.kind == FOR_ALL_BLOCK)
-}
 
 fn larger(a: u32, b: u32) -> u32
     ensures { λ r. ⌜ r ≡ max a b ⌝ }
@@ -129,7 +119,7 @@ fn fill_node(
         hand_down(parents, levels, node.a, block, level);
         return counts;
     }
-    if is_block(words, list, i) {
+    if formula::is_block_kind(node.kind) {
         return fill_block(words, list, parents, levels, counts, i);
     }
     counts
@@ -375,7 +365,7 @@ fn chain_node(
         chain_member(words, list, parents, member_firsts, member_nexts, i);
         return with_number(passed, node.a);
     }
-    if !is_block(words, list, i) {
+    if !formula::is_block_kind(node.kind) {
         return passed;
     }
     chain_member(words, list, parents, member_firsts, member_nexts, i);

@@ -16,12 +16,12 @@ use Rattle.lists.proofs.Search.{lowest-holds, lowest-before}
 use Rattle.lists.proofs.Members.{all-mem, all-intro}
 use Rattle.lists.proofs.Parts.{sum-cong, sum-grows}
 use Rattle.formula.specs.Node.{operands, bound}
-use Rattle.formula.specs.Words.{width, nodeCount, field, range, nodeOf, nodeAt, tableOf}
+use Rattle.formula.specs.Words.{width, nodeCount, isBlockKind, field, range, nodeOf, nodeAt, tableOf}
 use Rattle.formula.specs.Tree.{timesNamed, count, boundBelow}
 use Rattle.formula.proofs.Nodes.{Kind, kind-of, kind-constant, kind-variable, kind-negation, kind-operator, kind-exists, kind-for-all, kind-none}
-use Rattle.table_check.specs.Verdict.{limit, isNumber, isBlockKind, partialNode, tooLarge, wellFormed, forwardReference, rangePastEnd, countAt, tooManyVariables, badVariable, nodeFault, notNamedOnce, refusal, accepted, verdict}
+use Rattle.table_check.specs.Verdict.{limit, isNumber, partialNode, tooLarge, wellFormed, forwardReference, rangePastEnd, countAt, tooManyVariables, badVariable, nodeFault, notNamedOnce, refusal, accepted, verdict}
 use Rattle.table_check.specs.Accepted.{Accepted}
-use Rattle.table_check.proofs.Faults.{few-nodes}
+use Rattle.table_check.proofs.Faults.{few-nodes, count-block, count-none}
 
 -- The tests of a node's words, said of the node that they make.
 
@@ -292,24 +292,20 @@ module _ (ws ls : List ℕ) (i : ℕ) where
 -- The sum of counts stays within the limit where no block brings it over.
 module _ (ws : List ℕ) where
   few-next : (i : ℕ) → Is (isBlockKind (field ws i 0)) → tooManyVariables ws i ≡ false → sum (countAt ws) i ≤ limit → sum (countAt ws) i + countAt ws i ≤ limit
-  unfolding tooManyVariables countAt
-  few-next i (is-true b) t s = rw (pick-yes _ _ _ b) (ltb-false _ _ (and-when _ _ t b))
-  few-next i (is-false b) t s = rw (pick-no _ _ _ b) (omega arith)
+  unfolding tooManyVariables
+  few-next i (is-true b) t s = rw (count-block ws i b) (ltb-false _ _ (and-when _ _ t b))
+  few-next i (is-false b) t s = rw (count-none ws i b) (omega arith)
 
   few-sum : (n : ℕ) → ((i : ℕ) → i < n → tooManyVariables ws i ≡ false) → sum (countAt ws) n ≤ limit
   unfolding sum
   few-sum zero h = omega arith
   few-sum (suc n) h = few-next n (look (isBlockKind (field ws n 0))) (h n (omega arith)) (few-sum n (λ i l. h i (omega arith)))
 
-  count-block : (i : ℕ) → isBlockKind (field ws i 0) ≡ true → countAt ws i ≡ field ws i 2
-  unfolding countAt
-  count-block i b = pick-yes _ _ _ b
-
   sum-few : (i n : ℕ) → i < n → sum (countAt ws) n ≤ limit → tooManyVariables ws i ≡ false
   unfolding tooManyVariables sum
   sum-few i n l h =
       let g = sum-grows (countAt ws) (suc i) n l in
-      and-not (isBlockKind (field ws i 0)) _ (λ b. le-ltb limit (sum (countAt ws) i + field ws i 2) (omega (arith, count-block i b)))
+      and-not (isBlockKind (field ws i 0)) _ (λ b. le-ltb limit (sum (countAt ws) i + field ws i 2) (omega (arith, count-block ws i b)))
 
 module _ (ws ls : List ℕ) where
   pub counts-below : (n : ℕ) → ((i : ℕ) → i < n → Fits ws ls i) → boundBelow (tableOf ws ls) n ≡ sum (countAt ws) n

@@ -11,11 +11,10 @@ use lib.ListN.{length, getD, set, replicate, length-set, length-replicate}
 use borrow.Author.Tests.{eqb-true, eqb-false, ltb-true, ltb-false}
 use Rattle.lists.specs.Choice.{Is, is-true, is-false, look, clash}
 use Rattle.lists.specs.Members.{mem}
-use Rattle.lists.proofs.Stores.{set-cases}
+use Rattle.lists.proofs.Stores.{set-cases, getD-filled}
 use Rattle.formula.specs.Words.{range}
 use Rattle.table_check.specs.Verdict.{limit, isNumber}
 use Rattle.table_check.specs.Steps.{buckets, Latest, Linked, Earlier, Chains, Chain, isNew}
-use Rattle.table_check.proofs.Arrays.{getD-zeros}
 use Rattle.table_check.proofs.Ranges.{range-has, range-from, range-not}
 
 -- What holds of a walk that has come from `head` down to c.
@@ -89,7 +88,7 @@ earlier-new =
     record {
       heads-wide = length-replicate {A = ℕ} buckets 0;
       prevs-wide = length-replicate {A = ℕ} limit 0;
-      low = λ h. rw (getD-zeros buckets h) (omega arith);
+      low = λ h. rw (getD-filled {A = ℕ} buckets h 0) (omega arith);
     }
 
 -- The chains of the blocks before hold none of a block's entries, ..

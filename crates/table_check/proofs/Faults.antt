@@ -14,8 +14,8 @@ use Rattle.lists.specs.Choice.{pick, pick-yes, pick-no, Is, is-true, is-false, 
 use Rattle.lists.specs.Search.{lowest}
 use Rattle.lists.specs.Parts.{sum}
 use Rattle.lists.proofs.Search.{lowest-holds, lowest-before, lowest-is, lowest-none}
-use Rattle.formula.specs.Words.{width, nodeCount, field}
-use Rattle.table_check.specs.Verdict.{limit, isNumber, isBlockKind, partialNode, tooLarge, wellFormed, forwardReference, rangePastEnd, countAt, tooManyVariables, badVariable, nodeFault, refusal, accepted, verdict}
+use Rattle.formula.specs.Words.{width, nodeCount, isBlockKind, field}
+use Rattle.table_check.specs.Verdict.{limit, isNumber, partialNode, tooLarge, wellFormed, forwardReference, rangePastEnd, countAt, tooManyVariables, badVariable, nodeFault, refusal, accepted, verdict}
 use Rattle.table_check.specs.Steps.{goodRange, wordsFault, blockFault, blockNodeFault, nodesVerdict, treeVerdict}
 use Rattle.table_check.specs.declared.Verdict.{Verdict}
 use Rattle.table_check.proofs.Named.{block-elim, not-once-is}
@@ -26,11 +26,12 @@ unfolding pick
 clear true n rest l e = absurd (omega arith)
 clear false n rest l e = (refl, e)
 
+-- how many variables a node binds, by its kind
 pub count-block : (ws : List ℕ) (i : ℕ) → isBlockKind (field ws i 0) ≡ true → countAt ws i ≡ field ws i 2
 unfolding countAt
 count-block ws i k = pick-yes _ _ _ k
 
-count-none : (ws : List ℕ) (i : ℕ) → isBlockKind (field ws i 0) ≡ false → countAt ws i ≡ 0
+pub count-none : (ws : List ℕ) (i : ℕ) → isBlockKind (field ws i 0) ≡ false → countAt ws i ≡ 0
 unfolding countAt
 count-none ws i k = pick-no _ _ _ k
 

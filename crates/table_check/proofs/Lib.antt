@@ -1,5 +1,4 @@
 pub mod Accepted
-pub mod Arrays
 pub mod Chains
 pub mod Faults
 pub mod Named

@@ -15,14 +15,13 @@ use Rattle.lists.specs.Members.{times}
 use Rattle.lists.specs.Parts.{sum}
 use Rattle.lists.proofs.Search.{lowest-cong}
 use Rattle.lists.proofs.Parts.{sum-cong, pick-le}
-use Rattle.lists.proofs.Stores.{set-cases}
+use Rattle.lists.proofs.Stores.{set-cases, getD-filled}
 use Rattle.formula.specs.Node.{operands}
-use Rattle.formula.specs.Words.{nodeCount, field, nodeOf, nodeAt, tableOf}
+use Rattle.formula.specs.Words.{nodeCount, isBlockKind, field, nodeOf, nodeAt, tableOf}
 use Rattle.formula.specs.Tree.{timesNamed}
 use Rattle.formula.proofs.Nodes.{Kind, kind-of, kind-constant, kind-variable, kind-negation, kind-operator, kind-exists, kind-for-all, kind-none}
-use Rattle.table_check.specs.Verdict.{limit, isBlockKind, notNamedOnce, refusal, accepted}
+use Rattle.table_check.specs.Verdict.{limit, notNamedOnce, refusal, accepted}
 use Rattle.table_check.specs.Steps.{namedBy, namedBelow, Counted, Room, treeVerdict}
-use Rattle.table_check.proofs.Arrays.{getD-zeros}
 
 -- a block's kind is one of two
 pub block-elim : (P : ℕ → Type 0) (kind : ℕ) → isBlockKind kind ≡ true → P 5 → P 6 → P kind
@@ -102,7 +101,7 @@ name-more named x h y =
 
 pub counted-new : (ws : List ℕ) → Counted ws (replicate {A = ℕ} limit 0) 0
 counted-new ws =
-    record { wide = length-replicate {A = ℕ} limit 0; counts = λ x. getD-zeros limit x ∙ sym (named-none ws x) }
+    record { wide = length-replicate {A = ℕ} limit 0; counts = λ x. getD-filled limit x 0 ∙ sym (named-none ws x) }
 
 -- no node is named more than twice by each node
 pub counted-room : (ws named : List ℕ) (i : ℕ) → i ≤ limit → Counted ws named i → Room named i

@@ -10,6 +10,7 @@ use Rattle.lists.specs.Search.{lowest}
 use Rattle.lists.specs.Members.{all, distinct}
 use Rattle.lists.specs.Parts.{sum}
 use Rattle.formula.specs.Words.{width, nodeCount, field, range, tableOf}
+unfoldable pub use Rattle.formula.specs.Words.{isBlockKind}
 use Rattle.formula.specs.Tree.{timesNamed}
 use Rattle.table_check.specs.declared.Verdict.{Verdict}
 
@@ -20,9 +21,6 @@ limit = 4096
 -- "its number, 1 to 65,535"
 unfoldable pub isNumber : ℕ → Bool
 isNumber x = leb 1 x && leb x 65535
-
-unfoldable pub isBlockKind : ℕ → Bool
-isBlockKind kind = eqb kind 5 || eqb kind 6
 
 -- Refusal 1, PartialNode (document 01: ragged): "no words, or not a multiple of four".
 unfoldable pub partialNode : List ℕ → Bool

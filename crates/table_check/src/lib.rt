@@ -12,7 +12,6 @@ ghost use Rattle.formula.specs.Words.{nodeCount, range};
 ghost use Rattle.table_check.specs.Verdict.{
   limit,
   isNumber,
-  isBlockKind,
   partialNode,
   tooLarge,
   countAt,
@@ -184,7 +183,7 @@ fn node_fault(
     if node.kind == formula::OPERATOR {
         return operator_fault(i, node.a, node.b, node.c, named);
     }
-    if is_block_kind(node.kind) {
+    if formula::is_block_kind(node.kind) {
         let fault = block_node_fault(list, heads, prevs, named, i, *before, node);
         *before += node.b as usize;
         return fault;
@@ -275,12 +274,6 @@ fn is_number(x: u32) -> bool
     ensures { λ r. ⌜ r ≡ isNumber x ⌝ }
 {
     (1 <= x) & (x <= HIGHEST_VARIABLE)
-}
-
-fn is_block_kind(kind: u32) -> bool
-    ensures { λ r. ⌜ r ≡ isBlockKind kind ⌝ }
-{
-    (kind == formula::EXISTS_BLOCK) | (kind == formula::FOR_ALL_BLOCK)
 }
 
 // The first of refusals 5 to 7 that applies to a block. The nodes below it bind `before` variables. No entry of a range

@@ -1,7 +1,8 @@
+-- `formula::node_at` meets its contract: each word is read where it stands.
+-- Assumes nothing.
 use native.Mathlib.Nat.{add-zero}
 use mathlib.Core.Path.{refl}
 use Rattle.formula.specs.Words.{field}
-use native.Mathlib.Omega.{arith}
 use borrow.Author.Needs.{needs}
 use Rattle.formula.proofs.node_at.Statement.{statement}
 use Rattle.formula.proofs.node_at.Tie as tie

@@ -1,6 +1,5 @@
 -- `free_variables::count_one` meets its contract: one more where the flag is set.
 -- Assumes nothing.
-use Prim.Native.Nat.{_-_}
 use Prim.Native.Nat.{ℕ}
 use native.Mathlib.Omega.{arith}
 use borrow.Author.Needs.{needs}

@@ -1,7 +1,6 @@
 -- `free_variables::list_accepted` meets its contract: what is flagged in the end are the free variables.
 -- Assumes nothing.
 use mathlib.Core.Path.{refl, _∙_, ap}
-use Prim.Native.Nat.{_-_}
 use borrow.Author.Needs.{needs}
 use Rattle.free_variables.specs.Steps.{listing}
 use Rattle.free_variables.proofs.Flags.{marked-none, unmarked-none, numbered, flagged-free}

@@ -1,6 +1,5 @@
 -- `free_variables::list_flagged` meets its contract: too little room, or all flagged numbers written.
 -- Assumes nothing.
-use Prim.Native.Nat.{_-_}
 use native.Mathlib.Omega.{arith}
 use borrow.Author.Needs.{needs}
 use Rattle.free_variables.proofs.Listing.{listing-short, listing-done}

@@ -1,7 +1,6 @@
 -- `free_variables::mark_node` meets its contract: the node is no variable, or its number is marked and `end` is above it.
 -- Assumes nothing.
 use mathlib.Core.Path.{sym, _∙_}
-use Prim.Native.Nat.{_-_}
 use native.Mathlib.Omega.{arith}
 use borrow.Author.Needs.{needs}
 use Rattle.free_variables.proofs.Flags.{marked-other, marked-variable}

@@ -1,27 +1,33 @@
 -- `free_variables::unmark_node` meets its contract: the node is no block, or the numbers of its range are unmarked.
 -- Assumes nothing.
-use Prim.Native.Nat.{_-_}
+use mathlib.Core.Path.{sym, _∙_}
 use native.Mathlib.Omega.{arith}
 use borrow.Author.Needs.{needs}
-use Rattle.free_variables.proofs.Flags.{no-block, is-block, unmarked-other, unmarked-block, range-numbered}
+use borrow.Author.Tests.{not-true, not-false}
+use Rattle.free_variables.proofs.Flags.{unmarked-other, unmarked-block, range-numbered}
 use Rattle.free_variables.proofs.unmark_node.Statement.{statement}
 use Rattle.free_variables.proofs.unmark_node.Tie as tie
 
 node-at-requires : tie.Need-node-at-requires
 node-at-requires c κs = search needs
 
+is-block-kind-requires : tie.Need-is-block-kind-requires
+is-block-kind-requires c κs = search needs
+
 returns : tie.Need-returns
 returns c =
-    let e = c .before .before .before .node-at .ensures in
-    unmarked-other _ _ _ _ (c .before .before .before .before .before .before .before .pre .1 .1) (rw (e .0) at (no-block (c .before .before .before .node-at .result .kind) (c .if1 .taken)))
+    let e = c .before .before .node-at .ensures in
+    let k = c .before .is-block-kind .ensures in
+    unmarked-other _ _ _ _ (c .before .before .before .before .before .before .pre .1 .1) (rw (e .0) at (sym k ∙ not-true _ (c .if1 .taken)))
 
 unmark-range-requires : tie.Need-unmark-range-requires
 unmark-range-requires c κs =
-    let start = c .before .before .before .before .before .before .before .before in
-    let e = c .before .before .before .before .node-at .ensures in
+    let start = c .before .before .before .before .before .before .before in
+    let e = c .before .before .before .node-at .ensures in
+    let k = c .before .before .is-block-kind .ensures in
     let a = start .args in
     let t = start .pre in
-    let b = rw (e .0) at (is-block (c .before .before .before .before .node-at .result .kind) (c .before .if1 .left)) in
+    let b = rw (e .0) at (sym k ∙ not-false _ (c .before .if1 .left)) in
     let w = t .1 .1 .wide in
     (omega (arith, e .1, e .2, t .0 .fits (a .i) (t .1 .0) b), λ x m. omega (arith, range-numbered (a .words .now) (a .list .now) (t .0) (a .i) (t .1 .0) b x (rw (e .1, e .2) at m)))
 
@@ -30,10 +36,11 @@ same-length c = search needs
 
 returns-2 : tie.Need-returns-2
 returns-2 c =
-    let e = c .before .before .before .before .before .before .before .node-at .ensures in
-    let b = rw (e .0) at (is-block (c .before .before .before .before .before .before .before .node-at .result .kind) (c .before .before .before .before .if1 .left)) in
-    unmarked-block _ _ _ _ (c .before .before .before .before .before .before .before .before .before .before .before .pre .1 .1) b _ (c .before .before .unmark-range .kept .1 .0) (λ x. rw (e .1, e .2) at (c .before .before .unmark-range .ensures x))
+    let e = c .before .before .before .before .before .before .node-at .ensures in
+    let k = c .before .before .before .before .before .is-block-kind .ensures in
+    let b = rw (e .0) at (sym k ∙ not-false _ (c .before .before .before .before .if1 .left)) in
+    unmarked-block _ _ _ _ (c .before .before .before .before .before .before .before .before .before .before .pre .1 .1) b _ (c .before .before .unmark-range .kept .1 .0) (λ x. rw (e .1, e .2) at (c .before .before .unmark-range .ensures x))
 
 pub unmark-node-spec : {M : Type 1} → statement M
 unmark-node-spec =
-    tie.close (tie.spec node-at-requires returns unmark-range-requires same-length returns-2)
+    tie.close (tie.spec node-at-requires is-block-kind-requires returns unmark-range-requires same-length returns-2)

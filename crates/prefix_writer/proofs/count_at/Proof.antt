@@ -2,24 +2,31 @@
 -- Assumes nothing.
 use mathlib.Core.Path.{_∙_, sym, ap}
 use borrow.Author.Needs.{needs}
-use Rattle.table_check.specs.Verdict.{isBlockKind}
-use Rattle.prefix_writer.proofs.Words.{count-block, count-none}
+use Rattle.formula.specs.Words.{isBlockKind}
+use Rattle.table_check.proofs.Faults.{count-block, count-none}
 use Rattle.prefix_writer.proofs.count_at.Statement.{statement}
 use Rattle.prefix_writer.proofs.count_at.Tie as tie
 
 node-at-requires : tie.Need-node-at-requires
 node-at-requires c κs = search needs
 
+is-block-kind-requires : tie.Need-is-block-kind-requires
+is-block-kind-requires c κs = search needs
+
 cast-result : tie.Need-cast-result
 cast-result c = search needs
 
 returns : tie.Need-returns
-unfolding isBlockKind
-returns c = let node = c .before .before .before .before .node-at .ensures in node .2 ∙ count-block _ _ (ap isBlockKind (sym (node .0)) ∙ c .before .if1 .taken)
+returns c =
+    let node = c .before .before .before .node-at .ensures in
+    let k = c .before .before .is-block-kind .ensures in
+    node .2 ∙ sym (count-block _ _ (ap isBlockKind (sym (node .0)) ∙ sym k ∙ c .before .if1 .taken))
 
 returns-2 : tie.Need-returns-2
-unfolding isBlockKind
-returns-2 c = let node = c .before .before .before .node-at .ensures in count-none _ _ (ap isBlockKind (sym (node .0)) ∙ c .if1 .left)
+returns-2 c =
+    let node = c .before .before .node-at .ensures in
+    let k = c .before .is-block-kind .ensures in
+    sym (count-none _ _ (ap isBlockKind (sym (node .0)) ∙ sym k ∙ c .if1 .left))
 
 pub count-at-spec : {M : Type 1} → statement M
-count-at-spec = tie.close (tie.spec node-at-requires cast-result returns returns-2)
+count-at-spec = tie.close (tie.spec node-at-requires is-block-kind-requires cast-result returns returns-2)

@@ -2,8 +2,6 @@
 -- Assumes nothing.
 use mathlib.Core.Path.{refl}
 use Rattle.prenex.specs.Outcome.{done as doneOf}
-use borrow.Author.Needs.{needs}
-use native.Mathlib.Omega.{arith}
 use Rattle.prenex.proofs.done.Statement.{statement}
 use Rattle.prenex.proofs.done.Tie as tie
 

@@ -1,12 +1,11 @@
 -- `prenex::find_bindings` meets its contract.
 -- Assumes nothing.
 use mathlib.Core.Path.{refl, _∙_}
-use Rattle.table_check.proofs.Arrays.{getD-zeros}
+use Rattle.lists.proofs.Stores.{getD-filled}
 use Rattle.prefix_writer.specs.Held.{Started, Chained}
 use Rattle.scopes.specs.Passes.{Cleared}
 use Rattle.binders.specs.Walk.{Scopes}
 use Rattle.prenex.specs.Arrays.{Bound}
-use native.Mathlib.Omega.{arith}
 use borrow.Author.Needs.{needs}
 use Rattle.prenex.proofs.find_bindings.Statement.{statement}
 use Rattle.prenex.proofs.find_bindings.Tie as tie
@@ -30,7 +29,7 @@ chain-nodes-requires c κs =
       member-nexts-length = refl;
       starts-length = z .starts-length;
       level-firsts-clear = z .firsts-clear;
-      member-firsts-clear = λ k. getD-zeros 4097 k;
+      member-firsts-clear = λ k. getD-filled 4097 k 0;
     } in
     (p .0, (p .1 .0, (p .1 .1 .0, a)))
 

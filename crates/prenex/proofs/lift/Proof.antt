@@ -2,7 +2,6 @@
 -- Assumes nothing.
 use Rattle.prenex.proofs.Answers.{accepted-by, lifted-refused}
 use Rattle.prenex.proofs.Form.{form-left}
-use native.Mathlib.Omega.{arith}
 use borrow.Author.Needs.{needs}
 use Rattle.prenex.proofs.lift.Statement.{statement}
 use Rattle.prenex.proofs.lift.Tie as tie

@@ -1,7 +1,6 @@
 -- `prenex::measure` meets its contract.
 -- Assumes nothing.
 use Rattle.prenex.proofs.Answers.{accepted-by, measured-refused, measured-done}
-use native.Mathlib.Omega.{arith}
 use borrow.Author.Needs.{needs}
 use Rattle.prenex.proofs.measure.Statement.{statement}
 use Rattle.prenex.proofs.measure.Tie as tie

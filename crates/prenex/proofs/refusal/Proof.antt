@@ -2,8 +2,6 @@
 -- Assumes nothing.
 use mathlib.Core.Path.{refl}
 use Rattle.prenex.specs.Outcome.{refusal as refusalOf, noSizes}
-use borrow.Author.Needs.{needs}
-use native.Mathlib.Omega.{arith}
 use Rattle.prenex.proofs.refusal.Statement.{statement}
 use Rattle.prenex.proofs.refusal.Tie as tie
 

@@ -15,15 +15,22 @@ sub-node-at c = omega (arith, count-some _ _ (c .before .before .pre))
 node-at-requires : tie.Need-node-at-requires
 node-at-requires c κs = omega (arith, count-some _ _ (c .before .before .pre))
 
+is-block-kind-requires : tie.Need-is-block-kind-requires
+is-block-kind-requires c κs = search needs
+
 returns : tie.Need-returns
 returns c =
-    let s = c .before .before .before .before .before .before in
-    sym (pick-yes _ 1 0 (sym (block-read (s .args .words .now) (s .args .list .now) _ (c .before .before .before .node-at .result) (c .before .before .before .node-at .ensures)) ∙ c .if1 .taken))
+    let s = c .before .before .before .before .before in
+    let n = c .before .before .node-at in
+    let k = c .before .is-block-kind .ensures in
+    sym (pick-yes _ 1 0 (sym (k ∙ block-read (s .args .words .now) (s .args .list .now) _ (n .result) (n .ensures)) ∙ c .if1 .taken))
 
 returns-2 : tie.Need-returns-2
 returns-2 c =
-    let s = c .before .before .before .before .before .before in
-    sym (pick-no _ 1 0 (sym (block-read (s .args .words .now) (s .args .list .now) _ (c .before .before .before .node-at .result) (c .before .before .before .node-at .ensures)) ∙ c .if1 .left))
+    let s = c .before .before .before .before .before in
+    let n = c .before .before .node-at in
+    let k = c .before .is-block-kind .ensures in
+    sym (pick-no _ 1 0 (sym (k ∙ block-read (s .args .words .now) (s .args .list .now) _ (n .result) (n .ensures)) ∙ c .if1 .left))
 
 pub root-blocks-spec : {M : Type 1} → statement M
-root-blocks-spec = tie.close (tie.spec sub-node-at node-at-requires returns returns-2)
+root-blocks-spec = tie.close (tie.spec sub-node-at node-at-requires is-block-kind-requires returns returns-2)

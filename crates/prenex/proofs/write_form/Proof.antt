@@ -1,9 +1,8 @@
 -- `prenex::write_form` meets its contract.
 -- Assumes nothing.
-use mathlib.Core.Path.{refl, _∙_}
-use Rattle.table_check.proofs.Arrays.{getD-zeros}
+use mathlib.Core.Path.{refl}
+use Rattle.lists.proofs.Stores.{getD-filled}
 use Rattle.prenex.specs.Arrays.{Blank}
-use native.Mathlib.Omega.{arith}
 use borrow.Author.Needs.{needs}
 use Rattle.prenex.proofs.write_form.Statement.{statement}
 use Rattle.prenex.proofs.write_form.Tie as tie
@@ -24,7 +23,7 @@ find-bindings-requires : tie.Need-find-bindings-requires
 find-bindings-requires c κs =
     let s = c .before .before .before .before .before .before .before .before .before .before .before .before in
     let p = s .pre in
-    let z : Blank _ _ _ = record { firsts-length = refl; nexts-length = refl; starts-length = refl; firsts-clear = λ l. getD-zeros 4096 l } in
+    let z : Blank _ _ _ = record { firsts-length = refl; nexts-length = refl; starts-length = refl; firsts-clear = λ l. getD-filled 4096 l 0 } in
     (p .0, (p .1 .0, (p .1 .1 .0 .bound-is, z)))
 
 slice-aggregate-write-named : tie.Need-slice-aggregate-write-named

@@ -1,6 +1,6 @@
 -- `prenex::write_named` meets its contract.
 -- Assumes nothing.
-use mathlib.Core.Path.{refl, ap, _∙_}
+use mathlib.Core.Path.{refl, ap}
 use lib.ListN.{length}
 use Rattle.formula.specs.Words.{tableOf}
 use Rattle.table_check.proofs.Accepted.{accepted-holds}
@@ -11,7 +11,6 @@ use Rattle.prenex_form.proofs.Limits.{bound-limit}
 use Rattle.first_nodes.specs.Given.{Bound, Counted}
 use Rattle.matrix_writer.specs.Added.{addedNodes}
 use Rattle.matrix_writer.specs.Arrays.{BlockArrays, ChainArrays}
-use Rattle.prenex.specs.Arrays.{Written}
 use Rattle.prenex.proofs.Matrix.{kept-is, first-room, added-room, whole}
 use Rattle.prenex.proofs.Measured.{root-le, count-some}
 use native.Mathlib.Omega.{arith}

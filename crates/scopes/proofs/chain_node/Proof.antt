@@ -4,7 +4,7 @@ use mathlib.Core.Path.{sym, _∙_}
 use native.Mathlib.Omega.{arith}
 use borrow.Author.Needs.{needs}
 use borrow.Author.Tests.{not-true, not-false}
-use Rattle.scopes.proofs.Nodes.{nodes-few, variable-member}
+use Rattle.scopes.proofs.Nodes.{nodes-few, variable-member, block-read}
 use Rattle.scopes.proofs.Chaining.{entries-within, start-fits, variable-passed, plain-passed, block-passed}
 use Rattle.scopes.proofs.chain_node.Statement.{statement}
 use Rattle.scopes.proofs.chain_node.Tie as tie
@@ -36,20 +36,20 @@ returns c =
     let m = c .before .before .before .before .before .chain-member in
     rw (c .with-number .ensures) (variable-passed (s .args .words .now) (s .args .list .now) (s .pre .0) (s .args .i) (s .pre .1 .0) _ _ _ _ _ _ (s .pre .1 .1 .1) _ _ (m .kept .1 .1 .1 .0) (m .kept .1 .1 .1 .1 .0) (m .ensures) _ (c .before .before .before .before .before .before .before .before .before .before .node-at .ensures) (c .before .before .before .before .before .before .before .before .if1 .taken))
 
-is-block-requires : tie.Need-is-block-requires
-is-block-requires c κs = search needs
+is-block-kind-requires : tie.Need-is-block-kind-requires
+is-block-kind-requires c κs = search needs
 
 returns-2 : tie.Need-returns-2
 returns-2 c =
     let s = c .before .before .before .before .before .before .before .before .before .before .before .before .before .before in
-    plain-passed (s .args .words .now) (s .args .list .now) (s .pre .0) (s .args .i) (s .pre .1 .0) _ _ _ _ _ _ (s .pre .1 .1 .1) _ (c .before .before .before .before .node-at .ensures) (c .before .before .if1 .left) (sym (c .before .is-block .ensures) ∙ not-true _ (c .if2 .taken))
+    plain-passed (s .args .words .now) (s .args .list .now) (s .pre .0) (s .args .i) (s .pre .1 .0) _ _ _ _ _ _ (s .pre .1 .1 .1) _ (c .before .before .before .before .node-at .ensures) (c .before .before .if1 .left) (sym (c .before .is-block-kind .ensures ∙ block-read (s .args .words .now) (s .args .list .now) (s .args .i) _ (c .before .before .before .before .node-at .ensures)) ∙ not-true _ (c .if2 .taken))
 
 chain-member-requires-2 : tie.Need-chain-member-requires-2
 chain-member-requires-2 c κs =
     let s = c .before .before .before .before .before .before .before .before .before .before .before .before .before .before .before .before in
     let g = s .pre .1 .1 .0 in
     let f = s .pre .1 .1 .1 in
-    let e = sym (c .before .before .before .is-block .ensures) ∙ not-false _ (c .before .before .if2 .left) in
+    let e = sym (c .before .before .before .is-block-kind .ensures ∙ block-read (s .args .words .now) (s .args .list .now) (s .args .i) _ (c .before .before .before .before .before .before .node-at .ensures)) ∙ not-false _ (c .before .before .if2 .left) in
     (s .pre .0, ((s .pre .1 .0, block-member _ e), ((g .parents-length, f .member-firsts-length, f .member-nexts-length), (g .parents-hold, f .members-linked))))
 
 chain-level-requires : tie.Need-chain-level-requires
@@ -57,7 +57,7 @@ chain-level-requires c κs =
     let s = c .before .before .before .before .before .before .before .before .before .before .before .before .before .before .before .before .before .before .before .before .before .before .before in
     let g = s .pre .1 .1 .0 in
     let f = s .pre .1 .1 .1 in
-    let e = sym (c .before .before .before .before .before .before .before .before .before .before .is-block .ensures) ∙ not-false _ (c .before .before .before .before .before .before .before .before .before .if2 .left) in
+    let e = sym (c .before .before .before .before .before .before .before .before .before .before .is-block-kind .ensures ∙ block-read (s .args .words .now) (s .args .list .now) (s .args .i) _ (c .before .before .before .before .before .before .before .before .before .before .before .before .before .node-at .ensures)) ∙ not-false _ (c .before .before .before .before .before .before .before .before .before .if2 .left) in
     (s .pre .0, ((s .pre .1 .0, e), ((g .levels-length, f .level-firsts-length, f .level-nexts-length), (g .levels-hold, f .levels-linked))))
 
 cast-before : tie.Need-cast-before
@@ -66,13 +66,13 @@ cast-before c = search needs
 sub-before : tie.Need-sub-before
 sub-before c =
     let s = c .before .before .before .before .before .before .before .before .before .before .before .before .before .before .before .before .before .before .before .before .before .before .before .before .before .before .before .before .before .before in
-    let e = sym (c .before .before .before .before .before .before .before .before .before .before .before .before .before .before .before .before .before .is-block .ensures) ∙ not-false _ (c .before .before .before .before .before .before .before .before .before .before .before .before .before .before .before .before .if2 .left) in
+    let e = sym (c .before .before .before .before .before .before .before .before .before .before .before .before .before .before .before .before .before .is-block-kind .ensures ∙ block-read (s .args .words .now) (s .args .list .now) (s .args .i) _ (c .before .before .before .before .before .before .before .before .before .before .before .before .before .before .before .before .before .before .before .before .node-at .ensures)) ∙ not-false _ (c .before .before .before .before .before .before .before .before .before .before .before .before .before .before .before .before .if2 .left) in
     start-fits (s .args .words .now) (s .args .list .now) (s .pre .0) (s .args .i) (s .pre .1 .0) _ _ _ _ _ _ (s .pre .1 .1 .1) _ (c .before .before .before .before .before .before .before .before .before .before .before .before .before .before .before .before .before .before .before .before .node-at .ensures) e .0
 
 cast-starts : tie.Need-cast-starts
 cast-starts c =
     let s = c .before .before .before .before .before .before .before .before .before .before .before .before .before .before .before .before .before .before .before .before .before .before .before .before .before .before .before .before .before .before in
-    let e = sym (c .before .before .before .before .before .before .before .before .before .before .before .before .before .before .before .before .before .is-block .ensures) ∙ not-false _ (c .before .before .before .before .before .before .before .before .before .before .before .before .before .before .before .before .if2 .left) in
+    let e = sym (c .before .before .before .before .before .before .before .before .before .before .before .before .before .before .before .before .before .is-block-kind .ensures ∙ block-read (s .args .words .now) (s .args .list .now) (s .args .i) _ (c .before .before .before .before .before .before .before .before .before .before .before .before .before .before .before .before .before .before .before .before .node-at .ensures)) ∙ not-false _ (c .before .before .before .before .before .before .before .before .before .before .before .before .before .before .before .before .if2 .left) in
     omega (arith, start-fits (s .args .words .now) (s .args .list .now) (s .pre .0) (s .args .i) (s .pre .1 .0) _ _ _ _ _ _ (s .pre .1 .1 .1) _ (c .before .before .before .before .before .before .before .before .before .before .before .before .before .before .before .before .before .before .before .before .node-at .ensures) e .1)
 
 mul-starts : tie.Need-mul-starts
@@ -94,7 +94,7 @@ cast-highest-entry-2 c = search needs
 highest-entry-requires : tie.Need-highest-entry-requires
 highest-entry-requires c κs =
     let s = c .before .before .before .before .before .before .before .before .before .before .before .before .before .before .before .before .before .before .before .before .before .before .before .before .before .before .before .before .before .before .before .before in
-    let e = sym (c .before .before .before .before .before .before .before .before .before .before .before .before .before .before .before .before .before .before .before .is-block .ensures) ∙ not-false _ (c .before .before .before .before .before .before .before .before .before .before .before .before .before .before .before .before .before .before .if2 .left) in
+    let e = sym (c .before .before .before .before .before .before .before .before .before .before .before .before .before .before .before .before .before .before .before .is-block-kind .ensures ∙ block-read (s .args .words .now) (s .args .list .now) (s .args .i) _ (c .before .before .before .before .before .before .before .before .before .before .before .before .before .before .before .before .before .before .before .before .before .before .node-at .ensures)) ∙ not-false _ (c .before .before .before .before .before .before .before .before .before .before .before .before .before .before .before .before .before .before .if2 .left) in
     entries-within (s .args .words .now) (s .args .list .now) (s .pre .0) (s .args .i) (s .pre .1 .0) _ (c .before .before .before .before .before .before .before .before .before .before .before .before .before .before .before .before .before .before .before .before .before .before .node-at .ensures) e
 
 larger-requires : tie.Need-larger-requires
@@ -120,7 +120,7 @@ returns-3 c =
     let s = c .before .before .before .before .before .before .before .before .before .before .before .before .before .before .before .before .before .before .before .before .before .before .before .before .before .before .before .before .before .before .before .before .before .before in
     let m = c .before .before .before .before .before .before .before .before .before .before .before .before .before .before .before .before .before .chain-member2 in
     let l = c .before .before .before .before .before .before .before .before .before .before .chain-level in
-    let e = sym (c .before .before .before .before .before .before .before .before .before .before .before .before .before .before .before .before .before .before .before .before .before .is-block .ensures) ∙ not-false _ (c .before .before .before .before .before .before .before .before .before .before .before .before .before .before .before .before .before .before .before .before .if2 .left) in
+    let e = sym (c .before .before .before .before .before .before .before .before .before .before .before .before .before .before .before .before .before .before .before .before .before .is-block-kind .ensures ∙ block-read (s .args .words .now) (s .args .list .now) (s .args .i) _ (c .before .before .before .before .before .before .before .before .before .before .before .before .before .before .before .before .before .before .before .before .before .before .before .before .node-at .ensures)) ∙ not-false _ (c .before .before .before .before .before .before .before .before .before .before .before .before .before .before .before .before .before .before .before .before .if2 .left) in
     rw (c .larger .ensures, c .before .highest-entry .ensures) (block-passed (s .args .words .now) (s .args .list .now) (s .pre .0) (s .args .i) (s .pre .1 .0) _ _ _ _ _ _ (s .pre .1 .1 .1) _ _ (m .kept .1 .1 .1 .0) (m .kept .1 .1 .1 .1 .0) (m .ensures) _ _ (l .kept .1 .1 .1 .0) (l .kept .1 .1 .1 .1 .0) (l .ensures) _ (c .before .before .before .before .before .before .before .before .before .before .before .before .before .before .before .before .before .before .before .before .before .before .before .before .node-at .ensures) e)
 
 pub chain-node-spec : {M : Type 1} → statement M
@@ -133,7 +133,7 @@ chain-node-spec =
     same-length
     same-length-2
     returns
-    is-block-requires
+    is-block-kind-requires
     returns-2
     chain-member-requires-2
     chain-level-requires

@@ -4,7 +4,8 @@ use mathlib.Core.Path.{refl, sym, _∙_}
 use native.Mathlib.Omega.{arith}
 use borrow.Author.Needs.{needs}
 use Rattle.lists.proofs.Members.{mem-head, mem-tail}
-use Rattle.scopes.proofs.Nodes.{nodes-few, operand-lt, plain-read, negation-read, operator-read, none-read}
+use Rattle.formula.specs.Words.{isBlockKind}
+use Rattle.scopes.proofs.Nodes.{nodes-few, operand-lt, plain-read, negation-read, operator-read, none-read, block-read}
 use Rattle.scopes.proofs.Stores.{stored-none, stored-both}
 use Rattle.scopes.proofs.Scopes.{plain-filled}
 use Rattle.scopes.proofs.Counting.{plain-counted}
@@ -48,6 +49,7 @@ same-length-2 : tie.Need-same-length-2
 same-length-2 c = search needs
 
 returns : tie.Need-returns
+unfolding isBlockKind
 returns c =
     let s = c .before .before .before .before .before .before .before .before .before .before .before .before .before .before .before .before .before .before .before .before .before .before .before in
     let d = c .before .before .before .before .before .before .before .before .before .before .before .hand-down .ensures in
@@ -71,6 +73,7 @@ same-length-4 : tie.Need-same-length-4
 same-length-4 c = search needs
 
 returns-2 : tie.Need-returns-2
+unfolding isBlockKind
 returns-2 c =
     let s = c .before .before .before .before .before .before .before .before .before .before .before .before .before .before .before .before .before .before in
     let d = c .before .before .before .before .hand-down3 .ensures in
@@ -79,13 +82,13 @@ returns-2 c =
     let p = plain-read (s .args .words .now) (s .args .list .now) (s .args .i) _ r 3 k refl in
     (plain-filled (s .args .words .now) (s .args .list .now) (s .pre .0) (s .args .i) (s .pre .1 .0) _ _ (s .pre .1 .1 .1 .0) _ _ _ (negation-read _ _ _ _ r k) p (d .0) (d .1), plain-counted (s .args .words .now) (s .args .list .now) (s .pre .0) (s .args .i) (s .pre .1 .0) _ (s .pre .1 .1 .1 .1) p)
 
-is-block-requires : tie.Need-is-block-requires
-is-block-requires c κs = search needs
+is-block-kind-requires : tie.Need-is-block-kind-requires
+is-block-kind-requires c κs = search needs
 
 fill-block-requires : tie.Need-fill-block-requires
 fill-block-requires c κs =
     let s = c .before .before .before .before .before .before .before .before .before .before .before .before .before .before .before in
-    let e = sym (c .before .before .before .is-block .ensures) ∙ c .before .before .if3 .taken in
+    let e = sym (c .before .before .before .is-block-kind .ensures ∙ block-read (s .args .words .now) (s .args .list .now) (s .args .i) _ (c .before .before .before .before .before .before .before .before .before .before .node-at .ensures)) ∙ c .before .before .if3 .taken in
     (s .pre .0, ((s .pre .1 .0, e), (s .pre .1 .1 .0, (s .pre .1 .1 .1 .0, s .pre .1 .1 .1 .1))))
 
 same-length-5 : tie.Need-same-length-5
@@ -101,7 +104,7 @@ returns-4 : tie.Need-returns-4
 returns-4 c =
     let s = c .before .before .before .before .before .before .before .before .before .before .before .before .before in
     let r = c .before .before .before .before .before .before .before .before .node-at .ensures in
-    let p = sym (c .before .is-block .ensures) ∙ c .if3 .left in
+    let p = sym (c .before .is-block-kind .ensures ∙ block-read (s .args .words .now) (s .args .list .now) (s .args .i) _ (c .before .before .before .before .before .before .before .before .node-at .ensures)) ∙ c .if3 .left in
     (plain-filled (s .args .words .now) (s .args .list .now) (s .pre .0) (s .args .i) (s .pre .1 .0) _ _ (s .pre .1 .1 .1 .0) _ _ _ (none-read _ _ _ _ r (c .before .before .if2 .left) (c .before .before .before .before .if1 .left) p) p (stored-none _ _) (stored-none _ _), plain-counted (s .args .words .now) (s .args .list .now) (s .pre .0) (s .args .i) (s .pre .1 .0) _ (s .pre .1 .1 .1 .1) p)
 
 pub fill-node-spec : {M : Type 1} → statement M
@@ -122,7 +125,7 @@ fill-node-spec =
     same-length-3
     same-length-4
     returns-2
-    is-block-requires
+    is-block-kind-requires
     fill-block-requires
     same-length-5
     same-length-6

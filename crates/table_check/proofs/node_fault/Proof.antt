@@ -3,11 +3,10 @@
 -- Assumes nothing.
 use mathlib.Core.Path.{refl, sym, _∙_, ap}
 use Prim.Native.Nat.{_+_}
-use Rattle.formula.specs.Words.{field}
+use Rattle.formula.specs.Words.{isBlockKind, field}
 use Rattle.lists.specs.Choice.{pick}
-use Rattle.table_check.specs.Verdict.{isBlockKind}
 use Rattle.table_check.specs.Steps.{namedBy}
-use Rattle.table_check.proofs.Faults.{count-block, fault-words, fault-block, fault-no-kind, binds-none}
+use Rattle.table_check.proofs.Faults.{fault-words, fault-block, fault-no-kind, binds-none, count-block}
 use Rattle.table_check.proofs.Named.{names-block, counted-room, counted-more, counted-still}
 use native.Mathlib.Omega.{arith}
 use borrow.Author.Needs.{needs}

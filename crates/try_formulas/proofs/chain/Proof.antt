@@ -1,10 +1,9 @@
 -- `try_formulas::chain` meets its contract. The loop keeps the length of the words.
 -- Assumes nothing.
-use lib.ListN.{length, length-set}
-use Prim.Native.Nat.{_≤_, _-_, _*_, _+_}
+use lib.ListN.{length}
+use Prim.Native.Nat.{_≤_, _-_, _*_}
 use mathlib.Core.Path.{_≡_}
 use borrow.Author.Needs.{needs}
-use native.Mathlib.Omega.{arith}
 use Rattle.try_formulas.proofs.chain.Statement.{statement}
 use Rattle.try_formulas.proofs.chain.Tie as tie
 

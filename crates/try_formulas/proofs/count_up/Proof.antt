@@ -1,7 +1,7 @@
 -- `try_formulas::count_up` meets its contract. The loop keeps the list's length.
 -- Assumes nothing.
 use lib.ListN.{length, length-set}
-use Prim.Native.Nat.{_≤_, _-_, _*_, _+_}
+use Prim.Native.Nat.{_≤_, _-_}
 use mathlib.Core.Path.{_≡_}
 use borrow.Author.Needs.{needs}
 use native.Mathlib.Omega.{arith}

@@ -2,7 +2,6 @@
 -- Assumes nothing.
 use lib.Seq.{length-take-le}
 use mathlib.Core.Path.{sym}
-use native.Mathlib.Omega.{arith}
 use borrow.Author.Needs.{needs}
 use Rattle.try_formulas.proofs.show_first.Statement.{statement}
 use Rattle.try_formulas.proofs.show_first.Tie as tie

@@ -3,7 +3,6 @@
 use Prim.Native.Nat.{_≤_, _-_}
 use lib.ListN.{length}
 use borrow.Author.Needs.{needs}
-use native.Mathlib.Omega.{arith}
 use Rattle.try_formulas.proofs.show_rows.Statement.{statement}
 use Rattle.try_formulas.proofs.show_rows.Tie as tie
 

@@ -2,8 +2,6 @@
 -- Assumes nothing.
 use mathlib.Core.Path.{refl}
 use Rattle.prenex.specs.Outcome.{answerWords}
-use borrow.Author.Needs.{needs}
-use native.Mathlib.Omega.{arith}
 use Rattle.wakubinryo.proofs.put_answer.Statement.{statement}
 use Rattle.wakubinryo.proofs.put_answer.Tie as tie
 

@@ -2,8 +2,6 @@
 -- Assumes nothing.
 use mathlib.Core.Path.{refl}
 use Rattle.wakubinryo.specs.Words.{listedWords}
-use borrow.Author.Needs.{needs}
-use native.Mathlib.Omega.{arith}
 use Rattle.wakubinryo.proofs.put_listed.Statement.{statement}
 use Rattle.wakubinryo.proofs.put_listed.Tie as tie
 

@@ -1,7 +1,6 @@
 -- `wakubinryo::wakubinryo_free_variables` meets its contract.
 -- Assumes nothing.
 use Rattle.wakubinryo.proofs.Answers.{listing-words}
-use native.Mathlib.Omega.{arith}
 use borrow.Author.Needs.{needs}
 use Rattle.wakubinryo.proofs.wakubinryo_free_variables.Statement.{statement}
 use Rattle.wakubinryo.proofs.wakubinryo_free_variables.Tie as tie

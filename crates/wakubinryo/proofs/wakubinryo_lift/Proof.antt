@@ -2,7 +2,6 @@
 -- Assumes nothing.
 use Rattle.formula.specs.Words.{tableOf}
 use Rattle.wakubinryo.proofs.Answers.{lift-words, form-words}
-use native.Mathlib.Omega.{arith}
 use borrow.Author.Needs.{needs}
 use Rattle.wakubinryo.proofs.wakubinryo_lift.Statement.{statement}
 use Rattle.wakubinryo.proofs.wakubinryo_lift.Tie as tie

@@ -2,7 +2,6 @@
 -- Assumes nothing.
 use mathlib.Core.Path.{_∙_, ap}
 use Rattle.prenex.specs.Outcome.{answerWords}
-use native.Mathlib.Omega.{arith}
 use borrow.Author.Needs.{needs}
 use Rattle.wakubinryo.proofs.wakubinryo_measure.Statement.{statement}
 use Rattle.wakubinryo.proofs.wakubinryo_measure.Tie as tie
