@@ -5,13 +5,15 @@ use mathlib.Core.List.{List}
 use mathlib.Core.Path.{_≡_}
 use Prim.Native.Nat.{ℕ, suc, _+_, _<_}
 use lib.Dec.{eqb, ltb}
-use lib.ListN.{getD}
+use lib.ListN.{length, getD}
 use Rattle.lists.specs.Choice.{pick}
 use Rattle.lists.specs.Search.{lowest}
 use Rattle.lists.specs.Members.{place}
 use Rattle.lists.specs.Parts.{upTo}
 use Rattle.formula.specs.Node.{Node, constant, variable, negation, operator, block, Table, isBlock, bound}
+use Rattle.formula.specs.Words.{tableOf}
 use Rattle.formula.specs.Tree.{boundBelow}
+use Rattle.table_check.specs.Verdict.{limit, verdict, accepted}
 use Rattle.prenex_form.specs.Scope.{above, binder, inner, level}
 use Rattle.prenex_form.specs.Names.{highestNumber, boundCount, definitionVariable}
 use Rattle.arrays.specs.Link.{Chains}
@@ -82,3 +84,29 @@ firstCopy t = highestNumber t + boundCount t + 1
 -- The definition variable of each inner block.
 pub record Definitions (t : Table) (definitions : List ℕ) : Type 0 where
   pub definition-is : (i : ℕ) → i < t .size → inner t i ≡ true → getD definitions i 0 ≡ definitionVariable t i
+
+-- The same of an accepted table, in arrays of 4,096 elements.
+
+-- An accepted table, and where each block's entries start.
+pub record Started (ws ls starts : List ℕ) : Type 0 where
+  pub checked : verdict ws ls ≡ accepted
+  pub started : Starts (tableOf ws ls) starts
+  pub starts-long : length starts ≡ limit
+
+-- The chains of its levels.
+pub record Chained (ws ls firsts nexts : List ℕ) : Type 0 where
+  pub chained : LevelChains (tableOf ws ls) firsts nexts
+  pub firsts-long : length firsts ≡ limit
+  pub nexts-long : length nexts ≡ limit
+
+-- Its first new name, its first copy and its definition variables.
+pub record Named (ws ls : List ℕ) (names copies : ℕ) (definitions : List ℕ) : Type 0 where
+  pub names-first : names ≡ firstNew (tableOf ws ls)
+  pub copies-first : copies ≡ firstCopy (tableOf ws ls)
+  pub defined : Definitions (tableOf ws ls) definitions
+  pub definitions-long : length definitions ≡ limit
+
+-- The entry that binds each of its variable nodes' numbers.
+pub record Bound (ws ls bindings : List ℕ) : Type 0 where
+  pub bindings-length : length bindings ≡ limit
+  pub bindings-hold : Bindings (tableOf ws ls) bindings

@@ -29,7 +29,7 @@ use Rattle.prenex_form.proofs.NodeLists.{length-words}
 use Rattle.prenex_form.proofs.Limits.{bound-limit, highest-limit}
 use Rattle.arrays.specs.Held.{boundEntry}
 use Rattle.arrays.proofs.Bound.{entry-free, entry-bound, entry-within}
-use Rattle.first_nodes.specs.Given.{Bound}
+use Rattle.first_nodes.specs.Given.{Given}
 
 -- The new name of a number, by the entry that binds it.
 module _ (t : Table) (proper : Proper t) (i x : ℕ) where
@@ -50,7 +50,7 @@ module _ (t : Table) (proper : Proper t) (i x : ℕ) where
       go (is-false l) = absurd (omega (arith, entry-free t proper i x (ltb-false (binder t i x) (t .size) l)))
 
 -- the new name as the code finds it: the number itself, or its entry's name
-module _ {ws ls bindings : List ℕ} {names : ℕ} (b : Bound ws ls bindings names) (i x : ℕ) (inside : i < nodeCount ws)
+module _ {ws ls bindings : List ℕ} {names : ℕ} (b : Given ws ls bindings names) (i x : ℕ) (inside : i < nodeCount ws)
     (holds : nodeAt ws ls i ≡ variable x) where
   abbrev t : Table
   t = tableOf ws ls
@@ -60,7 +60,7 @@ module _ {ws ls bindings : List ℕ} {names : ℕ} (b : Bound ws ls bindings nam
 
   entry-is : getD bindings i 0 ≡ boundEntry t i x
   unfolding tableOf
-  entry-is = b .bindings-hold .binding-is i x inside holds
+  entry-is = b .entries-bound .bindings-hold .binding-is i x inside holds
 
   pub keeps-number : getD bindings i 0 ≡ 0 → x ≡ newName t i x
   keeps-number z = sym (name-free t proper i x (sym entry-is ∙ z))

@@ -10,14 +10,13 @@ use Rattle.formula.specs.Words.{tableOf}
 use Rattle.table_check.specs.Verdict.{limit, verdict, accepted}
 use Rattle.prenex_form.specs.Scope.{inner}
 use Rattle.prenex_form.specs.Names.{highestNumber, boundCount, innerBoundBelow, innerBelow, definitionVariable}
-use Rattle.arrays.specs.Held.{Bindings, firstNew}
+use Rattle.arrays.specs.Held.{firstNew, Bound}
 use Rattle.names.specs.declared.NameCounter.{NameCounter}
 
 -- An accepted table, the entry that binds each variable node's number, and the first of the new names.
-pub record Bound (ws ls bindings : List ℕ) (names : ℕ) : Type 0 where
+pub record Given (ws ls bindings : List ℕ) (names : ℕ) : Type 0 where
   pub accepts : verdict ws ls ≡ accepted
-  pub bindings-length : length bindings ≡ limit
-  pub bindings-hold : Bindings (tableOf ws ls) bindings
+  pub entries-bound : Bound ws ls bindings
   pub names-first : names ≡ firstNew (tableOf ws ls)
 
 -- The next free number where the inner blocks below node i have their definition variables, and the array has room for all.

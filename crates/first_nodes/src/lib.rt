@@ -10,7 +10,7 @@ ghost use Rattle.formula.specs.Words.{width, nodeCount, nodeAt, tableOf};
 ghost use Rattle.prenex_form.specs.Names.{newName};
 ghost use Rattle.prenex_form.specs.Matrix.{kept, renamed, firstNodes, nodeWords};
 ghost use Rattle.arrays.specs.Held.{Definitions};
-ghost use Rattle.first_nodes.specs.Given.{Bound, Counted, DefinedBelow};
+ghost use Rattle.first_nodes.specs.Given.{Given, Counted, DefinedBelow};
 use formula::EXISTS_BLOCK;
 use formula::VARIABLE;
 use names::NameCounter;
@@ -27,7 +27,7 @@ pub fn write_first(
     counter: NameCounter,
     count: usize,
 ) -> NameCounter
-    requires { ⌜ Bound (now words) (now list) (now bindings) names ⌝ }
+    requires { ⌜ Given (now words) (now list) (now bindings) names ⌝ }
     requires { ⌜ Counted (now words) (now list) 0 (now definitions) counter ⌝ }
     requires { ⌜ count ≡ kept (tableOf (now words) (now list)) ⌝ ∗ ⌜ width * count ≤ length (now nodes) ⌝ }
     ensures { λ r. ⌜ now (nodes .exit) ≡ overwrite (now (nodes .entry)) 0 (flatMap nodeWords (firstNodes (tableOf (now (words .entry)) (now (list .entry))))) ⌝ }
@@ -54,7 +54,7 @@ fn write_node(
     counter: NameCounter,
     i: usize,
 ) -> NameCounter
-    requires { ⌜ Bound (now words) (now list) (now bindings) names ⌝ }
+    requires { ⌜ Given (now words) (now list) (now bindings) names ⌝ }
     requires { ⌜ Counted (now words) (now list) i (now definitions) counter ⌝ ∗ ⌜ DefinedBelow (tableOf (now words) (now list)) i (now definitions) ⌝ }
     requires { ⌜ i < kept (tableOf (now words) (now list)) ⌝ ∗ ⌜ width * i + width ≤ length (now nodes) ⌝ }
     ensures { λ r. ⌜ now (nodes .exit) ≡ overwrite (now (nodes .entry)) (width * i) (nodeWords (renamed (tableOf (now (words .entry)) (now (list .entry))) i (nodeAt (now (words .entry)) (now (list .entry)) i))) ⌝ }
@@ -79,7 +79,7 @@ fn write_node(
 
 // The new name of the number x at variable node i.
 fn new_name(words: &[u32], list: &[u32], bindings: &[u16], names: u32, i: usize, x: u32) -> u32
-    requires { ⌜ Bound (now words) (now list) (now bindings) names ⌝ }
+    requires { ⌜ Given (now words) (now list) (now bindings) names ⌝ }
     requires { ⌜ i < nodeCount (now words) ⌝ ∗ ⌜ nodeAt (now words) (now list) i ≡ variable x ⌝ }
     ensures { λ r. ⌜ r ≡ newName (tableOf (now (words .entry)) (now (list .entry))) i x ⌝ }
 {

@@ -12,7 +12,7 @@ use lib.ListN.{length, getD, set, drop, replicate, length-set, length-drop, leng
 use lib.Seq.{take-suc, getD-drop}
 use borrow.Author.Tests.{eqb-true, ne-eqb, ltb-true, ltb-false, lt-ltb, le-ltb, leb-true}
 use Rattle.lists.specs.Choice.{pick, pick-yes, pick-no, Is, is-true, is-false, look, clash, and-left, and-right, absent}
-use Rattle.lists.specs.Search.{lowest}
+use Rattle.lists.specs.Search.{lowest, someBelow}
 use Rattle.lists.specs.Members.{mem}
 use Rattle.lists.specs.Parts.{upTo}
 use Rattle.lists.proofs.Search.{lowest-holds, lowest-cong}
@@ -29,7 +29,7 @@ use Rattle.prenex_form.specs.Names.{highestNumber}
 use Rattle.prenex_form.specs.FreeVariables.{standsAt, someNode, isFreeVariable, freeVariables}
 use Rattle.prenex_form.proofs.NameLaws.{variable-le}
 use Rattle.prenex_form.proofs.Limits.{highest-limit}
-use Rattle.free_variables.specs.Steps.{someBelow, variableBelow, boundBy, coveredBelow, Numbered, Marked, Unmarked, chosen, flagged}
+use Rattle.free_variables.specs.Steps.{variableBelow, boundBy, coveredBelow, Numbered, Marked, Unmarked, chosen, flagged}
 
 -- Some number below n passes a test.
 

@@ -21,14 +21,18 @@ unfoldable pub refused : ℕ → ℕ → List ℕ → Outcome
 refused number position names =
     record { answer = record { number = number; position = position; count = 0 }; names = names }
 
--- Refusals 1 to 8, then 9, BufferTooShort (document 01: no room): "an output buffer shorter than the size needed". If done, the
--- free variables stand at the buffer's start, and "words after the last one written keep their content".
+-- Refusal 9, BufferTooShort (document 01: no room): "an output buffer shorter than the size needed". If done, the free variables xs
+-- stand at the buffer's start, and "words after the last one written keep their content".
+unfoldable pub listing : List ℕ → List ℕ → Outcome
+listing names xs =
+    pick (ltb (length names) (length xs))
+    (refused 9 0 names)
+    (record { answer = record { number = 0; position = 0; count = length xs }; names = overwrite names 0 xs })
+
+-- Refusals 1 to 8, then 9.
 unfoldable pub listed : List ℕ → List ℕ → List ℕ → Outcome
 listed ws ls names =
     let v = verdict ws ls in
-    let xs = freeVariables (tableOf ws ls) in
     pick (eqb (v .number) 0)
-    (pick (ltb (length names) (length xs))
-    (refused 9 0 names)
-    (record { answer = record { number = 0; position = 0; count = length xs }; names = overwrite names 0 xs }))
+    (listing names (freeVariables (tableOf ws ls)))
     (refused (v .number) (v .position) names)

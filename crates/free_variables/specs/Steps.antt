@@ -4,18 +4,13 @@ use mathlib.Core.Bool.{Bool, true, false, not, _&&_}
 use mathlib.Core.List.{List, [], _∷_}
 use mathlib.Core.Path.{_≡_}
 use Prim.Native.Nat.{ℕ, _<_, _≤_}
-use lib.Dec.{eqb, ltb}
+use lib.Dec.{eqb}
 use lib.ListN.{length, getD}
 use Rattle.lists.specs.Choice.{pick}
-use Rattle.lists.specs.Search.{lowest}
+use Rattle.lists.specs.Search.{someBelow}
 use Rattle.lists.specs.Members.{mem}
-use Rattle.lists.specs.Parts.{upTo, overwrite}
+use Rattle.lists.specs.Parts.{upTo}
 use Rattle.formula.specs.Words.{nodeCount, field, range, isBlockKind}
-use Rattle.free_variables.specs.Outcome.{Outcome, refused}
-
--- Some number below n passes the test.
-unfoldable pub someBelow : (ℕ → Bool) → ℕ → Bool
-someBelow p n = ltb (lowest p n) n
 
 -- x stands at a variable node below node i.
 unfoldable pub variableBelow : List ℕ → ℕ → ℕ → Bool
@@ -52,10 +47,3 @@ chosen flag x = pick flag (x ∷ []) []
 -- The numbers below n whose flag is set, ascending.
 unfoldable pub flagged : List Bool → ℕ → List ℕ
 flagged flags n = upTo (λ x. chosen (getD flags x false) x) n
-
--- The answer and the buffer, where the free variables of an accepted table are xs.
-unfoldable pub listing : List ℕ → List ℕ → Outcome
-listing names xs =
-    pick (ltb (length names) (length xs))
-    (refused 9 0 names)
-    (record { answer = record { number = 0; position = 0; count = length xs }; names = overwrite names 0 xs })

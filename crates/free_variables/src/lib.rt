@@ -9,25 +9,20 @@ ghost use Rattle.lists.specs.Parts.{overwrite};
 ghost use Rattle.formula.specs.Words.{nodeCount, range, tableOf};
 ghost use Rattle.table_check.specs.Accepted.{Accepted};
 ghost use Rattle.prenex_form.specs.FreeVariables.{freeVariables};
-ghost use Rattle.free_variables.specs.Outcome.{Outcome, listed};
+ghost use Rattle.free_variables.specs.Outcome.{Outcome, listing, listed};
 ghost use Rattle.free_variables.specs.Steps.{
   Numbered,
   Marked,
   Unmarked,
   chosen,
   flagged,
-  listing,
 };
 use formula::VARIABLE;
+use table_check::ACCEPTED;
+use table_check::BUFFER_TOO_SHORT;
 
 // The length of an array that a variable's number is an index of.
 const NUMBERS: usize = 65536;
-
-// The number of a table that is not refused.
-const ACCEPTED: u32 = 0;
-
-// The number of a refusal for want of room (document 01: no room).
-const BUFFER_TOO_SHORT: u32 = 9;
 
 // Document 01's number of a refusal (0: done), its position, and how many names were written.
 pub struct Listed {

@@ -1,4 +1,4 @@
--- The lowest number that passes a test.
+-- The lowest number that passes a test, and whether there is one.
 -- Assumes nothing.
 use mathlib.Core.Bool.{Bool}
 use Prim.Native.Nat.{ℕ, zero, suc}
@@ -9,3 +9,7 @@ use Rattle.lists.specs.Choice.{pick}
 unfoldable pub lowest : (ℕ → Bool) → ℕ → ℕ
 lowest p zero = zero
 lowest p (suc n) = let m = lowest p n in pick (ltb m n) m (pick (p n) n (suc n))
+
+-- whether some number below n passes it
+unfoldable pub someBelow : (ℕ → Bool) → ℕ → Bool
+someBelow p n = ltb (lowest p n) n

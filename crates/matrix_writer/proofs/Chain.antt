@@ -18,11 +18,11 @@ use Rattle.prenex_form.specs.Scope.{parent, pathUp, path, inner, howMany, level
 use Rattle.prenex_form.specs.Levels.{blocksAt, levels}
 use Rattle.prenex_form.proofs.Paths.{level-nonempty}
 use Rattle.arrays.specs.Link.{link}
-use Rattle.arrays.specs.Held.{atLevel}
+use Rattle.arrays.specs.Held.{atLevel, Chained}
 use Rattle.arrays.proofs.Link.{link-some}
 use Rattle.arrays.proofs.Chains.{blocksFrom-all, blocksFrom-none}
 use Rattle.matrix_writer.specs.Chain.{InnerBlock}
-use Rattle.matrix_writer.specs.Arrays.{NextBlocks, ChainArrays}
+use Rattle.matrix_writer.specs.Arrays.{NextBlocks}
 
 -- node i is an inner block of level l
 pub record BlockOf (t : Table) (l i : ℕ) : Type 0 where
@@ -78,12 +78,12 @@ pub next-link : {ws ls nexts : List ℕ} {l b : ℕ} → NextBlocks ws ls nexts 
 next-link {ws} {ls} {nexts} {l} {b} n o =
     subst (λ k. getD nexts b 0 ≡ link (atLevel (tableOf ws ls) k) (suc b) (tableOf ws ls .size)) (o .level-is) (n .next-is b (o .block))
 
-pub next-blocks : {ws ls firsts nexts : List ℕ} → ChainArrays ws ls firsts nexts → NextBlocks ws ls nexts
-next-blocks held = record { next-is = λ i b. held .chains-hold .next-is i (b .below) (b .is-inner); long = held .nexts-long }
+pub next-blocks : {ws ls firsts nexts : List ℕ} → Chained ws ls firsts nexts → NextBlocks ws ls nexts
+next-blocks held = record { next-is = λ i b. held .chained .next-is i (b .below) (b .is-inner); long = omega (arith, held .nexts-long) }
 
-pub first-link : {ws ls firsts nexts : List ℕ} (j : ℕ) → ChainArrays ws ls firsts nexts → j < levels (tableOf ws ls)
+pub first-link : {ws ls firsts nexts : List ℕ} (j : ℕ) → Chained ws ls firsts nexts → j < levels (tableOf ws ls)
     → getD firsts (j + 1) 0 ≡ link (atLevel (tableOf ws ls) (suc j)) 0 (tableOf ws ls .size)
 first-link {ws} {ls} {firsts} {nexts} j held h =
     let t = tableOf ws ls in
     subst (λ l. getD firsts l 0 ≡ link (atLevel t (suc j)) 0 (t .size)) (sym (add-one j))
-    (held .chains-hold .first-is (suc j) (omega (arith, levels-le t)))
+    (held .chained .first-is (suc j) (omega (arith, levels-le t)))

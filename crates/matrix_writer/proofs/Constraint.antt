@@ -59,7 +59,7 @@ module _ (t : Table) (i s : ℕ) where
 module _ {ws ls starts : List ℕ} {names copies : ℕ} {definitions : List ℕ} {i : ℕ} (held : BlockArrays ws ls starts names copies definitions)
     (b : InnerBlock (tableOf ws ls) i) (s : ℕ) where
   ok : Accepted ws ls
-  ok = accepted-holds ws ls (held .is-accepted)
+  ok = accepted-holds ws ls (held .starts-held .checked)
 
   size-of : count (tableOf ws ls) i ≡ field ws i 2
   size-of = count-is ws ls ok i b
@@ -75,13 +75,13 @@ module _ {ws ls starts : List ℕ} {names copies : ℕ} {definitions : List ℕ}
   guardPart at = guardNodes at (getD definitions i 0) (guard (quantifierOf (field ws i 0))) (s + 1)
 
   definition-is : definitionPart ≡ defining (tableOf ws ls) i s
-  definition-is = rw (held .definitions-hold .definition-is i (b .below) (b .is-inner), body-is ws ls ok i b)
+  definition-is = rw (held .names-held .defined .definition-is i (b .below) (b .is-inner), body-is ws ls ok i b)
 
   equations-are : equationsPart ≡ upTo (equation (tableOf ws ls) i (s + 2)) (count (tableOf ws ls) i)
-  equations-are = rw (← size-of, held .names-first, held .copies-first) (entries-are ws ls ok i b (held .starts-hold) (s + 2))
+  equations-are = rw (← size-of, held .names-held .names-first, held .names-held .copies-first) (entries-are ws ls ok i b (held .starts-held .started) (s + 2))
 
   guard-is : guardPart (s + 2 + (4 * field ws i 2 - 1)) ≡ guarding (tableOf ws ls) i s
-  guard-is = rw (held .definitions-hold .definition-is i (b .below) (b .is-inner), quantifier-is ws ls i, size-of)
+  guard-is = rw (held .names-held .defined .definition-is i (b .below) (b .is-inner), quantifier-is ws ls i, size-of)
 
   constraint-empty : field ws i 2 ≡ 0 → constraint (tableOf ws ls) i s ≡ definitionPart
   constraint-empty h = constraint-none (tableOf ws ls) i s (size-of ∙ h) ∙ sym definition-is
@@ -140,14 +140,14 @@ block-facts {ws} {ls} {starts} {names} {copies} {definitions} {i} at held b =
     let a = ok held b at in
     let below : i < nodeCount ws = rw (size-is ws ls) at (b .below) in
     let last : getD starts i 0 + field ws i 2 ≤ boundCount (tableOf ws ls) =
-    omega (arith, entries-within ws ls a i b, size-of held b at, start-at ws ls a i b (held .starts-hold)) in
+    omega (arith, entries-within ws ls a i b, size-of held b at, start-at ws ls a i b (held .starts-held .started)) in
     let q : boundCount (tableOf ws ls) ≤ limit = bound-limit ws ls a in
     let h : highestNumber (tableOf ws ls) ≤ 65535 = highest-limit ws ls a in
     record {
       whole = omega (arith, a .whole);
       few = omega (arith, a .nodes-limit);
-      names-small = omega (arith, held .names-first);
-      copies-small = omega (arith, held .copies-first);
+      names-small = omega (arith, held .names-held .names-first);
+      copies-small = omega (arith, held .names-held .copies-first);
       shortest = length-shortest (tableOf ws ls) i at;
       full = length-constraint held b at;
     }

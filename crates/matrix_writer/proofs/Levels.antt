@@ -21,13 +21,12 @@ use Rattle.prenex_form.specs.Matrix.{and, implies, kept, constraint, further, c
 use Rattle.prenex_form.specs.Prefix.{kindOf}
 use Rattle.prenex_form.proofs.Alternation.{quantifier-read}
 use Rattle.arrays.specs.Link.{link}
-use Rattle.arrays.specs.Held.{atLevel}
+use Rattle.arrays.specs.Held.{atLevel, Chained}
 use Rattle.arrays.specs.Chains.{blocksFrom}
 use Rattle.arrays.proofs.Chains.{linked, linked-is, linked-next, blocksFrom-all, blocksFrom-some, on-chain}
 use Rattle.matrix_writer.specs.Added.{addedNodes}
 use Rattle.matrix_writer.specs.Buffer.{longestForm, withNodes, Room, Wrote}
 use Rattle.matrix_writer.specs.Chain.{nodesAfter, LevelKind}
-use Rattle.matrix_writer.specs.Arrays.{ChainArrays}
 use Rattle.matrix_writer.proofs.Added.{length-added, added-grows}
 use Rattle.matrix_writer.proofs.Buffer.{with-none, with-append, with-then, wrote, wrote-then}
 use Rattle.matrix_writer.proofs.Blocks.{quantifier-is}
@@ -160,7 +159,7 @@ pub record LevelFacts (ws ls firsts : List ℕ) (j at : ℕ) : Type 0 where
       ≡ length (constraint (tableOf ws ls) (getD firsts (j + 1) 0 - 1) at)
       + length (nodesAfter (tableOf ws ls) (getD firsts (j + 1) 0 - 1) (at + length (constraint (tableOf ws ls) (getD firsts (j + 1) 0 - 1) at))) + 1
 
-pub level-facts : {ws ls firsts nexts : List ℕ} {j kind : ℕ} (at : ℕ) → verdict ws ls ≡ accepted → ChainArrays ws ls firsts nexts
+pub level-facts : {ws ls firsts nexts : List ℕ} {j kind : ℕ} (at : ℕ) → verdict ws ls ≡ accepted → Chained ws ls firsts nexts
     → LevelKind (tableOf ws ls) j kind → LevelFacts ws ls firsts j at
 level-facts {ws} {ls} {firsts} {nexts} {j} at ok held k =
     let t = tableOf ws ls in

@@ -10,11 +10,12 @@ ghost use Rattle.formula.specs.Words.{width, tableOf};
 ghost use Rattle.formula.specs.Form.{quantifierOf};
 ghost use Rattle.prenex_form.specs.Levels.{levels};
 ghost use Rattle.prenex_form.specs.Matrix.{kept, guard, constraint, further, wrap, levelNodes, nodeWords};
+ghost use Rattle.arrays.specs.Held.{Chained};
 ghost use Rattle.matrix_writer.specs.Added.{addedNodes};
 ghost use Rattle.matrix_writer.specs.Buffer.{withNodes, Room, Wrote};
 ghost use Rattle.matrix_writer.specs.Entries.{entryNodes, entriesNodes, definitionNodes, guardNodes};
 ghost use Rattle.matrix_writer.specs.Chain.{InnerBlock, LevelKind, nodesAfter};
-ghost use Rattle.matrix_writer.specs.Arrays.{BlockArrays, NextBlocks, ChainArrays};
+ghost use Rattle.matrix_writer.specs.Arrays.{BlockArrays, NextBlocks};
 use formula::EXISTS_BLOCK;
 use formula::OPERATOR;
 use formula::VARIABLE;
@@ -244,7 +245,7 @@ fn write_level(
     at: u32,
 ) -> u32
     requires { ⌜ BlockArrays (now words) (now list) (now starts) names copies (now definitions) ⌝ }
-    requires { ⌜ ChainArrays (now words) (now list) (now firsts) (now nexts) ⌝ }
+    requires { ⌜ Chained (now words) (now list) (now firsts) (now nexts) ⌝ }
     requires { ⌜ LevelKind (tableOf (now words) (now list)) j kind ⌝ }
     requires { ⌜ 0 < at ⌝ }
     requires { ⌜ Room (now nodes) at (length (levelNodes (tableOf (now words) (now list)) j at)) ⌝ }
@@ -295,7 +296,7 @@ pub fn write_levels(
     deepest: usize,
 ) -> usize
     requires { ⌜ BlockArrays (now words) (now list) (now starts) names copies (now definitions) ⌝ }
-    requires { ⌜ ChainArrays (now words) (now list) (now firsts) (now nexts) ⌝ }
+    requires { ⌜ Chained (now words) (now list) (now firsts) (now nexts) ⌝ }
     requires { ⌜ first ≡ kept (tableOf (now words) (now list)) ⌝ }
     requires { ⌜ deepest ≡ levels (tableOf (now words) (now list)) ⌝ }
     requires { ⌜ Room (now nodes) first (length (addedNodes (tableOf (now words) (now list)) deepest)) ⌝ }

@@ -8,8 +8,8 @@ use lib.ListN.{length, getD, take, drop}
 use Rattle.lists.specs.Parts.{overwrite}
 use Rattle.formula.specs.Words.{nodeCount, tableOf}
 use Rattle.prenex_form.specs.Levels.{blocksAt}
+use Rattle.arrays.specs.Held.{Chained}
 use Rattle.arrays.proofs.Chains.{linked, OnChain, named-lt, first-on, first-linked, next-on, next-linked, linked-end}
-use Rattle.prefix_writer.specs.Held.{Chained}
 use Rattle.prefix_writer.proofs.Writing.{Left, left-start, left-room, left-step, left-end, tail-room, tail-back, flatMap-end, flatMap-next}
 
 -- The parts g of the blocks of level l before that which the link names are written, and end at index at.

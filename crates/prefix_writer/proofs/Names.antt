@@ -23,8 +23,9 @@ use Rattle.prenex_form.specs.Prefix.{leading, prefixBlock}
 use Rattle.prenex_form.proofs.Paths.{blocksAt-lt, blocksAt-inner}
 use Rattle.prenex_form.proofs.NameLaws.{innerBound-is, binds-block}
 use Rattle.prenex_form.proofs.Limits.{highest-limit, bound-limit}
+use Rattle.arrays.specs.Held.{Started, Named}
 use Rattle.arrays.proofs.Entries.{boundBelow-end}
-use Rattle.prefix_writer.specs.Held.{Started, Named, highestFirst, held, heldOwn, heldLeading}
+use Rattle.prefix_writer.specs.Held.{highestFirst, held, heldOwn, heldLeading}
 
 -- consecutive numbers from the same start; where there are none, the start is of no account
 numbers-cong : (a b count : ℕ) → (0 < count → a ≡ b) → numbers a count ≡ numbers b count

@@ -2,33 +2,12 @@
 -- 4,096 elements that hold its starts, its levels' chains and its definition variables.
 -- Assumes nothing.
 use mathlib.Core.List.{List, [], _∷_, _++_, flatMap}
-use mathlib.Core.Path.{_≡_}
 use Prim.Native.Nat.{ℕ, zero, suc, _+_, _-_}
-use lib.ListN.{length, getD}
+use lib.ListN.{getD}
 use Rattle.lists.specs.Parts.{numbers}
 use Rattle.formula.specs.Words.{nodeCount, tableOf}
-use Rattle.table_check.specs.Verdict.{limit, countAt, verdict, accepted}
+use Rattle.table_check.specs.Verdict.{limit, countAt}
 use Rattle.prenex_form.specs.Levels.{blocksAt}
-use Rattle.arrays.specs.Held.{Starts, LevelChains, firstNew, firstCopy, Definitions}
-
--- An accepted table, and where each block's entries start.
-pub record Started (ws ls starts : List ℕ) : Type 0 where
-  pub checked : verdict ws ls ≡ accepted
-  pub started : Starts (tableOf ws ls) starts
-  pub starts-long : length starts ≡ limit
-
--- The chains of its levels.
-pub record Chained (ws ls firsts nexts : List ℕ) : Type 0 where
-  pub chained : LevelChains (tableOf ws ls) firsts nexts
-  pub firsts-long : length firsts ≡ limit
-  pub nexts-long : length nexts ≡ limit
-
--- Its first new name, its first copy and its definition variables.
-pub record Named (ws ls : List ℕ) (names copies : ℕ) (definitions : List ℕ) : Type 0 where
-  pub names-first : names ≡ firstNew (tableOf ws ls)
-  pub copies-first : copies ≡ firstCopy (tableOf ws ls)
-  pub defined : Definitions (tableOf ws ls) definitions
-  pub definitions-long : length definitions ≡ limit
 
 -- No first new name and no first copy is higher: numbers go up to 65,535, and at most 4,096 variables are bound.
 abbrev pub highestFirst : ℕ

@@ -16,11 +16,8 @@ ghost use Rattle.prenex_form.specs.Prefix.{
   writtenPrefix,
   writtenVariables,
 };
-ghost use Rattle.arrays.specs.Held.{Starts, LevelChains, firstNew, firstCopy, Definitions};
+ghost use Rattle.arrays.specs.Held.{Starts, LevelChains, firstNew, firstCopy, Definitions, Started, Chained, Named};
 ghost use Rattle.prefix_writer.specs.Held.{
-  Started,
-  Chained,
-  Named,
   highestFirst,
   held,
   heldOwn,

@@ -3,25 +3,11 @@
 use mathlib.Core.List.{List}
 use mathlib.Core.Path.{_≡_}
 use Prim.Native.Nat.{ℕ, _≤_}
-use lib.ListN.{length, getD}
+use lib.ListN.{length}
 use Rattle.lists.specs.Parts.{overwrite}
 use Rattle.formula.specs.Words.{tableOf}
-use Rattle.table_check.specs.Verdict.{limit}
 use Rattle.prenex_form.specs.Matrix.{writtenNodes}
 use Rattle.prenex_form.specs.Prefix.{writtenPrefix, writtenVariables}
-use Rattle.arrays.specs.Held.{Bindings}
-
--- The arrays of the level chains and of the starts, before they are filled.
-pub record Blank (firsts nexts starts : List ℕ) : Type 0 where
-  pub firsts-length : length firsts ≡ limit
-  pub nexts-length : length nexts ≡ limit
-  pub starts-length : length starts ≡ limit
-  pub firsts-clear : (l : ℕ) → getD firsts l 0 ≡ 0
-
--- The entry that binds each variable node's number.
-pub record Bound (ws ls bindings : List ℕ) : Type 0 where
-  pub bindings-length : length bindings ≡ limit
-  pub bindings-hold : Bindings (tableOf ws ls) bindings
 
 -- There is room for all that is written.
 pub record Room (ws ls nodes prefix variables : List ℕ) : Type 0 where

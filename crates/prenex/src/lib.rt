@@ -7,27 +7,23 @@ ghost use Rattle.lists.specs.Choice.{pick};
 ghost use Rattle.formula.specs.Node.{isBlock};
 ghost use Rattle.formula.specs.Words.{width, nodeCount, nodeAt, tableOf};
 ghost use Rattle.formula.specs.Form.{prefixWidth};
-ghost use Rattle.table_check.specs.Verdict.{verdict, accepted};
+ghost use Rattle.table_check.specs.Verdict.{limit, verdict, accepted};
 ghost use Rattle.prenex_form.specs.Sizes.{sizes as sizesOf};
 ghost use Rattle.prenex_form.specs.Promise.{PrenexOf};
 ghost use Rattle.prenex_form.specs.Names.{highestNumber, boundCount};
-ghost use Rattle.scopes.specs.Passes.{Placed, BlockCounts};
-ghost use Rattle.prefix_writer.specs.Held.{Started, Chained};
-ghost use Rattle.prenex.specs.Arrays.{Blank, Bound, Room, Written};
+ghost use Rattle.arrays.specs.Held.{Started, Chained, Bound};
+ghost use Rattle.scopes.specs.Passes.{Placed, Blank, BlockCounts};
+ghost use Rattle.prenex.specs.Arrays.{Room, Written};
 ghost use Rattle.prenex.specs.Outcome.{refusal as refusalOf, done as doneOf, measured, after, lifted};
 use names::NameCounter;
 use prefix_writer::PREFIX_WIDTH;
 use prenex_form::Sizes;
 use scopes::Counts;
-
-// At most so many nodes, list entries and bound variables.
-const LIMIT: usize = 4096;
+use table_check::BUFFER_TOO_SHORT;
+use table_check::LIMIT;
 
 // One scope for each node, and that outside all blocks.
 const SCOPES: usize = 4097;
-
-// The number of the refusal for want of room (document 01: no room).
-const BUFFER_TOO_SHORT: u32 = 9;
 
 // Document 01's number of a refusal (0: done), its position, and the sizes.
 pub struct Answer {
@@ -351,7 +347,7 @@ fn root_blocks(words: &[u32], list: &[u32]) -> u32
 
 // A table without blocks has no prefix; any other has one block more than levels.
 fn prefix_count(blocks: u32, deepest: u32) -> u32
-    requires { ⌜ deepest ≤ 4096 ⌝ }
+    requires { ⌜ deepest ≤ limit ⌝ }
     ensures { λ r. ⌜ r ≡ pick (eqb blocks 0) 0 (deepest + 1) ⌝ }
 {
     if blocks == 0 {

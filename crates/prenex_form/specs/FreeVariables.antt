@@ -3,9 +3,9 @@
 use mathlib.Core.Bool.{Bool, false, not, _&&_}
 use mathlib.Core.List.{List, [], _∷_}
 use Prim.Native.Nat.{ℕ, suc}
-use lib.Dec.{eqb, ltb}
+use lib.Dec.{eqb}
 use Rattle.lists.specs.Choice.{pick}
-use Rattle.lists.specs.Search.{lowest}
+use Rattle.lists.specs.Search.{someBelow}
 use Rattle.lists.specs.Members.{mem}
 use Rattle.lists.specs.Parts.{upTo}
 use Rattle.formula.specs.Node.{Node, constant, variable, negation, operator, block, Table, bound}
@@ -21,7 +21,7 @@ standsAt x (block q xs a) = false
 
 -- Some node of the table passes the test.
 unfoldable pub someNode : Table → (Node → Bool) → Bool
-someNode t p = ltb (lowest (λ i. p (t .node i)) (t .size)) (t .size)
+someNode t p = someBelow (λ i. p (t .node i)) (t .size)
 
 -- "the numbers that stand at a variable node and in no block's stretch"
 unfoldable pub isFreeVariable : Table → ℕ → Bool

@@ -176,12 +176,12 @@ module _ (ws ls : List ℕ) (lfs lns mfs mns starts : List ℕ) where
   unfolding tableOf boundCount highestNumber
   passed-none q e c =
       record {
-        level-firsts-length = c .level-firsts-length;
-        level-nexts-length = c .level-nexts-length;
+        level-firsts-length = c .levels-blank .firsts-length;
+        level-nexts-length = c .levels-blank .nexts-length;
         member-firsts-length = c .member-firsts-length;
         member-nexts-length = c .member-nexts-length;
-        starts-length = c .starts-length;
-        levels-linked = chains-start (inner (tableOf ws ls)) (level (tableOf ws ls)) (nodeCount ws) lfs lns (c .level-firsts-clear);
+        starts-length = c .levels-blank .starts-length;
+        levels-linked = chains-start (inner (tableOf ws ls)) (level (tableOf ws ls)) (nodeCount ws) lfs lns (c .levels-blank .firsts-clear);
         members-linked = chains-start (λ j. isMember (nodeAt ws ls j)) (enclosing (tableOf ws ls)) (nodeCount ws) mfs mns (c .member-firsts-clear);
         start-is = λ j k l y. absurd (omega arith);
         start-here = e;

@@ -41,14 +41,18 @@ pub record Placed (ws ls parents levels : List ℕ) : Type 0 where
   pub parents-hold : Parents (tableOf ws ls) parents
   pub levels-hold : NodeLevels (tableOf ws ls) levels
 
--- The arrays that it fills: their lengths, and no node chained yet. There is one scope more than nodes, that outside all blocks.
+-- The arrays that it fills. Those of the level chains and of the starts: their lengths, and no block chained yet.
+pub record Blank (firsts nexts starts : List ℕ) : Type 0 where
+  pub firsts-length : length firsts ≡ limit
+  pub nexts-length : length nexts ≡ limit
+  pub starts-length : length starts ≡ limit
+  pub firsts-clear : (l : ℕ) → getD firsts l 0 ≡ 0
+
+-- Those, and the arrays of the member chains. There is one scope more than nodes, that outside all blocks.
 pub record Cleared (lfs lns mfs mns starts : List ℕ) : Type 0 where
-  pub level-firsts-length : length lfs ≡ limit
-  pub level-nexts-length : length lns ≡ limit
+  pub levels-blank : Blank lfs lns starts
   pub member-firsts-length : length mfs ≡ suc limit
   pub member-nexts-length : length mns ≡ limit
-  pub starts-length : length starts ≡ limit
-  pub level-firsts-clear : (k : ℕ) → getD lfs k 0 ≡ 0
   pub member-firsts-clear : (k : ℕ) → getD mfs k 0 ≡ 0
 
 -- The numbers from i up are chained by their keys.

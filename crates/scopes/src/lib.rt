@@ -221,7 +221,7 @@ fn highest_entry(list: &[u32], first: usize, count: usize) -> u32
 
 // Node i becomes the first with its key.
 fn put_first(firsts: &mut [u16], nexts: &mut [u16], key: usize, i: usize)
-    requires { ⌜ (key < length (now firsts)) × (i < length (now nexts)) × (i < 4096) ⌝ }
+    requires { ⌜ (key < length (now firsts)) × (i < length (now nexts)) × (i < limit) ⌝ }
     ensures { λ _. ⌜ now (firsts .exit) ≡ set (now (firsts .entry)) key (suc i) ⌝ }
     ensures { λ _. ⌜ now (nexts .exit) ≡ set (now (nexts .entry)) i (getD (now (firsts .entry)) key 0) ⌝ }
 {

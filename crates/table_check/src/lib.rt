@@ -37,7 +37,7 @@ ghost use Rattle.table_check.specs.Steps.{
 };
 
 // At most so many nodes, list entries, and variables bound by all blocks together.
-const LIMIT: usize = 4096;
+pub const LIMIT: usize = 4096;
 
 // Entries are chained by the remainders that their variables leave by this.
 const BUCKETS: usize = 1024;
@@ -46,7 +46,7 @@ const BUCKETS: usize = 1024;
 const HIGHEST_VARIABLE: u32 = 65535;
 
 // The number of a table that is not refused.
-const ACCEPTED: u32 = 0;
+pub const ACCEPTED: u32 = 0;
 
 // The numbers of the refusals, each with document 01's word for it.
 // ragged
@@ -65,6 +65,8 @@ const TOO_MANY_VARIABLES: u32 = 6;
 const BAD_VARIABLE: u32 = 7;
 // not a tree
 const NOT_A_TREE: u32 = 8;
+// no room, of an operation that writes to lent buffers
+pub const BUFFER_TOO_SHORT: u32 = 9;
 
 // Document 01's number of a refusal (0: accepted) and its position.
 pub struct Verdict {

@@ -13,7 +13,7 @@ mul-entry c = search needs
 shared-slice-read-entry : tie.Need-shared-slice-read-entry
 shared-slice-read-entry c =
     let p = c .before .pre in
-    omega (arith, accepted-holds _ _ (p .0 .accepts) .nodes-limit, p .0 .bindings-length, p .1 .0)
+    omega (arith, accepted-holds _ _ (p .0 .accepts) .nodes-limit, p .0 .entries-bound .bindings-length, p .1 .0)
 
 cast-entry : tie.Need-cast-entry
 cast-entry c = search (needs, c .shared-slice-known .given (c .before .args .i))

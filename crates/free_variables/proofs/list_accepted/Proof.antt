@@ -2,7 +2,7 @@
 -- Assumes nothing.
 use mathlib.Core.Path.{refl, _∙_, ap}
 use borrow.Author.Needs.{needs}
-use Rattle.free_variables.specs.Steps.{listing}
+use Rattle.free_variables.specs.Outcome.{listing}
 use Rattle.free_variables.proofs.Flags.{marked-none, unmarked-none, numbered, flagged-free}
 use Rattle.free_variables.proofs.list_accepted.Statement.{statement}
 use Rattle.free_variables.proofs.list_accepted.Tie as tie

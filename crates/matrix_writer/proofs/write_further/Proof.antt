@@ -33,10 +33,10 @@ here : (c : tie.In-loop Inv-loop μ-loop) → BlockOf (tableOf (entry c .args .w
 here c = c .before .loop .inv .block-at _ (at-block c)
 
 mul-link : tie.Need-mul-link Inv-loop μ-loop
-mul-link c = let s = c .before .before .before .before .before .before in omega (arith, table-few _ _ (s .pre .0 .is-accepted), s .pre)
+mul-link c = let s = c .before .before .before .before .before .before in omega (arith, table-few _ _ (s .pre .0 .starts-held .checked), s .pre)
 
 shared-slice-read-link : tie.Need-shared-slice-read-link Inv-loop μ-loop
-shared-slice-read-link c = let s = c .before .before .before .before .before .before .before in omega (arith, table-few _ _ (s .pre .0 .is-accepted), s .pre)
+shared-slice-read-link c = let s = c .before .before .before .before .before .before .before in omega (arith, table-few _ _ (s .pre .0 .starts-held .checked), s .pre)
 
 cast-link : tie.Need-cast-link Inv-loop μ-loop
 cast-link c = omega (arith, c .shared-slice-known6 .given (c .before .before .before .before .before .before .before .args .i))
@@ -57,12 +57,12 @@ write-next-requires c κs =
 
 mul-link-2 : tie.Need-mul-link-2 Inv-loop μ-loop
 mul-link-2 c =
-    let t = c .before .before .before .before in omega (arith, table-few _ _ (entry t .pre .0 .is-accepted), t .before .loop .inv .small)
+    let t = c .before .before .before .before in omega (arith, table-few _ _ (entry t .pre .0 .starts-held .checked), t .before .loop .inv .small)
 
 shared-slice-read-link-2 : tie.Need-shared-slice-read-link-2 Inv-loop μ-loop
 shared-slice-read-link-2 c =
     let t = c .before .before .before .before .before in
-    omega (arith, table-few _ _ (entry t .pre .0 .is-accepted), t .before .loop .inv .small, at-block t, entry t .pre .1 .0)
+    omega (arith, table-few _ _ (entry t .pre .0 .starts-held .checked), t .before .loop .inv .small, at-block t, entry t .pre .1 .0)
 
 cast-link-2 : tie.Need-cast-link-2 Inv-loop μ-loop
 cast-link-2 c = omega (arith, c .shared-slice-known7 .given (c .before .before .before .before .before .before .loop .link - 1))

@@ -21,7 +21,7 @@ written c = c .before .before .before .before
 
 -- what the arrays and the verdict say of the level
 known : (s : tie.Start) → LevelFacts (s .args .words .now) (s .args .list .now) (s .args .firsts .now) (s .args .j) (s .args .at)
-known s = level-facts (s .args .at) (s .pre .0 .is-accepted) (s .pre .1 .0) (s .pre .1 .1 .0)
+known s = level-facts (s .args .at) (s .pre .0 .starts-held .checked) (s .pre .1 .0) (s .pre .1 .1 .0)
 
 -- what is left after the further blocks is the wrap alone
 ended : (c : tie.After-write-further) → c .write-further .result + 1 ≡ entry (written c) .args .at + length (levelNodes (tableOf (entry (written c) .args .words .now) (entry (written c) .args .list .now)) (entry (written c) .args .j) (entry (written c) .args .at))

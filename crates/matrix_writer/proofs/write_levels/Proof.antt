@@ -20,10 +20,10 @@ abbrev entry : tie.In-loop Inv-loop μ-loop → tie.Start Inv-loop μ-loop
 entry c = c .before .before .before .before .before .before .before .before .before .before
 
 sub-node-at : tie.Need-sub-node-at Inv-loop μ-loop
-sub-node-at c = omega (arith, table-whole _ _ (c .before .before .before .before .before .before .before .pre .0 .is-accepted))
+sub-node-at c = omega (arith, table-whole _ _ (c .before .before .before .before .before .before .before .pre .0 .starts-held .checked))
 
 node-at-requires : tie.Need-node-at-requires Inv-loop μ-loop
-node-at-requires c κs = omega (arith, table-whole _ _ (c .before .before .before .before .before .before .before .pre .0 .is-accepted))
+node-at-requires c κs = omega (arith, table-whole _ _ (c .before .before .before .before .before .before .before .pre .0 .starts-held .checked))
 
 cast-next : tie.Need-cast-next Inv-loop μ-loop
 cast-next c = search needs
@@ -42,7 +42,7 @@ write-level-requires c κs =
         s .pre .1 .0,
         (
           record { below = omega (arith, t .loop-test .taken, p); quantifier-is = d .quantifier-is },
-          (omega (arith, kept-positive-of _ _ (s .pre .0 .is-accepted), d .wrote-added .next-is), level-room d _ _ (p .0) (p .1 .1) (t .loop-test .taken)),
+          (omega (arith, kept-positive-of _ _ (s .pre .0 .starts-held .checked), d .wrote-added .next-is), level-room d _ _ (p .0) (p .1 .1) (t .loop-test .taken)),
         ),
       ),
     )

@@ -2,10 +2,9 @@
 -- Assumes nothing.
 use mathlib.Core.Path.{refl, _∙_}
 use Rattle.lists.proofs.Stores.{getD-filled}
-use Rattle.prefix_writer.specs.Held.{Started, Chained}
+use Rattle.arrays.specs.Held.{Started, Chained, Bound}
 use Rattle.scopes.specs.Passes.{Cleared}
 use Rattle.binders.specs.Walk.{Scopes}
-use Rattle.prenex.specs.Arrays.{Bound}
 use borrow.Author.Needs.{needs}
 use Rattle.prenex.proofs.find_bindings.Statement.{statement}
 use Rattle.prenex.proofs.find_bindings.Tie as tie
@@ -23,12 +22,9 @@ chain-nodes-requires c κs =
     let z = p .1 .1 .1 in
     let a : Cleared _ _ _ _ _ =
     record {
-      level-firsts-length = z .firsts-length;
-      level-nexts-length = z .nexts-length;
+      levels-blank = z;
       member-firsts-length = refl;
       member-nexts-length = refl;
-      starts-length = z .starts-length;
-      level-firsts-clear = z .firsts-clear;
       member-firsts-clear = λ k. getD-filled 4097 k 0;
     } in
     (p .0, (p .1 .0, (p .1 .1 .0, a)))

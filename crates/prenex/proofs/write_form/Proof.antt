@@ -2,7 +2,7 @@
 -- Assumes nothing.
 use mathlib.Core.Path.{refl}
 use Rattle.lists.proofs.Stores.{getD-filled}
-use Rattle.prenex.specs.Arrays.{Blank}
+use Rattle.scopes.specs.Passes.{Blank}
 use borrow.Author.Needs.{needs}
 use Rattle.prenex.proofs.write_form.Statement.{statement}
 use Rattle.prenex.proofs.write_form.Tie as tie

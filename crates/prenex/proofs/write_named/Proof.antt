@@ -8,9 +8,9 @@ use Rattle.lists.specs.Parts.{sum}
 use Rattle.prenex_form.specs.Names.{boundCount, innerBelow}
 use Rattle.prenex_form.proofs.NameLaws.{innerBound-le}
 use Rattle.prenex_form.proofs.Limits.{bound-limit}
-use Rattle.first_nodes.specs.Given.{Bound, Counted}
+use Rattle.first_nodes.specs.Given.{Given, Counted}
 use Rattle.matrix_writer.specs.Added.{addedNodes}
-use Rattle.matrix_writer.specs.Arrays.{BlockArrays, ChainArrays}
+use Rattle.matrix_writer.specs.Arrays.{BlockArrays}
 use Rattle.prenex.proofs.Matrix.{kept-is, first-room, added-room, whole}
 use Rattle.prenex.proofs.Measured.{root-le, count-some}
 use native.Mathlib.Omega.{arith}
@@ -67,11 +67,10 @@ write-first-requires c κs =
     let x = c .before .before .before .before .take-run .ensures in
     let y = c .before .before .before .take-run2 .ensures in
     let k = c .before .before .root-blocks .ensures in
-    let b : Bound (s .args .words .now) (s .args .list .now) (s .args .bindings .now) (c .before .before .before .before .take-run .result .name) =
+    let b : Given (s .args .words .now) (s .args .list .now) (s .args .bindings .now) (c .before .before .before .before .take-run .result .name) =
     record {
       accepts = p .0 .checked;
-      bindings-length = p .1 .1 .0 .bindings-length;
-      bindings-hold = p .1 .1 .0 .bindings-hold;
+      entries-bound = p .1 .1 .0;
       names-first = omega (arith, x .0, p .1 .1 .1 .1 .0);
     } in
     let d : Counted (s .args .words .now) (s .args .list .now) 0 _ (c .before .before .before .take-run2 .result .counter) =
@@ -99,21 +98,20 @@ write-levels-requires c κs =
     let e = kept-is (s .args .words .now) (s .args .list .now) (p .0 .checked) in
     let blocks : BlockArrays (s .args .words .now) (s .args .list .now) (s .args .starts .now) (c .before .before .before .before .before .before .before .before .before .before .before .take-run .result .name) (c .before .before .before .before .before .before .before .before .before .before .take-run2 .result .name) _ =
     record {
-      is-accepted = p .0 .checked;
-      starts-hold = p .0 .started;
-      names-first = omega (arith, x .0, p .1 .1 .1 .1 .0);
-      copies-first = omega (arith, x .1, y .0, p .1 .1 .1 .1 .0, n .bound-is);
-      definitions-hold = f .ensures .1 .0;
-      starts-long = omega (arith, p .0 .starts-long);
-      definitions-long = omega (arith, f .kept .1 .1 .1 .1 .1 .0);
+      starts-held = p .0;
+      names-held =
+          record {
+            names-first = omega (arith, x .0, p .1 .1 .1 .1 .0);
+            copies-first = omega (arith, x .1, y .0, p .1 .1 .1 .1 .0, n .bound-is);
+            defined = f .ensures .1 .0;
+            definitions-long = f .kept .1 .1 .1 .1 .1 .0;
+          };
     } in
-    let chains : ChainArrays (s .args .words .now) (s .args .list .now) (s .args .firsts .now) (s .args .nexts .now) =
-    record { chains-hold = p .1 .0 .chained; nexts-long = omega (arith, p .1 .0 .nexts-long) } in
     let r = added-room (s .args .words .now) (s .args .list .now) (p .0 .checked) (s .args .nodes .now) (p .1 .1 .1 .1 .1 .nodes-fit) (f .last .0) (f .kept .0) in
     let q = ap (λ d. length (addedNodes (tableOf (s .args .words .now) (s .args .list .now)) d)) (n .deepest-is) in (
       blocks,
       (
-        chains,
+        p .1 .0,
         (omega (arith, k, e), (n .deepest-is, record { fits = omega (arith, r .fits, q, k, e); small = omega (arith, r .small, q, k, e) })),
       ),
     )

@@ -41,10 +41,10 @@ loop-again : tie.Need-loop-again Inv-loop μ-loop
 loop-again c = (omega arith, c .before .before .before .before .before .before .before .before .before .before .chain-node .ensures)
 
 same-length : tie.Need-same-length Inv-loop μ-loop
-same-length c = c .before .loop .inv .1 .level-firsts-length ∙ sym (c .before .before .before .before .before .before .before .before .before .before .before .pre .1 .1 .1 .level-firsts-length)
+same-length c = c .before .loop .inv .1 .level-firsts-length ∙ sym (c .before .before .before .before .before .before .before .before .before .before .before .pre .1 .1 .1 .levels-blank .firsts-length)
 
 same-length-2 : tie.Need-same-length-2 Inv-loop μ-loop
-same-length-2 c = c .before .loop .inv .1 .level-nexts-length ∙ sym (c .before .before .before .before .before .before .before .before .before .before .before .pre .1 .1 .1 .level-nexts-length)
+same-length-2 c = c .before .loop .inv .1 .level-nexts-length ∙ sym (c .before .before .before .before .before .before .before .before .before .before .before .pre .1 .1 .1 .levels-blank .nexts-length)
 
 same-length-3 : tie.Need-same-length-3 Inv-loop μ-loop
 same-length-3 c = c .before .loop .inv .1 .member-firsts-length ∙ sym (c .before .before .before .before .before .before .before .before .before .before .before .pre .1 .1 .1 .member-firsts-length)
@@ -53,7 +53,7 @@ same-length-4 : tie.Need-same-length-4 Inv-loop μ-loop
 same-length-4 c = c .before .loop .inv .1 .member-nexts-length ∙ sym (c .before .before .before .before .before .before .before .before .before .before .before .pre .1 .1 .1 .member-nexts-length)
 
 same-length-5 : tie.Need-same-length-5 Inv-loop μ-loop
-same-length-5 c = c .before .loop .inv .1 .starts-length ∙ sym (c .before .before .before .before .before .before .before .before .before .before .before .pre .1 .1 .1 .starts-length)
+same-length-5 c = c .before .loop .inv .1 .starts-length ∙ sym (c .before .before .before .before .before .before .before .before .before .before .before .pre .1 .1 .1 .levels-blank .starts-length)
 
 returns : tie.Need-returns Inv-loop μ-loop
 returns c =
