@@ -16,7 +16,7 @@ ghost use Rattle.prenex_form.specs.Prefix.{
   writtenPrefix,
   writtenVariables,
 };
-ghost use Rattle.arrays.specs.Held.{Starts, LevelChains, firstNew, firstCopy, Definitions, Started, Chained, Named};
+ghost use Rattle.arrays.specs.Held.{Started, Chained, Named};
 ghost use Rattle.prefix_writer.specs.Held.{
   highestFirst,
   held,
@@ -46,12 +46,9 @@ pub fn write_prefix(
     block_count: usize,
     level_count: usize,
 )
-    requires { ⌜ verdict (now words) (now list) ≡ accepted ⌝ }
-    requires { ⌜ Starts (tableOf (now words) (now list)) (now starts) ⌝ }
-    requires { ⌜ (names ≡ firstNew (tableOf (now words) (now list))) × (copies ≡ firstCopy (tableOf (now words) (now list))) ⌝ }
-    requires { ⌜ Definitions (tableOf (now words) (now list)) (now definitions) ⌝ }
-    requires { ⌜ LevelChains (tableOf (now words) (now list)) (now firsts) (now nexts) ⌝ }
-    requires { ⌜ (length (now starts) ≡ limit) × (length (now definitions) ≡ limit) × (length (now firsts) ≡ limit) × (length (now nexts) ≡ limit) ⌝ }
+    requires { ⌜ Started (now words) (now list) (now starts) ⌝ }
+    requires { ⌜ Named (now words) (now list) names copies (now definitions) ⌝ }
+    requires { ⌜ Chained (now words) (now list) (now firsts) (now nexts) ⌝ }
     requires { ⌜ («block_count» ≡ blockCount (tableOf (now words) (now list))) × («level_count» ≡ levels (tableOf (now words) (now list))) ⌝ }
     requires { ⌜ length (writtenPrefix (tableOf (now words) (now list))) ≤ length (now prefix) ⌝ }
     requires { ⌜ length (writtenVariables (tableOf (now words) (now list))) ≤ length (now variables) ⌝ }

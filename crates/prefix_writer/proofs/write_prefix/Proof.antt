@@ -18,27 +18,26 @@ abbrev μ-loop : tie.MeasureT-loop
 μ-loop words list prefix₀ variables₀ starts names copies definitions firsts nexts block-count level-count kind₀ at₀ j₀ prefix variables kind at j = suc level-count - j
 
 returns : tie.Need-returns Inv-loop μ-loop
-returns c = none-written _ _ _ (sym (c .before .before .before .before .before .before .before .before .before .pre .1 .1 .1 .1 .1 .1 .0 .0) ∙ c .if1 .taken)
+returns c = none-written _ _ _ (sym (c .before .before .before .before .before .before .before .before .before .pre .1 .1 .1 .0 .0) ∙ c .if1 .taken)
 
 first-kind-requires : tie.Need-first-kind-requires Inv-loop μ-loop
-first-kind-requires c κs = c .before .before .before .before .before .before .before .before .before .pre .0
+first-kind-requires c κs = c .before .before .before .before .before .before .before .before .before .pre .0 .checked
 
 loop-holds : tie.Need-loop-holds Inv-loop μ-loop
-loop-holds c = written-start _ _ _ _ (λ e. c .before .if1 .left (c .before .before .before .before .before .before .before .before .before .before .pre .1 .1 .1 .1 .1 .1 .0 .0 ∙ e)) (c .first-kind .ensures)
+loop-holds c = written-start _ _ _ _ (λ e. c .before .if1 .left (c .before .before .before .before .before .before .before .before .before .before .pre .1 .1 .1 .0 .0 ∙ e)) (c .first-kind .ensures)
 
 write-block-requires : tie.Need-write-block-requires Inv-loop μ-loop
 write-block-requires c κs =
     let p = c .before .before .before .before .before .before .before .before .before .before .before .before .before .before .pre in
-    let l = p .1 .1 .1 .1 .1 .0 in
-    let room = p .1 .1 .1 .1 .1 .1 .1 in
+    let room = p .1 .1 .1 .1 in
     let w = c .before .before .before .loop .inv in
-    let h = rw (p .1 .1 .1 .1 .1 .1 .0 .1) at (c .before .before .loop-test .taken) in (
-      record { checked = p .0; started = p .1 .0; starts-long = l .0 },
+    let h = rw (p .1 .1 .1 .0 .1) at (c .before .before .loop-test .taken) in (
+      p .0,
       (
-        record { names-first = p .1 .1 .0 .0; copies-first = p .1 .1 .0 .1; defined = p .1 .1 .1 .0; definitions-long = l .1 },
+        p .1 .0,
         (
-          record { chained = p .1 .1 .1 .1 .0; firsts-long = l .2; nexts-long = l .3 },
-          (h, (room-words _ _ _ _ _ _ _ _ w h (room .0), (room-list _ _ _ _ _ _ _ _ w h (room .1), omega (arith, end-le _ _ _ _ _ _ _ _ w h, variables-le _ _ (p .0))))),
+          p .1 .1 .0,
+          (h, (room-words _ _ _ _ _ _ _ _ w h (room .0), (room-list _ _ _ _ _ _ _ _ w h (room .1), omega (arith, end-le _ _ _ _ _ _ _ _ w h, variables-le _ _ (p .0 .checked))))),
         ),
       ),
     )
@@ -49,7 +48,7 @@ dual-kind-requires c κs = search needs
 add-j : tie.Need-add-j Inv-loop μ-loop
 add-j c =
     let p = c .before .before .before .before .before .before .before .before .before .before .before .before .before .before .before .before .before .before .before .before .pre in
-    omega (arith, level-fits _ _ (p .0) _ (rw (p .1 .1 .1 .1 .1 .1 .0 .1) at (c .before .before .before .before .before .before .before .before .loop-test .taken)) .1)
+    omega (arith, level-fits _ _ (p .0 .checked) _ (rw (p .1 .1 .1 .0 .1) at (c .before .before .before .before .before .before .before .before .loop-test .taken)) .1)
 
 loop-less : tie.Need-loop-less Inv-loop μ-loop
 loop-less c = search needs
@@ -57,8 +56,8 @@ loop-less c = search needs
 loop-again : tie.Need-loop-again Inv-loop μ-loop
 loop-again c =
     let p = c .before .before .before .before .before .before .before .before .before .before .before .before .before .before .before .before .before .before .before .before .pre in
-    let room = p .1 .1 .1 .1 .1 .1 .1 in
-    let h = rw (p .1 .1 .1 .1 .1 .1 .0 .1) at (c .before .before .before .before .before .before .before .before .loop-test .taken) in
+    let room = p .1 .1 .1 .1 in
+    let h = rw (p .1 .1 .1 .0 .1) at (c .before .before .before .before .before .before .before .before .loop-test .taken) in
     let b = c .before .before .before .before .before .write-block in
     let e = b .ensures in
     written-step _ _ _ _ _ _ _ _ (c .before .before .before .before .before .before .before .before .before .loop .inv) h (b .last .1 .1 .0) (b .last .1 .1 .1 .0) _ _ (room .0) (room .1) (e .0) (e .1 .0) (e .1 .1) (c .dual-kind .ensures)
@@ -70,7 +69,7 @@ same-length-2 : tie.Need-same-length-2 Inv-loop μ-loop
 same-length-2 c = c .before .loop .inv .list .kept
 
 returns-2 : tie.Need-returns-2 Inv-loop μ-loop
-returns-2 c = written-end _ _ _ _ _ _ _ _ (c .before .loop .inv) (omega (arith, c .loop-test .left, c .before .before .before .before .before .before .before .before .before .before .before .before .pre .1 .1 .1 .1 .1 .1 .0 .1))
+returns-2 c = written-end _ _ _ _ _ _ _ _ (c .before .loop .inv) (omega (arith, c .loop-test .left, c .before .before .before .before .before .before .before .before .before .before .before .before .pre .1 .1 .1 .0 .1))
 
 pub write-prefix-spec : {M : Type 1} → statement M
 write-prefix-spec =

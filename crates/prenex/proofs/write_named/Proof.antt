@@ -8,6 +8,7 @@ use Rattle.lists.specs.Parts.{sum}
 use Rattle.prenex_form.specs.Names.{boundCount, innerBelow}
 use Rattle.prenex_form.proofs.NameLaws.{innerBound-le}
 use Rattle.prenex_form.proofs.Limits.{bound-limit}
+use Rattle.arrays.specs.Held.{Named}
 use Rattle.first_nodes.specs.Given.{Given, Counted}
 use Rattle.matrix_writer.specs.Added.{addedNodes}
 use Rattle.matrix_writer.specs.Arrays.{BlockArrays}
@@ -130,26 +131,15 @@ write-prefix-requires c κs =
     let f = c .before .before .before .before .before .before .before .before .before .before .before .before .before .write-first in
     let x = c .before .before .before .before .before .before .before .before .before .before .before .before .before .before .before .before .before .before .take-run .ensures in
     let y = c .before .before .before .before .before .before .before .before .before .before .before .before .before .before .before .before .before .take-run2 .ensures in
-    let h = p .1 .0 in
-    let r = p .1 .1 .1 .1 .1 in (
-      p .0 .checked,
-      (
-        p .0 .started,
-        (
-          (omega (arith, x .0, p .1 .1 .1 .1 .0), omega (arith, x .1, y .0, p .1 .1 .1 .1 .0, n .bound-is)),
-          (
-            f .ensures .1 .0,
-            (
-              h .chained,
-              (
-                (p .0 .starts-long, f .kept .1 .1 .1 .1 .1 .0, h .firsts-long, h .nexts-long),
-                ((n .blocks-is, n .deepest-is), (r .prefix-fits, r .variables-fit)),
-              ),
-            ),
-          ),
-        ),
-      ),
-    )
+    let r = p .1 .1 .1 .1 .1 in
+    let named : Named (s .args .words .now) (s .args .list .now) (c .before .before .before .before .before .before .before .before .before .before .before .before .before .before .before .before .before .before .take-run .result .name) (c .before .before .before .before .before .before .before .before .before .before .before .before .before .before .before .before .before .take-run2 .result .name) _ =
+    record {
+      names-first = omega (arith, x .0, p .1 .1 .1 .1 .0);
+      copies-first = omega (arith, x .1, y .0, p .1 .1 .1 .1 .0, n .bound-is);
+      defined = f .ensures .1 .0;
+      definitions-long = f .kept .1 .1 .1 .1 .1 .0;
+    } in
+    (p .0, (named, (p .1 .0, ((n .blocks-is, n .deepest-is), (r .prefix-fits, r .variables-fit)))))
 
 same-length : tie.Need-same-length
 same-length c = search needs
