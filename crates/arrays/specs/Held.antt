@@ -85,7 +85,7 @@ firstCopy t = highestNumber t + boundCount t + 1
 pub record Definitions (t : Table) (definitions : List ℕ) : Type 0 where
   pub definition-is : (i : ℕ) → i < t .size → inner t i ≡ true → getD definitions i 0 ≡ definitionVariable t i
 
--- The same of an accepted table, in arrays of 4,096 elements.
+-- What the writers read of an accepted table, in arrays of 4,096 elements.
 
 -- An accepted table, and where each block's entries start.
 pub record Started (ws ls starts : List ℕ) : Type 0 where

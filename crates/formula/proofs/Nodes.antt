@@ -9,7 +9,7 @@ use lib.Dec.{eqb}
 use borrow.Author.Tests.{ne-eqb}
 use Rattle.lists.specs.Choice.{pick, clash}
 use Rattle.formula.specs.Node.{exists, for-all, constant, variable, negation, operator, block, isBlock}
-use Rattle.formula.specs.Words.{isBlockKind, field, range, nodeOf, nodeAt}
+use Rattle.formula.specs.Words.{field, isBlockKind, range, nodeOf, nodeAt}
 use Rattle.formula.specs.Form.{quantifierOf}
 
 -- A word is one of the six kinds, or none.

@@ -1,12 +1,12 @@
 // What formula tables and prenex forms mean: nodes, ranges, valuations, truth. Definitions stand
-// in specs/, their laws in proofs/. The code here reads and writes one node's words
-// and tests a kind.
+// in specs/, their laws in proofs/. The code here reads and writes one node's words and
+// tests its kind.
 ghost use mathlib.Core.List.{[], _∷_};
 ghost use mathlib.Core.Path.{_≡_};
 ghost use Prim.Native.Nat.{_+_, _*_, _≤_};
 ghost use lib.ListN.{length};
 ghost use Rattle.lists.specs.Parts.{overwrite};
-ghost use Rattle.formula.specs.Words.{width, isBlockKind, field};
+ghost use Rattle.formula.specs.Words.{width, field, isBlockKind};
 
 // The words of a node: a kind and three fields. Nothing else says how many there are.
 pub const WIDTH: usize = 4;

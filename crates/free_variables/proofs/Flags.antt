@@ -18,9 +18,9 @@ use Rattle.lists.specs.Parts.{upTo}
 use Rattle.lists.proofs.Search.{lowest-holds, lowest-cong}
 use Rattle.lists.proofs.Members.{mem-append, mem-one, mem-getD, all-mem}
 use Rattle.lists.proofs.Parts.{upTo-cong}
-use Rattle.lists.proofs.Stores.{getD-set, getD-filled}
+use Rattle.lists.proofs.Stores.{getD-filled, getD-set}
 use Rattle.formula.specs.Node.{bound}
-use Rattle.formula.specs.Words.{nodeCount, field, range, nodeAt, tableOf, isBlockKind}
+use Rattle.formula.specs.Words.{nodeCount, field, isBlockKind, range, nodeAt, tableOf}
 use Rattle.formula.proofs.Nodes.{Kind, kind-constant, kind-variable, kind-negation, kind-operator, kind-exists, kind-for-all, kind-none, kind-of, node-constant, node-variable, node-negation, node-operator, node-exists, node-for-all, node-none}
 use Rattle.formula.proofs.Ranges.{range-length, range-at}
 use Rattle.table_check.specs.Verdict.{isNumber}

@@ -14,7 +14,7 @@ use Rattle.formula.specs.Words.{tableOf}
 use Rattle.table_check.specs.Verdict.{verdict}
 use Rattle.prenex_form.specs.FreeVariables.{freeVariables}
 use Rattle.free_variables.specs.declared.Listed.{Listed}
-use Rattle.free_variables.specs.Outcome.{Outcome, refused, listed, listing}
+use Rattle.free_variables.specs.Outcome.{Outcome, refused, listing, listed}
 use Rattle.free_variables.specs.Steps.{chosen, flagged}
 
 pub chosen-yes : (flag : Bool) (x : ℕ) → flag ≡ true → chosen flag x ≡ x ∷ []

@@ -10,7 +10,7 @@ use Rattle.lists.specs.Choice.{pick}
 use Rattle.lists.specs.Search.{someBelow}
 use Rattle.lists.specs.Members.{mem}
 use Rattle.lists.specs.Parts.{upTo}
-use Rattle.formula.specs.Words.{nodeCount, field, range, isBlockKind}
+use Rattle.formula.specs.Words.{nodeCount, field, isBlockKind, range}
 
 -- x stands at a variable node below node i.
 unfoldable pub variableBelow : List ℕ → ℕ → ℕ → Bool

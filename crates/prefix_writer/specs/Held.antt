@@ -1,5 +1,4 @@
--- What the functions of this crate read: an accepted table, its first new name and its first copy, and working arrays of
--- 4,096 elements that hold its starts, its levels' chains and its definition variables.
+-- The numbers of the prefix's variables, as the working arrays give them.
 -- Assumes nothing.
 use mathlib.Core.List.{List, [], _∷_, _++_, flatMap}
 use Prim.Native.Nat.{ℕ, zero, suc, _+_, _-_}

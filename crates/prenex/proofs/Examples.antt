@@ -13,7 +13,7 @@ use Rattle.lists.specs.Search.{lowest}
 use Rattle.lists.specs.Members.{mem, all, distinct, times, place}
 use Rattle.lists.specs.Parts.{upTo, numbers, sum, highest, overwrite}
 use Rattle.formula.specs.Node.{dual, operands, isBlock, bound}
-use Rattle.formula.specs.Words.{width, field, range, nodeOf, nodeAt, tableOf, isBlockKind}
+use Rattle.formula.specs.Words.{width, field, isBlockKind, range, nodeOf, nodeAt, tableOf}
 use Rattle.formula.specs.Valuation.{Valuation, update, join, quant}
 use Rattle.formula.specs.Truth.{bit, digit, operatorValue, nodeValue, value, truth}
 use Rattle.formula.specs.Tree.{timesNamed, count, boundBelow}

@@ -23,7 +23,7 @@ use table_check::BUFFER_TOO_SHORT;
 use table_check::LIMIT;
 
 // One scope for each node, and that outside all blocks.
-const SCOPES: usize = 4097;
+const SCOPES: usize = LIMIT + 1;
 
 // Document 01's number of a refusal (0: done), its position, and the sizes.
 pub struct Answer {

@@ -21,7 +21,7 @@ use Rattle.formula.proofs.Quantify.{Outside, quant-two}
 use Rattle.prenex_form.specs.Scope.{binder, inner, level}
 use Rattle.prenex_form.specs.Names.{highestNumber, firstName, newNames, newName}
 use Rattle.prenex_form.proofs.Cut.{cutNode, cut, valueAt}
-use Rattle.prenex_form.proofs.Paths.{above-higher, binder-above, newName-root, newName-step, inner-level, binder-le}
+use Rattle.prenex_form.proofs.Paths.{binder-le, above-higher, binder-above, newName-root, newName-step, inner-level}
 use Rattle.prenex_form.proofs.NameLaws.{variable-le, length-newNames, newNames-above, newNames-apart, distinct-newNames, newName-free, newName-bound}
 
 -- Seen from node i, w gives each number's new name what v gives the number.

@@ -21,7 +21,7 @@ use Rattle.prenex_form.specs.Names.{highestNumber, newName, newNames, co
 use Rattle.prenex_form.specs.Levels.{blocksAt, quantifierAt, levelQuantifier}
 use Rattle.prenex_form.specs.Matrix.{kept, bodyOf}
 use Rattle.prenex_form.proofs.Cut.{cutNode, cut, valueAt, agree, guarded, holds, blockHolds, joined, matrixAt}
-use Rattle.prenex_form.proofs.Paths.{body-named, parent-is, climb, path-root, path-step, path-self, above-root, above-step, above-cases, binder-block, binder-above, level-root, above-level, above-level-le, blocksAt-lt, blocksAt-inner, blocksAt-level, root-body, inner-block, binder-le}
+use Rattle.prenex_form.proofs.Paths.{body-named, binder-le, parent-is, climb, path-root, path-step, path-self, above-root, above-step, above-cases, binder-block, binder-above, level-root, above-level, above-level-le, blocksAt-lt, blocksAt-inner, blocksAt-level, root-body, inner-block}
 use Rattle.prenex_form.proofs.NameLaws.{variable-le, newName-free, newName-bound, newNames-above, newNames-le, copies-above, copies-le, definition-above, newNames-apart, copies-apart}
 
 -- the nodes of a cut: nothing but blocks is changed, a block to a definition variable or to a block with its new names

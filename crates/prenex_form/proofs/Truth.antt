@@ -24,7 +24,7 @@ use Rattle.prenex_form.specs.Levels.{blocksAt, levels, quantifierAt, lev
 use Rattle.prenex_form.specs.Matrix.{kept, writtenNodes}
 use Rattle.prenex_form.specs.Prefix.{blockCount, leading, prefixBlock, prefixBlocks, writtenPrefix, writtenVariables}
 use Rattle.prenex_form.proofs.Cut.{valueAt, matrixAt}
-use Rattle.prenex_form.proofs.Paths.{level-le-levels, blocksAt-lt, blocksAt-inner, blocksAt-level, level-nonempty, root-body, root-outer}
+use Rattle.prenex_form.proofs.Paths.{root-outer, level-le-levels, blocksAt-lt, blocksAt-inner, blocksAt-level, level-nonempty, root-body}
 use Rattle.prenex_form.proofs.NameLaws.{none-bound}
 use Rattle.prenex_form.proofs.Renaming.{renamed-truth}
 use Rattle.prenex_form.proofs.Seen.{value-real}

@@ -25,7 +25,7 @@ use Rattle.prenex_form.specs.Names.{newName, newNames, copies, definitio
 use Rattle.prenex_form.specs.Levels.{blocksAt, levels, quantifierAt, levelQuantifier}
 use Rattle.prenex_form.specs.Matrix.{and, iff, implies, kept, renamed, firstNodes, bodyOf, equation, guard, constraint, further, constraints, wrap, levelNodes, nodesTo, prenexNodes}
 use Rattle.prenex_form.proofs.Cut.{cutNode, cut, valueAt, agree, guarded, holds, blockHolds, joined, matrixAt}
-use Rattle.prenex_form.proofs.Paths.{inner-lt, kept-le, kept-inner, level-le-levels, blocksAt-lt, blocksAt-inner, level-nonempty, kept-positive, inner-block, body-named}
+use Rattle.prenex_form.proofs.Paths.{kept-le, kept-inner, inner-lt, level-le-levels, blocksAt-lt, blocksAt-inner, level-nonempty, kept-positive, inner-block, body-named}
 use Rattle.prenex_form.proofs.NameLaws.{length-newNames, length-copies}
 use Rattle.prenex_form.proofs.NodeLists.{listTable, Val, val-constant, val-variable, val-negation, val-operator, val-is, val-truth, Placed, placed-all, placed-left, placed-right, placed-at}
 

@@ -24,7 +24,7 @@ use Rattle.prenex_form.specs.Names.{definitionVariable}
 use Rattle.prenex_form.specs.Levels.{blocksAt, levels, levelQuantifier}
 use Rattle.prenex_form.specs.Matrix.{iff, kept, renamed, firstNodes, bodyOf, equation, constraint, further, constraints, wrap, levelNodes, nodesTo, prenexNodes, writtenNodes}
 use Rattle.prenex_form.proofs.Cut.{matrixAt}
-use Rattle.prenex_form.proofs.Paths.{blocksAt-lt, blocksAt-inner, kept-positive, kept-le}
+use Rattle.prenex_form.proofs.Paths.{kept-le, blocksAt-lt, blocksAt-inner, kept-positive}
 use Rattle.prenex_form.proofs.NodeLists.{listTable, Plain, words-table}
 use Rattle.prenex_form.proofs.Written.{equation-first, equation-next, length-equations, closing, constraint-bare, constraint-full, length-constraint-ge, length-firstNodes, body-kept, written-truth}
 

@@ -20,7 +20,7 @@ use Rattle.prenex_form.specs.Levels.{blocksAt, levels}
 use Rattle.prenex_form.specs.Matrix.{kept, constraint, further, constraints, levelNodes, nodesTo, prenexNodes}
 use Rattle.prenex_form.specs.Prefix.{blockCount}
 use Rattle.prenex_form.specs.Sizes.{sizes, addedBy}
-use Rattle.prenex_form.proofs.Paths.{inner-level, level-le-levels, inner-block, kept-le}
+use Rattle.prenex_form.proofs.Paths.{kept-le, inner-level, level-le-levels, inner-block}
 use Rattle.prenex_form.proofs.PrefixNames.{blockCount-le}
 use Rattle.prenex_form.proofs.Written.{length-constraint-bare, length-constraint-full, length-firstNodes, level-some}
 

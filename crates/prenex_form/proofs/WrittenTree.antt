@@ -19,7 +19,7 @@ use Rattle.formula.specs.Tree.{Tree, count, timesNamed}
 use Rattle.prenex_form.specs.Scope.{inner}
 use Rattle.prenex_form.specs.Levels.{blocksAt, levels, levelQuantifier}
 use Rattle.prenex_form.specs.Matrix.{and, kept, renamed, firstNodes, bodyOf, equation, constraint, further, constraints, wrap, levelNodes, nodesTo, prenexNodes}
-use Rattle.prenex_form.proofs.Paths.{root-body, kept-positive, kept-root, kept-inner}
+use Rattle.prenex_form.proofs.Paths.{kept-root, kept-inner, root-body, kept-positive}
 use Rattle.prenex_form.proofs.PrefixNames.{sum-first}
 use Rattle.prenex_form.proofs.NodeLists.{listTable}
 use Rattle.prenex_form.proofs.Written.{equation-first, equation-next, closing, constraint-bare, constraint-full, length-constraint-bare, length-constraint-full, length-constraint-ge, length-constraints-ge, length-firstNodes, level-some}

@@ -9,7 +9,7 @@ use Rattle.lists.specs.Choice.{pick, clash}
 use Rattle.lists.specs.Members.{mem}
 use Rattle.formula.specs.Node.{Node, constant, variable, negation, operator, block, operands, isBlock}
 use Rattle.formula.specs.declared.NodeWords.{NodeWords}
-use Rattle.formula.specs.Words.{nodeCount, field, range, nodeOf, nodeAt, tableOf, isBlockKind}
+use Rattle.formula.specs.Words.{nodeCount, field, isBlockKind, range, nodeOf, nodeAt, tableOf}
 use Rattle.formula.specs.Tree.{Tree}
 use Rattle.formula.proofs.Nodes.{Kind, kind-of, kind-constant, kind-variable, kind-negation, kind-operator, kind-exists, kind-for-all, kind-none, node-variable, is-block, node-block}
 use Rattle.table_check.specs.Verdict.{limit, verdict, accepted}

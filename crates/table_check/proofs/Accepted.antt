@@ -16,12 +16,12 @@ use Rattle.lists.proofs.Search.{lowest-holds, lowest-before}
 use Rattle.lists.proofs.Members.{all-mem, all-intro}
 use Rattle.lists.proofs.Parts.{sum-cong, sum-grows}
 use Rattle.formula.specs.Node.{operands, bound}
-use Rattle.formula.specs.Words.{width, nodeCount, isBlockKind, field, range, nodeOf, nodeAt, tableOf}
+use Rattle.formula.specs.Words.{width, nodeCount, field, isBlockKind, range, nodeOf, nodeAt, tableOf}
 use Rattle.formula.specs.Tree.{timesNamed, count, boundBelow}
 use Rattle.formula.proofs.Nodes.{Kind, kind-of, kind-constant, kind-variable, kind-negation, kind-operator, kind-exists, kind-for-all, kind-none}
 use Rattle.table_check.specs.Verdict.{limit, isNumber, partialNode, tooLarge, wellFormed, forwardReference, rangePastEnd, countAt, tooManyVariables, badVariable, nodeFault, notNamedOnce, refusal, accepted, verdict}
 use Rattle.table_check.specs.Accepted.{Accepted}
-use Rattle.table_check.proofs.Faults.{few-nodes, count-block, count-none}
+use Rattle.table_check.proofs.Faults.{count-block, count-none, few-nodes}
 
 -- The tests of a node's words, said of the node that they make.
 

@@ -11,7 +11,7 @@ use lib.ListN.{length, getD, set, replicate, length-set, length-replicate}
 use borrow.Author.Tests.{eqb-true, eqb-false, ltb-true, ltb-false}
 use Rattle.lists.specs.Choice.{Is, is-true, is-false, look, clash}
 use Rattle.lists.specs.Members.{mem}
-use Rattle.lists.proofs.Stores.{set-cases, getD-filled}
+use Rattle.lists.proofs.Stores.{getD-filled, set-cases}
 use Rattle.formula.specs.Words.{range}
 use Rattle.table_check.specs.Verdict.{limit, isNumber}
 use Rattle.table_check.specs.Steps.{buckets, Latest, Linked, Earlier, Chains, Chain, isNew}

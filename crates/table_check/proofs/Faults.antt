@@ -14,7 +14,7 @@ use Rattle.lists.specs.Choice.{pick, pick-yes, pick-no, Is, is-true, is-false, 
 use Rattle.lists.specs.Search.{lowest}
 use Rattle.lists.specs.Parts.{sum}
 use Rattle.lists.proofs.Search.{lowest-holds, lowest-before, lowest-is, lowest-none}
-use Rattle.formula.specs.Words.{width, nodeCount, isBlockKind, field}
+use Rattle.formula.specs.Words.{width, nodeCount, field, isBlockKind}
 use Rattle.table_check.specs.Verdict.{limit, isNumber, partialNode, tooLarge, wellFormed, forwardReference, rangePastEnd, countAt, tooManyVariables, badVariable, nodeFault, refusal, accepted, verdict}
 use Rattle.table_check.specs.Steps.{goodRange, wordsFault, blockFault, blockNodeFault, nodesVerdict, treeVerdict}
 use Rattle.table_check.specs.declared.Verdict.{Verdict}

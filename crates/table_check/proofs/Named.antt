@@ -15,9 +15,9 @@ use Rattle.lists.specs.Members.{times}
 use Rattle.lists.specs.Parts.{sum}
 use Rattle.lists.proofs.Search.{lowest-cong}
 use Rattle.lists.proofs.Parts.{sum-cong, pick-le}
-use Rattle.lists.proofs.Stores.{set-cases, getD-filled}
+use Rattle.lists.proofs.Stores.{getD-filled, set-cases}
 use Rattle.formula.specs.Node.{operands}
-use Rattle.formula.specs.Words.{nodeCount, isBlockKind, field, nodeOf, nodeAt, tableOf}
+use Rattle.formula.specs.Words.{nodeCount, field, isBlockKind, nodeOf, nodeAt, tableOf}
 use Rattle.formula.specs.Tree.{timesNamed}
 use Rattle.formula.proofs.Nodes.{Kind, kind-of, kind-constant, kind-variable, kind-negation, kind-operator, kind-exists, kind-for-all, kind-none}
 use Rattle.table_check.specs.Verdict.{limit, notNamedOnce, refusal, accepted}

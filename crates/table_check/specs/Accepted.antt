@@ -8,7 +8,7 @@ use Prim.Native.Nat.{ℕ, _+_, _*_, _<_, _≤_}
 use lib.ListN.{length}
 use Rattle.lists.specs.Members.{all}
 use Rattle.formula.specs.Node.{bound}
-use Rattle.formula.specs.Words.{width, nodeCount, isBlockKind, field, nodeAt, tableOf}
+use Rattle.formula.specs.Words.{width, nodeCount, field, isBlockKind, nodeAt, tableOf}
 use Rattle.formula.specs.Tree.{Proper, boundBelow}
 use Rattle.table_check.specs.Verdict.{limit, isNumber, wellFormed}
 

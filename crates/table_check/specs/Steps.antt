@@ -10,7 +10,7 @@ use Rattle.lists.specs.Choice.{pick}
 use Rattle.lists.specs.Search.{lowest}
 use Rattle.lists.specs.Members.{mem, all, distinct, times}
 use Rattle.lists.specs.Parts.{sum}
-use Rattle.formula.specs.Words.{nodeCount, isBlockKind, field, range}
+use Rattle.formula.specs.Words.{nodeCount, field, isBlockKind, range}
 use Rattle.table_check.specs.Verdict.{limit, isNumber, wellFormed, forwardReference, nodeFault, refusal, accepted}
 use Rattle.table_check.specs.declared.Verdict.{Verdict}
 

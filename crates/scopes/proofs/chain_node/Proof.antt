@@ -4,7 +4,7 @@ use mathlib.Core.Path.{sym, _∙_}
 use native.Mathlib.Omega.{arith}
 use borrow.Author.Needs.{needs}
 use borrow.Author.Tests.{not-true, not-false}
-use Rattle.scopes.proofs.Nodes.{nodes-few, variable-member, block-read}
+use Rattle.scopes.proofs.Nodes.{block-read, nodes-few, variable-member}
 use Rattle.scopes.proofs.Chaining.{entries-within, start-fits, variable-passed, plain-passed, block-passed}
 use Rattle.scopes.proofs.chain_node.Statement.{statement}
 use Rattle.scopes.proofs.chain_node.Tie as tie

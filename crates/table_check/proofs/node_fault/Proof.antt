@@ -3,7 +3,7 @@
 -- Assumes nothing.
 use mathlib.Core.Path.{refl, sym, _∙_, ap}
 use Prim.Native.Nat.{_+_}
-use Rattle.formula.specs.Words.{isBlockKind, field}
+use Rattle.formula.specs.Words.{field, isBlockKind}
 use Rattle.lists.specs.Choice.{pick}
 use Rattle.table_check.specs.Steps.{namedBy}
 use Rattle.table_check.proofs.Faults.{fault-words, fault-block, fault-no-kind, binds-none, count-block}
