@@ -29,7 +29,7 @@ use Rattle.prenex_form.specs.Names.{highestNumber}
 use Rattle.prenex_form.specs.FreeVariables.{standsAt, someNode, isFreeVariable, freeVariables}
 use Rattle.prenex_form.proofs.NameLaws.{variable-le}
 use Rattle.prenex_form.proofs.Limits.{highest-limit}
-use Rattle.free_variables.specs.Steps.{variableBelow, boundBy, coveredBelow, Numbered, Marked, Unmarked, chosen, flagged}
+use Rattle.free_variables.specs.Steps.{variableBelow, boundBy, coveredBelow, Numbered, Flagged, Cleared, chosen, flagged}
 
 -- Some number below n passes a test.
 
@@ -104,13 +104,13 @@ set-flag flags y h x = getD-set flags y true false h x ∙ pick-or (eqb x y) (ge
 unset-flag : (flags : List Bool) (y : ℕ) → y < length flags → (x : ℕ) → getD (set flags y false) x false ≡ (getD flags x false && not (eqb x y))
 unset-flag flags y h x = getD-set flags y false false h x ∙ pick-and (eqb x y) (getD flags x false)
 
--- Marking the variable nodes.
+-- Flagging the variable nodes.
 
-pub marked-none : (ws : List ℕ) (n : ℕ) → n ≡ 65536 → Marked ws (replicate n false) 0 0
-marked-none ws n e =
+pub flags-none : (ws : List ℕ) (n : ℕ) → n ≡ 65536 → Flagged ws (replicate n false) 0 0
+flags-none ws n e =
     record {
       wide = length-replicate {A = Bool} n false ∙ e;
-      marks = λ x. getD-filled n x false ∙ sym (variable-none ws x);
+      flag-is = λ x. getD-filled n x false ∙ sym (variable-none ws x);
       low = omega arith;
       under = λ x h. clash h (variable-none ws x);
     }
@@ -119,27 +119,27 @@ or-cases : (a b : Bool) → (a || b) ≡ true → Is a → (a ≡ true) ⊎ (b �
 or-cases a b h (is-true e) = inl e
 or-cases a b h (is-false e) = inr (rw e at h)
 
-module _ (ws : List ℕ) (flags : List Bool) (i end : ℕ) (m : Marked ws flags i end) where
-  pub marked-other : (field ws i 0 ≡ 2 → ⊥) → Marked ws flags (i + 1) end
-  marked-other n =
+module _ (ws : List ℕ) (flags : List Bool) (i end : ℕ) (m : Flagged ws flags i end) where
+  pub flags-other : (field ws i 0 ≡ 2 → ⊥) → Flagged ws flags (i + 1) end
+  flags-other n =
       let same : (x : ℕ) → variableBelow ws (i + 1) x ≡ variableBelow ws i x =
       λ x. variable-next ws i x ∙ rw (ne-eqb (field ws i 0) 2 n) (or-false (variableBelow ws i x)) in
       record {
         wide = m .wide;
-        marks = λ x. m .marks x ∙ sym (same x);
+        flag-is = λ x. m .flag-is x ∙ sym (same x);
         low = m .low;
         under = λ x h. m .under x (sym (same x) ∙ h);
       }
 
-  pub marked-variable : field ws i 0 ≡ 2 → (r : ℕ) → end ≤ r → field ws i 1 < r → r ≤ 65536
-      → Marked ws (set flags (field ws i 1) true) (i + 1) r
-  marked-variable e r le lt low =
+  pub flags-variable : field ws i 0 ≡ 2 → (r : ℕ) → end ≤ r → field ws i 1 < r → r ≤ 65536
+      → Flagged ws (set flags (field ws i 1) true) (i + 1) r
+  flags-variable e r le lt low =
       let y : ℕ = field ws i 1 in
       let wide : length flags ≡ 65536 = m .wide in
       let next : (x : ℕ) → variableBelow ws (i + 1) x ≡ (variableBelow ws i x || eqb x y) = λ x. variable-next ws i x ∙ rw e in
       record {
         wide = length-set flags y true ∙ m .wide;
-        marks = λ x. set-flag flags y (omega arith) x ∙ ap (λ b. b || eqb x y) (m .marks x) ∙ sym (next x);
+        flag-is = λ x. set-flag flags y (omega arith) x ∙ ap (λ b. b || eqb x y) (m .flag-is x) ∙ sym (next x);
         low = low;
         under = λ x h.
             ⊎-elim
@@ -148,13 +148,13 @@ module _ (ws : List ℕ) (flags : List Bool) (i end : ℕ) (m : Marked ws flags 
             (or-cases (variableBelow ws i x) (eqb x y) (sym (next x) ∙ h) (look (variableBelow ws i x)));
       }
 
--- Unmarking what blocks cover.
+-- Clearing what blocks cover.
 
-pub unmarked-none : (ws ls : List ℕ) (flags : List Bool) (end : ℕ) → Marked ws flags (nodeCount ws) end → Unmarked ws ls flags 0
-unmarked-none ws ls flags end m =
+pub cleared-none : (ws ls : List ℕ) (flags : List Bool) (end : ℕ) → Flagged ws flags (nodeCount ws) end → Cleared ws ls flags 0
+cleared-none ws ls flags end m =
     record {
       wide = m .wide;
-      marks = λ x. m .marks x ∙ sym (rw (covered-none ws ls x) (and-true (variableBelow ws (nodeCount ws) x)));
+      flag-is = λ x. m .flag-is x ∙ sym (rw (covered-none ws ls x) (and-true (variableBelow ws (nodeCount ws) x)));
     }
 
 and-nor : (a b c : Bool) → ((a && not b) && not c) ≡ (a && not (b || c))
@@ -162,34 +162,34 @@ and-nor true true c = refl
 and-nor true false c = refl
 and-nor false b c = refl
 
-module _ (ws ls : List ℕ) (flags : List Bool) (i : ℕ) (u : Unmarked ws ls flags i) where
-  pub unmarked-next : (after : List Bool) → length after ≡ length flags
+module _ (ws ls : List ℕ) (flags : List Bool) (i : ℕ) (u : Cleared ws ls flags i) where
+  pub cleared-next : (after : List Bool) → length after ≡ length flags
       → ((x : ℕ) → getD after x false ≡ (getD flags x false && not (mem x (boundBy ls (field ws i 0) (field ws i 1) (field ws i 2)))))
-      → Unmarked ws ls after (i + 1)
-  unmarked-next after same step =
+      → Cleared ws ls after (i + 1)
+  cleared-next after same step =
       record {
         wide = same ∙ u .wide;
-        marks = λ x.
+        flag-is = λ x.
             step x
-            ∙ ap (λ b. b && not (mem x (boundBy ls (field ws i 0) (field ws i 1) (field ws i 2)))) (u .marks x)
+            ∙ ap (λ b. b && not (mem x (boundBy ls (field ws i 0) (field ws i 1) (field ws i 2)))) (u .flag-is x)
             ∙ and-nor (variableBelow ws (nodeCount ws) x) (coveredBelow ws ls i x) (mem x (boundBy ls (field ws i 0) (field ws i 1) (field ws i 2)))
             ∙ ap (λ b. variableBelow ws (nodeCount ws) x && not b) (sym (covered-next ws ls i x));
       }
 
   -- at a node that is no block
-  pub unmarked-other : isBlockKind (field ws i 0) ≡ false → Unmarked ws ls flags (i + 1)
+  pub cleared-other : isBlockKind (field ws i 0) ≡ false → Cleared ws ls flags (i + 1)
   unfolding boundBy mem
-  unmarked-other n =
-      unmarked-next flags refl
+  cleared-other n =
+      cleared-next flags refl
       (λ x. sym (rw (pick-no (isBlockKind (field ws i 0)) (range ls (field ws i 1) (field ws i 2)) [] n) (and-true (getD flags x false))))
 
   -- at a block
-  pub unmarked-block : isBlockKind (field ws i 0) ≡ true → (after : List Bool) → length after ≡ length flags
+  pub cleared-block : isBlockKind (field ws i 0) ≡ true → (after : List Bool) → length after ≡ length flags
       → ((x : ℕ) → getD after x false ≡ (getD flags x false && not (mem x (range ls (field ws i 1) (field ws i 2)))))
-      → Unmarked ws ls after (i + 1)
+      → Cleared ws ls after (i + 1)
   unfolding boundBy
-  unmarked-block b after same step =
-      unmarked-next after same
+  cleared-block b after same step =
+      cleared-next after same
       (λ x. step x ∙ rw (pick-yes (isBlockKind (field ws i 0)) (range ls (field ws i 1) (field ws i 2)) [] b))
 
 -- One entry of a block's range.
@@ -296,13 +296,13 @@ module _ (ws ls : List ℕ) where
         go (is-false v) = rw v
 
     -- What is flagged in the end is free: both lists are that of the free numbers below 65536.
-    pub flagged-free : (before flags : List Bool) (end : ℕ) → Marked ws before (nodeCount ws) end → Unmarked ws ls flags (nodeCount ws)
+    pub flagged-free : (before flags : List Bool) (end : ℕ) → Flagged ws before (nodeCount ws) end → Cleared ws ls flags (nodeCount ws)
         → flagged flags end ≡ freeVariables (tableOf ws ls)
     unfolding flagged chosen freeVariables
     flagged-free before flags end m u =
         let free : ℕ → Bool = isFreeVariable (tableOf ws ls) in
         let g : ℕ → List ℕ = λ x. pick (free x) (x ∷ []) [] in
-        let same : (x : ℕ) → getD flags x false ≡ free x = λ x. u .marks x ∙ sym (free-is x) in
+        let same : (x : ℕ) → getD flags x false ≡ free x = λ x. u .flag-is x ∙ sym (free-is x) in
         let above-end : (x : ℕ) → end ≤ x → free x ≡ false = λ x h. absent (free x) (λ f. omega (arith, m .under x (and-left _ _ (sym (free-is x) ∙ f)))) in
         upTo-cong _ g end (λ x h. ap (λ b. pick b (x ∷ []) []) (same x))
         ∙ sym (upTo-rest g end 65536 (m .low) (λ x h. pick-no _ _ _ (above-end x h)))

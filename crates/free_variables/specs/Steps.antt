@@ -28,17 +28,17 @@ coveredBelow ws ls i x = someBelow (λ j. mem x (boundBy ls (field ws j 0) (fiel
 abbrev pub Numbered : List ℕ → Type 0
 Numbered ws = (i : ℕ) → i < nodeCount ws → field ws i 0 ≡ 2 → field ws i 1 < 65536
 
--- The flags once the variable nodes below node i are marked, all of whose numbers are below `end`.
-pub record Marked (ws : List ℕ) (flags : List Bool) (i end : ℕ) : Type 0 where
+-- The flags once the variable nodes below node i are flagged, all of whose numbers are below `end`.
+pub record Flagged (ws : List ℕ) (flags : List Bool) (i end : ℕ) : Type 0 where
   pub wide : length flags ≡ 65536
-  pub marks : (x : ℕ) → getD flags x false ≡ variableBelow ws i x
+  pub flag-is : (x : ℕ) → getD flags x false ≡ variableBelow ws i x
   pub low : end ≤ 65536
   pub under : (x : ℕ) → variableBelow ws i x ≡ true → x < end
 
--- The flags once all variable nodes are marked, and what the blocks below node i cover is unmarked again.
-pub record Unmarked (ws ls : List ℕ) (flags : List Bool) (i : ℕ) : Type 0 where
+-- The flags once all variable nodes are flagged, and what the blocks below node i cover is cleared again.
+pub record Cleared (ws ls : List ℕ) (flags : List Bool) (i : ℕ) : Type 0 where
   pub wide : length flags ≡ 65536
-  pub marks : (x : ℕ) → getD flags x false ≡ (variableBelow ws (nodeCount ws) x && not (coveredBelow ws ls i x))
+  pub flag-is : (x : ℕ) → getD flags x false ≡ (variableBelow ws (nodeCount ws) x && not (coveredBelow ws ls i x))
 
 -- x, if its flag is set.
 unfoldable pub chosen : Bool → ℕ → List ℕ

@@ -12,8 +12,8 @@ ghost use Rattle.prenex_form.specs.FreeVariables.{freeVariables};
 ghost use Rattle.free_variables.specs.Outcome.{Outcome, listing, listed};
 ghost use Rattle.free_variables.specs.Steps.{
   Numbered,
-  Marked,
-  Unmarked,
+  Flagged,
+  Cleared,
   chosen,
   flagged,
 };
@@ -63,33 +63,33 @@ fn list_accepted(words: &[u32], list: &[u32], names: &mut [u32]) -> Listed
     ensures { λ r. ⌜ _≡_ {A = Outcome} (record { answer = r; names = now (names .exit) }) (listing (now (names .entry)) (freeVariables (tableOf (now (words .entry)) (now (list .entry))))) ⌝ }
 {
     let mut flags = [false; NUMBERS];
-    let end = mark_variables(words, &mut flags);
-    unmark_bound(words, list, &mut flags);
+    let end = flag_variables(words, &mut flags);
+    clear_bound(words, list, &mut flags);
     list_flagged(&flags, end, names)
 }
 
 // Sets the flag of each number that stands at a variable node. The result is above all of them, so that what comes after
 // looks at no flag from there on.
-fn mark_variables(words: &[u32], flags: &mut [bool]) -> usize
+fn flag_variables(words: &[u32], flags: &mut [bool]) -> usize
     requires { ⌜ Numbered (now words) ⌝ }
-    requires { ⌜ Marked (now words) (now flags) 0 0 ⌝ }
-    ensures { λ r. ⌜ Marked (now (words .entry)) (now (flags .exit)) (nodeCount (now (words .entry))) r ⌝ }
+    requires { ⌜ Flagged (now words) (now flags) 0 0 ⌝ }
+    ensures { λ r. ⌜ Flagged (now (words .entry)) (now (flags .exit)) (nodeCount (now (words .entry))) r ⌝ }
 {
     let mut end: usize = 0;
     let mut i: usize = 0;
     while i < words.len() / formula::WIDTH {
-        end = mark_node(words, flags, i, end);
+        end = flag_node(words, flags, i, end);
         i += 1;
     }
     end
 }
 
 // The same of one node. `end` is above the numbers of the nodes below it.
-fn mark_node(words: &[u32], flags: &mut [bool], i: usize, end: usize) -> usize
+fn flag_node(words: &[u32], flags: &mut [bool], i: usize, end: usize) -> usize
     requires { ⌜ Numbered (now words) ⌝ }
     requires { ⌜ i < nodeCount (now words) ⌝ }
-    requires { ⌜ Marked (now words) (now flags) i end ⌝ }
-    ensures { λ r. ⌜ Marked (now (words .entry)) (now (flags .exit)) (i + 1) r ⌝ }
+    requires { ⌜ Flagged (now words) (now flags) i end ⌝ }
+    ensures { λ r. ⌜ Flagged (now (words .entry)) (now (flags .exit)) (i + 1) r ⌝ }
 {
     let node = formula::node_at(words, i);
     if node.kind != VARIABLE {
@@ -104,34 +104,34 @@ fn mark_node(words: &[u32], flags: &mut [bool], i: usize, end: usize) -> usize
 }
 
 // Takes back the flag of each number that a block covers.
-fn unmark_bound(words: &[u32], list: &[u32], flags: &mut [bool])
+fn clear_bound(words: &[u32], list: &[u32], flags: &mut [bool])
     requires { ⌜ Accepted (now words) (now list) ⌝ }
-    requires { ⌜ Unmarked (now words) (now list) (now flags) 0 ⌝ }
-    ensures { λ r. ⌜ Unmarked (now (words .entry)) (now (list .entry)) (now (flags .exit)) (nodeCount (now (words .entry))) ⌝ }
+    requires { ⌜ Cleared (now words) (now list) (now flags) 0 ⌝ }
+    ensures { λ r. ⌜ Cleared (now (words .entry)) (now (list .entry)) (now (flags .exit)) (nodeCount (now (words .entry))) ⌝ }
 {
     let mut i: usize = 0;
     while i < words.len() / formula::WIDTH {
-        unmark_node(words, list, flags, i);
+        clear_node(words, list, flags, i);
         i += 1;
     }
 }
 
 // The same of one node.
-fn unmark_node(words: &[u32], list: &[u32], flags: &mut [bool], i: usize)
+fn clear_node(words: &[u32], list: &[u32], flags: &mut [bool], i: usize)
     requires { ⌜ Accepted (now words) (now list) ⌝ }
     requires { ⌜ i < nodeCount (now words) ⌝ }
-    requires { ⌜ Unmarked (now words) (now list) (now flags) i ⌝ }
-    ensures { λ r. ⌜ Unmarked (now (words .entry)) (now (list .entry)) (now (flags .exit)) (i + 1) ⌝ }
+    requires { ⌜ Cleared (now words) (now list) (now flags) i ⌝ }
+    ensures { λ r. ⌜ Cleared (now (words .entry)) (now (list .entry)) (now (flags .exit)) (i + 1) ⌝ }
 {
     let node = formula::node_at(words, i);
     if !formula::is_block_kind(node.kind) {
         return;
     }
-    unmark_range(list, flags, node.a, node.b);
+    clear_range(list, flags, node.a, node.b);
 }
 
 // The same of one block's range.
-fn unmark_range(list: &[u32], flags: &mut [bool], first: u32, count: u32)
+fn clear_range(list: &[u32], flags: &mut [bool], first: u32, count: u32)
     requires { ⌜ first + count ≤ length (now list) ⌝ }
     requires { ⌜ ((x : ℕ) → mem x (range (now list) first count) ≡ true → x < length (now flags)) ⌝ }
     ensures { λ r. ⌜ ((x : ℕ) → getD (now (flags .exit)) x false ≡ (getD (now (flags .entry)) x false && not (mem x (range (now (list .entry)) first count)))) ⌝ }

@@ -17,7 +17,7 @@ use Rattle.table_check.specs.Verdict.{verdict, accepted}
 use Rattle.table_check.proofs.Accepted.{accepted-holds}
 use Rattle.prenex_form.specs.Scope.{level}
 use Rattle.prenex_form.specs.Levels.{blocksAt, levels, levelQuantifier}
-use Rattle.prenex_form.specs.Matrix.{and, implies, kept, constraint, further, constraints, wrap, levelNodes, nodeWords}
+use Rattle.prenex_form.specs.Matrix.{and, implies, kept, constraint, further, constraints, levelJoin, levelNodes, nodeWords}
 use Rattle.prenex_form.specs.Prefix.{kindOf}
 use Rattle.prenex_form.proofs.Alternation.{quantifier-read}
 use Rattle.arrays.specs.Link.{link}
@@ -83,15 +83,15 @@ pub root-quantifier : (ws ls : List ℕ) (kind : ℕ) → kind ≡ field ws (nod
 unfolding levelQuantifier tableOf
 root-quantifier ws ls kind e = ap quantifierOf e ∙ sym (quantifier-is ws ls (nodeCount ws - 1))
 
--- the wrap, by a block's kind
+-- how a level is joined to the matrix, by a block's kind
 module _ (kind m d at : ℕ) (out last : List ℕ) where
-  pub wrap-exists : kind ≡ 5 → last ≡ withNodes out at (operator implies d m ∷ []) → last ≡ withNodes out at (wrap (quantifierOf kind) m d ∷ [])
-  unfolding wrap quantifierOf
-  wrap-exists h p = rw (pick-yes (eqb kind 5) exists for-all (eq-eqb kind 5 h)) p
+  pub join-exists : kind ≡ 5 → last ≡ withNodes out at (operator implies d m ∷ []) → last ≡ withNodes out at (levelJoin (quantifierOf kind) m d ∷ [])
+  unfolding levelJoin quantifierOf
+  join-exists h p = rw (pick-yes (eqb kind 5) exists for-all (eq-eqb kind 5 h)) p
 
-  pub wrap-for-all : (kind ≡ 5 → ⊥) → last ≡ withNodes out at (operator and m d ∷ []) → last ≡ withNodes out at (wrap (quantifierOf kind) m d ∷ [])
-  unfolding wrap quantifierOf
-  wrap-for-all h p = rw (pick-no (eqb kind 5) exists for-all (ne-eqb kind 5 h)) p
+  pub join-for-all : (kind ≡ 5 → ⊥) → last ≡ withNodes out at (operator and m d ∷ []) → last ≡ withNodes out at (levelJoin (quantifierOf kind) m d ∷ [])
+  unfolding levelJoin quantifierOf
+  join-for-all h p = rw (pick-no (eqb kind 5) exists for-all (ne-eqb kind 5 h)) p
 
 module _ (t : Table) where
   -- one block further
@@ -124,9 +124,9 @@ module _ (t : Table) where
   abbrev levelConstraints : ℕ → ℕ → List Node
   levelConstraints b s = constraint t b s ++ nodesAfter t b (s + length (constraint t b s))
 
-  -- a level in parts: the first block's constraint, those after it, and the wrap
+  -- a level in parts: the first block's constraint, those after it, and the join
   level-parts : (j b s : ℕ) → link (atLevel t (suc j)) 0 (t .size) ≡ suc b → level t b ≡ suc j
-      → levelNodes t j s ≡ levelConstraints b s ++ (wrap (levelQuantifier t j) (s - 1) (s + length (levelConstraints b s) - 1) ∷ [])
+      → levelNodes t j s ≡ levelConstraints b s ++ (levelJoin (levelQuantifier t j) (s - 1) (s + length (levelConstraints b s) - 1) ∷ [])
   unfolding levelNodes constraints
   level-parts j b s e f =
       let all : blocksAt t (suc j) ≡ b ∷ blocksFrom t (suc j) (suc b) = sym (blocksFrom-all t (suc j)) ∙ blocksFrom-some t (suc j) 0 b e in
@@ -137,15 +137,15 @@ module _ (t : Table) where
   length-level j b s e f = ap (λ (ns : List Node). length ns) (level-parts j b s e f) ∙ simp length-append
 
   pub wrote-level : (j b s n e kind : ℕ) (out m o last : List ℕ) → link (atLevel t (suc j)) 0 (t .size) ≡ suc b → level t b ≡ suc j
-      → Wrote out s (constraint t b s) m n → Wrote m n (nodesAfter t b n) o e → last ≡ withNodes o e (wrap (quantifierOf kind) (s - 1) (e - 1) ∷ [])
+      → Wrote out s (constraint t b s) m n → Wrote m n (nodesAfter t b n) o e → last ≡ withNodes o e (levelJoin (quantifierOf kind) (s - 1) (e - 1) ∷ [])
       → quantifierOf kind ≡ levelQuantifier t j → width * (s + length (levelNodes t j s)) ≤ length out → Wrote out s (levelNodes t j s) last (e + 1)
   wrote-level j b s n e kind out m o last f g p q r k fits =
       let l = length-level j b s f g in
       let next : Wrote m n (nodesAfter t b (s + length (constraint t b s))) o e = subst (λ a. Wrote m n (nodesAfter t b a) o e) (p .next-is) q in
       let both : Wrote out s (levelConstraints b s) o e = wrote-then p next (omega (arith, p .next-is, next .next-is)) in
-      let last-is = subst (λ k. last ≡ withNodes o e (wrap k (s - 1) (e - 1) ∷ [])) k r in
-      wrote (levelConstraints b s ++ (wrap (levelQuantifier t j) (s - 1) (e - 1) ∷ []))
-      (level-parts j b s f g ∙ ap (λ a. levelConstraints b s ++ (wrap (levelQuantifier t j) (s - 1) (a - 1) ∷ [])) (sym (both .next-is)))
+      let last-is = subst (λ k. last ≡ withNodes o e (levelJoin k (s - 1) (e - 1) ∷ [])) k r in
+      wrote (levelConstraints b s ++ (levelJoin (levelQuantifier t j) (s - 1) (e - 1) ∷ []))
+      (level-parts j b s f g ∙ ap (λ a. levelConstraints b s ++ (levelJoin (levelQuantifier t j) (s - 1) (a - 1) ∷ [])) (sym (both .next-is)))
       (with-then out o last s e (levelConstraints b s) _ (both .nodes-are) last-is (both .next-is) (omega (arith, length-append (constraint t b s) (nodesAfter t b (s + length (constraint t b s))))))
       (simp length-append (omega (arith, p .next-is, next .next-is)))
 

@@ -1,5 +1,5 @@
 // Writes the nodes of a prenex form that come after those of its table (document 01, "The written
-// form": for each level its blocks' constraints and the wrap) into a lent buffer.
+// form": for each level its blocks' constraints, joined to the matrix) into a lent buffer.
 ghost use mathlib.Core.List.{[], _∷_, flatMap};
 ghost use mathlib.Core.Path.{_≡_};
 ghost use Prim.Native.Nat.{_+_, _*_, _-_, _≤_, _<_};
@@ -9,7 +9,7 @@ ghost use Rattle.formula.specs.Node.{variable, operator};
 ghost use Rattle.formula.specs.Words.{width, tableOf};
 ghost use Rattle.formula.specs.Form.{quantifierOf};
 ghost use Rattle.prenex_form.specs.Levels.{levels};
-ghost use Rattle.prenex_form.specs.Matrix.{kept, guard, constraint, further, wrap, levelNodes, nodeWords};
+ghost use Rattle.prenex_form.specs.Matrix.{kept, guard, constraint, further, levelJoin, levelNodes, nodeWords};
 ghost use Rattle.arrays.specs.Held.{Chained};
 ghost use Rattle.matrix_writer.specs.Added.{addedNodes};
 ghost use Rattle.matrix_writer.specs.Buffer.{withNodes, Room, Wrote};
@@ -216,11 +216,11 @@ fn write_further(
     next
 }
 
-// Writes the wrap of a level: how its constraints are joined with the matrix, by the level's
+// Writes how a level's constraints are joined to the matrix, by the level's
 // quantifier.
-fn write_wrap(nodes: &mut [u32], at: u32, kind: u32, matrix: u32, constraints: u32)
+fn write_join(nodes: &mut [u32], at: u32, kind: u32, matrix: u32, constraints: u32)
     requires { ⌜ Room (now nodes) at 1 ⌝ }
-    ensures { λ _. ⌜ now (nodes .exit) ≡ withNodes (now (nodes .entry)) at (wrap (quantifierOf kind) matrix constraints ∷ []) ⌝ }
+    ensures { λ _. ⌜ now (nodes .exit) ≡ withNodes (now (nodes .entry)) at (levelJoin (quantifierOf kind) matrix constraints ∷ []) ⌝ }
 {
     if kind == EXISTS_BLOCK {
         put_operator(nodes, at, IMPLIES, constraints, matrix);
@@ -275,7 +275,7 @@ fn write_level(
         first,
         next,
     );
-    write_wrap(nodes, end, kind, at - 1, end - 1);
+    write_join(nodes, end, kind, at - 1, end - 1);
     end + 1
 }
 

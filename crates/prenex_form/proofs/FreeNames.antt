@@ -23,10 +23,10 @@ use Rattle.formula.proofs.Unfolding.{freeAt-node}
 use Rattle.prenex_form.specs.Scope.{binder, inner, level, above, parent}
 use Rattle.prenex_form.specs.Names.{newNames, newName, copies, definitionVariable}
 use Rattle.prenex_form.specs.Levels.{blocksAt, levels, levelQuantifier}
-use Rattle.prenex_form.specs.Matrix.{kept, renamed, firstNodes, equation, constraint, further, constraints, wrap, levelNodes, nodesTo, prenexNodes, writtenNodes}
+use Rattle.prenex_form.specs.Matrix.{kept, renamed, firstNodes, equation, constraint, further, constraints, levelJoin, levelNodes, nodesTo, prenexNodes, writtenNodes}
 use Rattle.prenex_form.specs.Prefix.{blockCount, leading, prefixBlock, prefixBlocks, writtenPrefix, writtenVariables}
 use Rattle.prenex_form.proofs.Paths.{climb, parent-lt, parent-names, binder-root, binder-step, binder-block, inner-level, level-le-levels, mem-blocksAt, blocksAt-lt, blocksAt-inner, inner-block, kept-le, kept-inner}
-use Rattle.prenex_form.proofs.NameLaws.{variable-le, length-newNames, length-copies, newName-free, newName-bound, newNames-above, copies-above, definition-above}
+use Rattle.prenex_form.proofs.NameLaws.{variable-le, length-newNames, length-copies, newName-free, newName-bound}
 use Rattle.prenex_form.proofs.NodeLists.{listTable, Plain}
 use Rattle.prenex_form.proofs.Written.{length-firstNodes, getD-firstNodes}
 use Rattle.prenex_form.proofs.WrittenOrder.{prenex-plain, written-table}
@@ -252,10 +252,10 @@ module _ (t : Table) where
   pick-sourced true ms ns p q = p
   pick-sourced false ms ns p q = q
 
-  wrap-sourced : (q : Quantifier) (m c : ℕ) → AllSourced t (wrap q m c ∷ [])
-  unfolding wrap
-  wrap-sourced exists m c = of-operator none
-  wrap-sourced for-all m c = of-operator none
+  levelJoin-sourced : (q : Quantifier) (m c : ℕ) → AllSourced t (levelJoin q m c ∷ [])
+  unfolding levelJoin
+  levelJoin-sourced exists m c = of-operator none
+  levelJoin-sourced for-all m c = of-operator none
 
   module _ (tree : Tree t) where
     new-sourced : (i x : ℕ) → i < t .size → t .node i ≡ variable x → Is (ltb (binder t i x) (t .size)) → Source t (newName t i x)
@@ -331,7 +331,7 @@ module _ (t : Table) where
         append-sourced (nodesTo t j) _ (nodes-sourced j)
         (append-sourced (constraints t (blocksAt t (suc j)) (length (nodesTo t j))) _
         (constraints-sourced (blocksAt t (suc j)) _ (λ i m. (blocksAt-lt t tree (suc j) i m, blocksAt-inner t tree (suc j) i m)))
-        (wrap-sourced (levelQuantifier t j) _ _))
+        (levelJoin-sourced (levelQuantifier t j) _ _))
 
     -- the first nodes stand first
     first-at : (j i : ℕ) → i < kept t → (i < length (nodesTo t j)) × (getD (nodesTo t j) i (constant false) ≡ renamed t i (t .node i))

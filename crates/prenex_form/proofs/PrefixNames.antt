@@ -24,9 +24,9 @@ use Rattle.prenex_form.specs.Scope.{binder, inner, level, depth}
 use Rattle.prenex_form.specs.Names.{highestAt, highestNumber, boundCount, newNames, newName, innerBoundBelow, innerBelow, copies, definitionVariable}
 use Rattle.prenex_form.specs.Levels.{blocksAt, levels, quantifierAt, levelQuantifier}
 use Rattle.prenex_form.specs.Prefix.{blockCount, leading, prefixBlock, prefixBlocks, kindOf, prefixWords, writtenPrefix, writtenVariables}
-use Rattle.prenex_form.specs.Matrix.{and, kept, renamed, firstNodes, equation, guard, constraint, further, constraints, wrap, levelNodes, nodesTo, prenexNodes}
+use Rattle.prenex_form.specs.Matrix.{and, kept, renamed, firstNodes, equation, guard, constraint, further, constraints, levelJoin, levelNodes, nodesTo, prenexNodes}
 use Rattle.prenex_form.specs.Sizes.{prefixCount, sizes}
-use Rattle.prenex_form.proofs.Paths.{level-root, inner-lt, inner-level, level-le-levels, blocksAt-lt, blocksAt-inner, blocksAt-level, depth-levels, inner-block, root-outer, kept-le, kept-inner}
+use Rattle.prenex_form.proofs.Paths.{level-root, inner-level, level-le-levels, blocksAt-lt, blocksAt-inner, blocksAt-level, depth-levels, inner-block, root-outer, kept-le, kept-inner}
 use Rattle.prenex_form.proofs.NameLaws.{none-bound, variable-le, innerBound-is, innerBound-le, length-newNames, length-copies, newNames-above, newNames-le, copies-above, copies-le, definition-above, definition-le, newNames-apart, copies-apart, definition-apart, distinct-newNames, distinct-copies, newName-bound}
 use Rattle.prenex_form.proofs.Alternation.{quantifier-read}
 
@@ -550,10 +550,10 @@ peak-getD [] k = omega arith
 peak-getD (nd ∷ ns) zero = omega arith
 peak-getD (nd ∷ ns) (suc k) = omega (arith, peak-getD ns k)
 
-wrap-nameless : (q : Quantifier) (m c : ℕ) → highestAt (wrap q m c) ≡ 0
-unfolding wrap highestAt
-wrap-nameless exists m c = refl
-wrap-nameless for-all m c = refl
+levelJoin-nameless : (q : Quantifier) (m c : ℕ) → highestAt (levelJoin q m c) ≡ 0
+unfolding levelJoin highestAt
+levelJoin-nameless exists m c = refl
+levelJoin-nameless for-all m c = refl
 
 module _ (t : Table) where
   newName-le : (i x : ℕ) → i < t .size → t .node i ≡ variable x → newName t i x ≤ lastName t
@@ -640,11 +640,11 @@ module _ (t : Table) where
     unfolding levelNodes peak
     levelNodes-le j s =
         let cs = constraints t (blocksAt t (suc j)) s in
-        let w = wrap (levelQuantifier t j) (s - 1) (s + length cs - 1) in
+        let w = levelJoin (levelQuantifier t j) (s - 1) (s + length cs - 1) in
         omega (
           arith,
           peak-append cs (w ∷ []),
-          wrap-nameless (levelQuantifier t j) (s - 1) (s + length cs - 1),
+          levelJoin-nameless (levelQuantifier t j) (s - 1) (s + length cs - 1),
           constraints-le (blocksAt t (suc j)) s (λ i r m. constraint-le i r (blocksAt-lt t tree (suc j) i m) (blocksAt-inner t tree (suc j) i m)),
         )
 

@@ -23,7 +23,7 @@ use Rattle.formula.proofs.Operators.{and-is-8, or-is-14, biconditional-is-9, im
 use Rattle.prenex_form.specs.Scope.{inner, level}
 use Rattle.prenex_form.specs.Names.{newName, newNames, copies, definitionVariable}
 use Rattle.prenex_form.specs.Levels.{blocksAt, levels, quantifierAt, levelQuantifier}
-use Rattle.prenex_form.specs.Matrix.{and, iff, implies, kept, renamed, firstNodes, bodyOf, equation, guard, constraint, further, constraints, wrap, levelNodes, nodesTo, prenexNodes}
+use Rattle.prenex_form.specs.Matrix.{and, iff, implies, kept, renamed, firstNodes, bodyOf, equation, guard, constraint, further, constraints, levelJoin, levelNodes, nodesTo, prenexNodes}
 use Rattle.prenex_form.proofs.Cut.{cutNode, cut, valueAt, agree, guarded, holds, blockHolds, joined, matrixAt}
 use Rattle.prenex_form.proofs.Paths.{kept-le, kept-inner, inner-lt, level-le-levels, blocksAt-lt, blocksAt-inner, level-nonempty, kept-positive, inner-block, body-named}
 use Rattle.prenex_form.proofs.NameLaws.{length-newNames, length-copies}
@@ -298,23 +298,23 @@ module _ (t : Table) (ms : List Node) (v : Valuation) (c k : ℕ) where
       let u : s + length cs + length rest - 1 ≡ s + length (cs ++ rest) - 1 = omega (arith, length-append cs rest) in
       val-is ms v _ _ _ _ u refl w
 
-  wrap-value : (q : Quantifier) (i m d : ℕ) (x y : Bool) → getD ms i (constant false) ≡ wrap q m d → m < i → d < i
+  levelJoin-value : (q : Quantifier) (i m d : ℕ) (x y : Bool) → getD ms i (constant false) ≡ levelJoin q m d → m < i → d < i
       → Val ms v m x → Val ms v d y → Val ms v i (joined q x y)
-  unfolding wrap joined
-  wrap-value exists i m d x y e l r p q = val-is ms v i i _ _ refl (implies-is-11 y x) (val-operator ms v i implies d m y x e r l q p)
-  wrap-value for-all i m d x y e l r p q = both-values t ms v i m d x y e l r p q
+  unfolding levelJoin joined
+  levelJoin-value exists i m d x y e l r p q = val-is ms v i i _ _ refl (implies-is-11 y x) (val-operator ms v i implies d m y x e r l q p)
+  levelJoin-value for-all i m d x y e l r p q = both-values t ms v i m d x y e l r p q
 
   level-value-of : (is : List ℕ) (q : Quantifier) (s : ℕ) (x : Bool) → 0 < length is → 0 < s → k ≤ s → Bodies t ms v c k is
-      → Placed ms s (constraints t is s ++ (wrap q (s - 1) (s + length (constraints t is s) - 1) ∷ [])) → Val ms v (s - 1) x
+      → Placed ms s (constraints t is s ++ (levelJoin q (s - 1) (s + length (constraints t is s) - 1) ∷ [])) → Val ms v (s - 1) x
       → Val ms v (s + length (constraints t is s)) (joined q x (all (blockHolds t c v) is))
   level-value-of [] q s x some h l ready p m = absurd (not-suc-le-zero some)
   level-value-of (i ∷ is) q s x some h l ready p m =
       let cs = constraints t (i ∷ is) s in
-      let w = wrap q (s - 1) (s + length cs - 1) in
+      let w = levelJoin q (s - 1) (s + length cs - 1) in
       let n = length-constraints-ge t i is s in
       let r : Placed ms (s + length cs) (w ∷ []) = placed-right ms s cs (w ∷ []) p in
       let y = constraints-value i is s l ready (placed-left ms s cs (w ∷ []) p) in
-      wrap-value q (s + length cs) (s - 1) (s + length cs - 1) x _
+      levelJoin-value q (s + length cs) (s - 1) (s + length cs - 1) x _
       (placed-at ms (s + length cs) (w ∷ []) r 0 (s + length cs) (omega arith) (omega arith)) (omega arith) (omega arith) m y
 
   level-value : (j s : ℕ) (x : Bool) → 0 < length (blocksAt t (suc j)) → 0 < s → k ≤ s → Bodies t ms v c k (blocksAt t (suc j))
@@ -323,7 +323,7 @@ module _ (t : Table) (ms : List Node) (v : Valuation) (c k : ℕ) where
   unfolding levelNodes
   level-value j s x some h l ready p m =
       let cs = constraints t (blocksAt t (suc j)) s in
-      let w = wrap (levelQuantifier t j) (s - 1) (s + length cs - 1) in
+      let w = levelJoin (levelQuantifier t j) (s - 1) (s + length cs - 1) in
       let u : s + length cs ≡ s + length (cs ++ (w ∷ [])) - 1 = omega (arith, length-append cs (w ∷ [])) in
       val-is ms v _ _ _ _ u refl (level-value-of (blocksAt t (suc j)) (levelQuantifier t j) s x some h l ready p m)
 

@@ -22,7 +22,7 @@ use Rattle.formula.specs.Tree.{Tree, count}
 use Rattle.formula.specs.Form.{matrixTruth}
 use Rattle.prenex_form.specs.Names.{definitionVariable}
 use Rattle.prenex_form.specs.Levels.{blocksAt, levels, levelQuantifier}
-use Rattle.prenex_form.specs.Matrix.{iff, kept, renamed, firstNodes, bodyOf, equation, constraint, further, constraints, wrap, levelNodes, nodesTo, prenexNodes, writtenNodes}
+use Rattle.prenex_form.specs.Matrix.{iff, kept, renamed, firstNodes, bodyOf, equation, constraint, further, constraints, levelJoin, levelNodes, nodesTo, prenexNodes, writtenNodes}
 use Rattle.prenex_form.proofs.Cut.{matrixAt}
 use Rattle.prenex_form.proofs.Paths.{kept-le, blocksAt-lt, blocksAt-inner, kept-positive}
 use Rattle.prenex_form.proofs.NodeLists.{listTable, Plain, words-table}
@@ -105,16 +105,16 @@ module _ (t : Table) (k : ℕ) where
       ordered-append s (constraint t i s) _ (head-ordered i is s h low)
       (further-ordered is (s + length (constraint t i s)) (omega arith) (omega arith) (λ j m. low j (mem-tail j i is m)))
 
-  wrap-ordered : (q : Quantifier) (s m c : ℕ) → m < s → c < s → Ordered s (wrap q m c ∷ [])
-  unfolding wrap
-  wrap-ordered exists s m c l r = of-operator r l none
-  wrap-ordered for-all s m c l r = of-operator l r none
+  levelJoin-ordered : (q : Quantifier) (s m c : ℕ) → m < s → c < s → Ordered s (levelJoin q m c ∷ [])
+  unfolding levelJoin
+  levelJoin-ordered exists s m c l r = of-operator r l none
+  levelJoin-ordered for-all s m c l r = of-operator l r none
 
   level-ordered : (j s : ℕ) → 0 < s → k ≤ s → Low t k (blocksAt t (suc j)) → Ordered s (levelNodes t j s)
   unfolding levelNodes
   level-ordered j s p h low =
       ordered-append s (constraints t (blocksAt t (suc j)) s) _ (constraints-ordered (blocksAt t (suc j)) s h low)
-      (wrap-ordered (levelQuantifier t j) _ _ _ (omega arith) (omega arith))
+      (levelJoin-ordered (levelQuantifier t j) _ _ _ (omega arith) (omega arith))
 
 renamed-fits : (t : Table) (i : ℕ) (nd : Node) → ((a : ℕ) → mem a (operands nd) ≡ true → a < i) → Fits i (renamed t i nd)
 unfolding renamed operands

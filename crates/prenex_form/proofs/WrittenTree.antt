@@ -18,7 +18,7 @@ use Rattle.formula.specs.Node.{Quantifier, exists, for-all, Node, constant, var
 use Rattle.formula.specs.Tree.{Tree, count, timesNamed}
 use Rattle.prenex_form.specs.Scope.{inner}
 use Rattle.prenex_form.specs.Levels.{blocksAt, levels, levelQuantifier}
-use Rattle.prenex_form.specs.Matrix.{and, kept, renamed, firstNodes, bodyOf, equation, constraint, further, constraints, wrap, levelNodes, nodesTo, prenexNodes}
+use Rattle.prenex_form.specs.Matrix.{and, kept, renamed, firstNodes, bodyOf, equation, constraint, further, constraints, levelJoin, levelNodes, nodesTo, prenexNodes}
 use Rattle.prenex_form.proofs.Paths.{kept-root, kept-inner, root-body, kept-positive}
 use Rattle.prenex_form.proofs.PrefixNames.{sum-first}
 use Rattle.prenex_form.proofs.NodeLists.{listTable}
@@ -173,10 +173,10 @@ module _ (i : ℕ) (t : Table) where
       let l : s + length (c ++ rest) - 1 ≡ e + length rest - 1 = omega (arith, length-append c rest) in
       rw (l, named-append i c rest) (omega (arith, further-named bs e (omega arith), constraint-named i t b s))
 
-  wrap-named : (q : Quantifier) (m c : ℕ) → named i (wrap q m c ∷ []) ≡ one i m + one i c
-  unfolding wrap
-  wrap-named exists m c = rw (named-operator, named-nil) (omega arith)
-  wrap-named for-all m c = rw (named-operator, named-nil) (omega arith)
+  levelJoin-named : (q : Quantifier) (m c : ℕ) → named i (levelJoin q m c ∷ []) ≡ one i m + one i c
+  unfolding levelJoin
+  levelJoin-named exists m c = rw (named-operator, named-nil) (omega arith)
+  levelJoin-named for-all m c = rw (named-operator, named-nil) (omega arith)
 
   constraints-some : (bs : List ℕ) (s : ℕ) → 0 < length bs → 0 < length (constraints t bs s)
   constraints-some [] s h = absurd (not-suc-le-zero h)
@@ -190,10 +190,10 @@ module _ (i : ℕ) (t : Table) where
       let bs = blocksAt t (suc j) in
       let cs = constraints t bs s in
       let m = s + length cs - 1 in
-      let w = wrap (levelQuantifier t j) (s - 1) m in
+      let w = levelJoin (levelQuantifier t j) (s - 1) m in
       let n = constraints-some bs s some in
       let l : s + length (cs ++ (w ∷ [])) - 1 ≡ s + length cs = omega (arith, length-append cs (w ∷ [])) in
-      rw (l, named-append i cs (w ∷ []), wrap-named (levelQuantifier t j) (s - 1) m)
+      rw (l, named-append i cs (w ∷ []), levelJoin-named (levelQuantifier t j) (s - 1) m)
       (omega (arith, constraints-named bs s some, step i (s - 1) s (omega arith), step i m (s + length cs) (omega arith)))
 
   nodes-named : (j : ℕ) → ((l : ℕ) → l < j → 0 < length (blocksAt t (suc l))) → 0 < length (firstNodes t)

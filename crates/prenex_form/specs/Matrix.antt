@@ -90,15 +90,15 @@ constraints t (i ∷ is) s = let c = constraint t i s in c ++ further t is (s + 
 
 -- "The level ends with one wrap of its constraints C: operator 8 (matrix, C) if the level's quantifier is for-all, operator 11 (C,
 -- matrix) if exists."
-unfoldable pub wrap : Quantifier → ℕ → ℕ → Node
-wrap for-all m c = operator and m c
-wrap exists m c = operator implies c m
+unfoldable pub levelJoin : Quantifier → ℕ → ℕ → Node
+levelJoin for-all m c = operator and m c
+levelJoin exists m c = operator implies c m
 
 -- Level j + 1, its first node at index s. The matrix so far is node s - 1.
 unfoldable pub levelNodes : Table → ℕ → ℕ → List Node
 levelNodes t j s =
     let cs = constraints t (blocksAt t (suc j)) s in
-    cs ++ (wrap (levelQuantifier t j) (s - 1) (s + length cs - 1) ∷ [])
+    cs ++ (levelJoin (levelQuantifier t j) (s - 1) (s + length cs - 1) ∷ [])
 
 -- The first nodes and those of the first l levels.
 unfoldable pub nodesTo : Table → ℕ → List Node

@@ -283,13 +283,10 @@ pub struct Passed {
 fn with_number(passed: Passed, x: u32) -> Passed
     ensures { λ r. ⌜ r ≡ withNumber x passed ⌝ }
 {
-    if passed.highest < x {
-        return Passed {
-            start: passed.start,
-            highest: x,
-        };
+    Passed {
+        start: passed.start,
+        highest: larger(passed.highest, x),
     }
-    passed
 }
 
 // Chains the inner blocks by level and the variable nodes and blocks by parent block, and writes how

@@ -1,4 +1,4 @@
--- `matrix_writer::write_level` meets its contract. The first block's constraint, those after it, and the wrap.
+-- `matrix_writer::write_level` meets its contract. The first block's constraint, those after it, and the join.
 -- Assumes nothing.
 use mathlib.Core.Path.{_≡_}
 use Prim.Native.Nat.{_+_}
@@ -23,7 +23,7 @@ written c = c .before .before .before .before
 known : (s : tie.Start) → LevelFacts (s .args .words .now) (s .args .list .now) (s .args .firsts .now) (s .args .j) (s .args .at)
 known s = level-facts (s .args .at) (s .pre .0 .starts-held .checked) (s .pre .1 .0) (s .pre .1 .1 .0)
 
--- what is left after the further blocks is the wrap alone
+-- what is left after the further blocks is the join alone
 ended : (c : tie.After-write-further) → c .write-further .result + 1 ≡ entry (written c) .args .at + length (levelNodes (tableOf (entry (written c) .args .words .now) (entry (written c) .args .list .now)) (entry (written c) .args .j) (entry (written c) .args .at))
 ended c =
     let n = written c .write-constraint .ensures .next-is in
@@ -55,16 +55,16 @@ write-further-requires c κs =
     let n = c .before .before .before .write-constraint .ensures .next-is in
     (s .pre .0, (next-blocks (s .pre .1 .0), (known s .block .block, (omega (arith, s .pre .1 .1 .1, n), rw n (omega (arith, known s .long, s .pre .1 .1 .1))))))
 
-sub-write-wrap : tie.Need-sub-write-wrap
-sub-write-wrap c = omega (arith, entry (written (c .before .before .before)) .pre .1 .1 .1)
+sub-write-join : tie.Need-sub-write-join
+sub-write-join c = omega (arith, entry (written (c .before .before .before)) .pre .1 .1 .1)
 
-sub-write-wrap-2 : tie.Need-sub-write-wrap-2
-sub-write-wrap-2 c =
+sub-write-join-2 : tie.Need-sub-write-join-2
+sub-write-join-2 c =
     let f = c .before .before .before in
     omega (arith, entry (written f) .pre .1 .1 .1, f .write-further .ensures .next-is, written f .write-constraint .ensures .next-is)
 
-write-wrap-requires : tie.Need-write-wrap-requires
-write-wrap-requires c κs = omega (arith, entry (written (c .before .before .before)) .pre .1 .1 .1, ended (c .before .before .before))
+write-join-requires : tie.Need-write-join-requires
+write-join-requires c κs = omega (arith, entry (written (c .before .before .before)) .pre .1 .1 .1, ended (c .before .before .before))
 
 add-result : tie.Need-add-result
 add-result c = omega (arith, entry (written (c .before .before .before .before .before .before)) .pre .1 .1 .1, ended (c .before .before .before .before .before .before))
@@ -77,7 +77,7 @@ returns c =
     let f = c .before .before .before .before .before .before in
     let s = entry (written f) in
     wrote-level _ _ _ _ _ _ _ _ _ _ _ (known s .link-is) (known s .block .level-is) (written f .write-constraint .ensures) (f .write-further .ensures)
-    (c .before .before .write-wrap .ensures) (s .pre .1 .1 .0 .quantifier-is) (s .pre .1 .1 .1 .1 .fits)
+    (c .before .before .write-join .ensures) (s .pre .1 .1 .0 .quantifier-is) (s .pre .1 .1 .1 .1 .fits)
 
 pub write-level-spec : {M : Type 1} → statement M
 write-level-spec =
@@ -90,9 +90,9 @@ write-level-spec =
     sub-first
     write-constraint-requires
     write-further-requires
-    sub-write-wrap
-    sub-write-wrap-2
-    write-wrap-requires
+    sub-write-join
+    sub-write-join-2
+    write-join-requires
     add-result
     same-length
     returns)

@@ -1,17 +1,17 @@
--- `free_variables::mark_node` meets its contract: the node is no variable, or its number is marked and `end` is above it.
+-- `free_variables::flag_node` meets its contract: the node is no variable, or its number is flagged and `end` is above it.
 -- Assumes nothing.
 use mathlib.Core.Path.{sym, _∙_}
 use native.Mathlib.Omega.{arith}
 use borrow.Author.Needs.{needs}
-use Rattle.free_variables.proofs.Flags.{marked-other, marked-variable}
-use Rattle.free_variables.proofs.mark_node.Statement.{statement}
-use Rattle.free_variables.proofs.mark_node.Tie as tie
+use Rattle.free_variables.proofs.Flags.{flags-other, flags-variable}
+use Rattle.free_variables.proofs.flag_node.Statement.{statement}
+use Rattle.free_variables.proofs.flag_node.Tie as tie
 
 node-at-requires : tie.Need-node-at-requires
 node-at-requires c κs = search needs
 
 returns : tie.Need-returns
-returns c = marked-other _ _ _ _ (c .before .before .before .before .before .pre .1 .1) (λ e. c .if1 .taken (c .before .before .node-at .ensures .0 ∙ e))
+returns c = flags-other _ _ _ _ (c .before .before .before .before .before .pre .1 .1) (λ e. c .if1 .taken (c .before .before .node-at .ensures .0 ∙ e))
 
 cast-x : tie.Need-cast-x
 cast-x c = search needs
@@ -32,7 +32,7 @@ returns-2 c =
     let start = c .before .before .before .before .before .before .before in
     let e = c .before .before .before .before .node-at .ensures in
     let k = sym (e .0) ∙ c .before .before .if1 .left in
-    rw (e .1) (marked-variable _ _ _ _ (start .pre .1 .1) k _ (omega arith) (omega (arith, e .1)) (start .pre .1 .1 .low))
+    rw (e .1) (flags-variable _ _ _ _ (start .pre .1 .1) k _ (omega arith) (omega (arith, e .1)) (start .pre .1 .1 .low))
 
 add-result : tie.Need-add-result
 add-result c = search needs
@@ -46,10 +46,10 @@ returns-3 c =
     let e = c .before .before .before .before .node-at .ensures in
     let k = sym (e .0) ∙ c .before .before .if1 .left in
     let l = start .pre .0 (start .args .i) (start .pre .1 .0) k in
-    rw (e .1) (marked-variable _ _ _ _ (start .pre .1 .1) k _ (omega (arith, e .1)) (omega (arith, e .1)) (omega (arith, e .1)))
+    rw (e .1) (flags-variable _ _ _ _ (start .pre .1 .1) k _ (omega (arith, e .1)) (omega (arith, e .1)) (omega (arith, e .1)))
 
-pub mark-node-spec : {M : Type 1} → statement M
-mark-node-spec =
+pub flag-node-spec : {M : Type 1} → statement M
+flag-node-spec =
     tie.close
     (tie.spec
     node-at-requires

@@ -1,4 +1,4 @@
--- `free_variables::unmark_range` meets its contract. The invariant: the flags of the entries passed are taken back, all others as they were.
+-- `free_variables::clear_range` meets its contract. The invariant: the flags of the entries passed are taken back, all others as they were.
 -- Assumes nothing.
 use mathlib.Core.Path.{_≡_, refl}
 use Prim.Native.Nat.{_+_, _-_, _≤_}
@@ -7,8 +7,8 @@ use lib.ListN.{length, length-set}
 use borrow.Author.Needs.{needs}
 use Rattle.formula.specs.Words.{range}
 use Rattle.free_variables.proofs.Flags.{Without, without-none, without-next, entry-in-range}
-use Rattle.free_variables.proofs.unmark_range.Statement.{statement}
-use Rattle.free_variables.proofs.unmark_range.Tie as tie
+use Rattle.free_variables.proofs.clear_range.Statement.{statement}
+use Rattle.free_variables.proofs.clear_range.Tie as tie
 
 abbrev Inv-loop : tie.InvT-loop
 Inv-loop list flags₀ first count first' count' k₀ flags k = (k ≤ count) × (length flags ≡ length flags₀) × Without flags₀ (range list first k) flags
@@ -61,8 +61,8 @@ returns : tie.Need-returns Inv-loop μ-loop
 returns c x =
     let e : c .before .loop .k ≡ c .before .before .args .count = omega arith in rw (← e) (c .before .loop .inv .2 x)
 
-pub unmark-range-spec : {M : Type 1} → statement M
-unmark-range-spec =
+pub clear-range-spec : {M : Type 1} → statement M
+clear-range-spec =
     tie.close
     (tie.spec
     Inv-loop

@@ -1,12 +1,12 @@
--- `free_variables::unmark_node` meets its contract: the node is no block, or the numbers of its range are unmarked.
+-- `free_variables::clear_node` meets its contract: the node is no block, or the numbers of its range are cleared.
 -- Assumes nothing.
 use mathlib.Core.Path.{sym, _∙_}
 use native.Mathlib.Omega.{arith}
 use borrow.Author.Needs.{needs}
 use borrow.Author.Tests.{not-true, not-false}
-use Rattle.free_variables.proofs.Flags.{unmarked-other, unmarked-block, range-numbered}
-use Rattle.free_variables.proofs.unmark_node.Statement.{statement}
-use Rattle.free_variables.proofs.unmark_node.Tie as tie
+use Rattle.free_variables.proofs.Flags.{cleared-other, cleared-block, range-numbered}
+use Rattle.free_variables.proofs.clear_node.Statement.{statement}
+use Rattle.free_variables.proofs.clear_node.Tie as tie
 
 node-at-requires : tie.Need-node-at-requires
 node-at-requires c κs = search needs
@@ -18,10 +18,10 @@ returns : tie.Need-returns
 returns c =
     let e = c .before .before .node-at .ensures in
     let k = c .before .is-block-kind .ensures in
-    unmarked-other _ _ _ _ (c .before .before .before .before .before .before .pre .1 .1) (rw (e .0) at (sym k ∙ not-true _ (c .if1 .taken)))
+    cleared-other _ _ _ _ (c .before .before .before .before .before .before .pre .1 .1) (rw (e .0) at (sym k ∙ not-true _ (c .if1 .taken)))
 
-unmark-range-requires : tie.Need-unmark-range-requires
-unmark-range-requires c κs =
+clear-range-requires : tie.Need-clear-range-requires
+clear-range-requires c κs =
     let start = c .before .before .before .before .before .before .before in
     let e = c .before .before .before .node-at .ensures in
     let k = c .before .before .is-block-kind .ensures in
@@ -39,8 +39,8 @@ returns-2 c =
     let e = c .before .before .before .before .before .before .node-at .ensures in
     let k = c .before .before .before .before .before .is-block-kind .ensures in
     let b = rw (e .0) at (sym k ∙ not-false _ (c .before .before .before .before .if1 .left)) in
-    unmarked-block _ _ _ _ (c .before .before .before .before .before .before .before .before .before .before .pre .1 .1) b _ (c .before .before .unmark-range .kept .1 .0) (λ x. rw (e .1, e .2) at (c .before .before .unmark-range .ensures x))
+    cleared-block _ _ _ _ (c .before .before .before .before .before .before .before .before .before .before .pre .1 .1) b _ (c .before .before .clear-range .kept .1 .0) (λ x. rw (e .1, e .2) at (c .before .before .clear-range .ensures x))
 
-pub unmark-node-spec : {M : Type 1} → statement M
-unmark-node-spec =
-    tie.close (tie.spec node-at-requires is-block-kind-requires returns unmark-range-requires same-length returns-2)
+pub clear-node-spec : {M : Type 1} → statement M
+clear-node-spec =
+    tie.close (tie.spec node-at-requires is-block-kind-requires returns clear-range-requires same-length returns-2)
