@@ -11,6 +11,7 @@ use Rattle.lists.proofs.Members.{mem-getD}
 use Rattle.formula.specs.Node.{Table, isBlock, bound}
 use Rattle.formula.specs.Words.{nodeCount, field, range, nodeAt, tableOf}
 use Rattle.formula.specs.Tree.{Tree, count, boundBelow}
+use Rattle.formula.proofs.Nodes.{block-kind, node-block}
 use Rattle.formula.proofs.Ranges.{range-length, range-at}
 use Rattle.table_check.specs.Verdict.{limit, verdict, accepted}
 use Rattle.table_check.specs.Accepted.{Accepted}
@@ -21,7 +22,7 @@ use Rattle.prenex_form.proofs.Limits.{bound-limit}
 use Rattle.arrays.specs.Held.{enclosing, entries}
 use Rattle.arrays.proofs.Entries.{boundBelow-next, entries-at}
 use Rattle.binders.specs.Scope.{inScope, Open}
-use Rattle.binders.proofs.Tables.{BlockWords, in-table, block-words}
+use Rattle.binders.proofs.Tables.{in-table}
 use Rattle.binders.proofs.Scope.{EntryOf, entryOf-within, scope-own, scope-start, scope-end}
 use Rattle.binders.proofs.Opened.{open-moved, open-put, open-take}
 
@@ -54,15 +55,12 @@ module _ {ws ls : List ℕ} {i start first n : ℕ} (b : BlockAt ws ls i start f
   few : boundCount t ≤ limit
   few = bound-limit ws ls holds
 
-  by-words : BlockWords ls (nodeAt ws ls i) (field ws i 0) (field ws i 1) (field ws i 2)
-  by-words = block-words ws ls i (b .is-block)
-
   fits : first + n ≤ length ls
-  fits = omega (arith, holds .fits i (b .inside) (by-words .is-kind), b .first-is, b .count-is)
+  fits = omega (arith, holds .fits i (b .inside) (block-kind ws ls i (b .is-block)), b .first-is, b .count-is)
 
   bound-by : bound (t .node i) ≡ range ls first n
-  unfolding tableOf
-  bound-by = rw (b .first-is, b .count-is) (by-words .bound-is)
+  unfolding tableOf bound
+  bound-by = rw (b .first-is, b .count-is) (ap bound (node-block ws ls i (b .is-block)))
 
   counted : count t i ≡ n
   unfolding count

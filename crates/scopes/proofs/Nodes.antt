@@ -16,6 +16,7 @@ use Rattle.table_check.specs.Verdict.{limit, verdict, accepted}
 use Rattle.table_check.proofs.Accepted.{accepted-holds}
 use Rattle.prenex_form.specs.Names.{maximum, highestAt}
 use Rattle.arrays.specs.Held.{isMember}
+use Rattle.arrays.proofs.Members.{no-member}
 
 none-by : (ls : List ℕ) (kind a b c : ℕ) → Kind kind → (kind ≡ 3 → ⊥) → (kind ≡ 4 → ⊥) → isBlock (nodeOf ls kind a b c) ≡ false
     → operands (nodeOf ls kind a b c) ≡ []
@@ -27,16 +28,6 @@ none-by ls kind a b c (kind-operator e) n m h = absurd (m e)
 none-by ls kind a b c (kind-exists e) n m h = clash (rw e) h
 none-by ls kind a b c (kind-for-all e) n m h = clash (rw e) h
 none-by ls kind a b c (kind-none e1 e2 e3 e4 e5 e6) n m h = rw (e1, e2, e3, e4, e5, e6)
-
-plain-by : (ls : List ℕ) (kind a b c : ℕ) → Kind kind → (kind ≡ 2 → ⊥) → isBlock (nodeOf ls kind a b c) ≡ false → isMember (nodeOf ls kind a b c) ≡ false
-unfolding nodeOf pick isBlock isMember
-plain-by ls kind a b c (kind-constant e) n h = rw e
-plain-by ls kind a b c (kind-variable e) n h = absurd (n e)
-plain-by ls kind a b c (kind-negation e) n h = rw e
-plain-by ls kind a b c (kind-operator e) n h = rw e
-plain-by ls kind a b c (kind-exists e) n h = clash (rw e) h
-plain-by ls kind a b c (kind-for-all e) n h = clash (rw e) h
-plain-by ls kind a b c (kind-none e1 e2 e3 e4 e5 e6) n h = rw (e1, e2, e3, e4, e5, e6)
 
 pub plain-highest : (nd : Node) → isMember nd ≡ false → highestAt nd ≡ 0
 unfolding isMember highestAt
@@ -83,8 +74,7 @@ module _ (ws ls : List ℕ) (i : ℕ) (n : NodeWords) (r : ReadAt ws i n) where
   variable-member k = rw (variable-read k)
 
   pub plain-member : (n .kind ≡ 2 → ⊥) → isBlock (nodeAt ws ls i) ≡ false → isMember (nodeAt ws ls i) ≡ false
-  unfolding nodeAt
-  plain-member p e = plain-by ls (field ws i 0) (field ws i 1) (field ws i 2) (field ws i 3) (kind-of (field ws i 0)) (λ k. p (r .0 ∙ k)) e
+  plain-member p e = no-member ws ls i (λ k. p (r .0 ∙ k)) e
 
   pub block-highest : isBlock (nodeAt ws ls i) ≡ true → highestAt (nodeAt ws ls i) ≡ maximum (range ls (n .a) (n .b))
   unfolding highestAt

@@ -9,8 +9,7 @@ use Rattle.lists.specs.Choice.{pick}
 use Rattle.lists.specs.Search.{lowest}
 use Rattle.lists.specs.Members.{all, distinct}
 use Rattle.lists.specs.Parts.{sum}
-use Rattle.formula.specs.Words.{width, nodeCount, field, range, tableOf}
-unfoldable pub use Rattle.formula.specs.Words.{isBlockKind}
+use Rattle.formula.specs.Words.{width, nodeCount, field, isBlockKind, range, tableOf}
 use Rattle.formula.specs.Tree.{timesNamed}
 use Rattle.table_check.specs.declared.Verdict.{Verdict}
 
