@@ -26,13 +26,12 @@ pub fn write_first(
     definitions: &mut [u32],
     counter: NameCounter,
     count: usize,
-) -> NameCounter
+)
     requires { ⌜ Given (now words) (now list) (now bindings) names ⌝ }
     requires { ⌜ Counted (now words) (now list) 0 (now definitions) counter ⌝ }
     requires { ⌜ count ≡ kept (tableOf (now words) (now list)) ⌝ ∗ ⌜ width * count ≤ length (now nodes) ⌝ }
-    ensures { λ r. ⌜ now (nodes .exit) ≡ overwrite (now (nodes .entry)) 0 (flatMap nodeWords (firstNodes (tableOf (now (words .entry)) (now (list .entry))))) ⌝ }
-    ensures { λ r. ⌜ Definitions (tableOf (now (words .entry)) (now (list .entry))) (now (definitions .exit)) ⌝ }
-    ensures { λ r. ⌜ Counted (now (words .entry)) (now (list .entry)) (kept (tableOf (now (words .entry)) (now (list .entry)))) (now (definitions .exit)) r ⌝ }
+    ensures { λ _. ⌜ now (nodes .exit) ≡ overwrite (now (nodes .entry)) 0 (flatMap nodeWords (firstNodes (tableOf (now (words .entry)) (now (list .entry))))) ⌝ }
+    ensures { λ _. ⌜ Definitions (tableOf (now (words .entry)) (now (list .entry))) (now (definitions .exit)) ⌝ }
 {
     let mut counter = counter;
     let mut i = 0;
@@ -40,7 +39,6 @@ pub fn write_first(
         counter = write_node(nodes, words, list, bindings, names, definitions, counter, i);
         i += 1;
     }
-    counter
 }
 
 // Writes node i: the input's, a variable renamed, a block replaced by its definition variable.

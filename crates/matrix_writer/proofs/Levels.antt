@@ -50,9 +50,6 @@ levelled-none {t} out kind next e q =
 module _ {t : Table} {out nodes : List ℕ} {kind next j : ℕ} (done : Levelled t out nodes kind next j) where
   -- the room for all levels
   module _ (first l : ℕ) (e : first ≡ kept t) (room : Room out first (length (addedNodes t l))) where
-    pub levelled-small : j ≤ l → next ≤ longestForm
-    levelled-small h = omega (arith, done .wrote-added .next-is, added-grows t j l h, room .small)
-
     -- is room for the next one
     pub level-room : j < l → Room nodes next (length (levelNodes t j next))
     level-room h =
@@ -74,10 +71,9 @@ module _ {t : Table} {out nodes : List ℕ} {kind next j : ℕ} (done : Levelled
         long = k ∙ done .long;
       })
 
-  pub levelled-all : j ≡ levels t
-      → (nodes ≡ overwrite out (width * kept t) (flatMap nodeWords (addedNodes t (levels t)))) × (next ≡ kept t + length (addedNodes t (levels t)))
+  pub levelled-all : j ≡ levels t → nodes ≡ overwrite out (width * kept t) (flatMap nodeWords (addedNodes t (levels t)))
   unfolding withNodes
-  levelled-all e = rw (← e) (done .wrote-added .nodes-are, done .wrote-added .next-is)
+  levelled-all e = rw (← e) (done .wrote-added .nodes-are)
 
 pub root-quantifier : (ws ls : List ℕ) (kind : ℕ) → kind ≡ field ws (nodeCount ws - 1) 0 → quantifierOf kind ≡ levelQuantifier (tableOf ws ls) 0
 unfolding levelQuantifier tableOf

@@ -294,13 +294,13 @@ pub fn write_levels(
     definitions: &[u32],
     first: usize,
     deepest: usize,
-) -> usize
+)
     requires { ⌜ BlockArrays (now words) (now list) (now starts) names copies (now definitions) ⌝ }
     requires { ⌜ Chained (now words) (now list) (now firsts) (now nexts) ⌝ }
     requires { ⌜ first ≡ kept (tableOf (now words) (now list)) ⌝ }
     requires { ⌜ deepest ≡ levels (tableOf (now words) (now list)) ⌝ }
     requires { ⌜ Room (now nodes) first (length (addedNodes (tableOf (now words) (now list)) deepest)) ⌝ }
-    ensures { λ r. ⌜ (let t = tableOf (now (words .entry)) (now (list .entry)) in (now (nodes .exit) ≡ overwrite (now (nodes .entry)) (width * kept t) (flatMap nodeWords (addedNodes t (levels t)))) × (r ≡ kept t + length (addedNodes t (levels t)))) ⌝ }
+    ensures { λ _. ⌜ (let t = tableOf (now (words .entry)) (now (list .entry)) in now (nodes .exit) ≡ overwrite (now (nodes .entry)) (width * kept t) (flatMap nodeWords (addedNodes t (levels t)))) ⌝ }
 {
     let root = node_at(words, words.len() / WIDTH - 1);
     let mut kind = root.kind;
@@ -324,5 +324,4 @@ pub fn write_levels(
         kind = prenex_form::dual_kind(kind);
         j += 1;
     }
-    next as usize
 }

@@ -1,4 +1,4 @@
--- What the stages of a lift hand on: an accepted table and working arrays of 4,096 elements.
+-- Room for a written form, and the buffers once it stands in them.
 -- Assumes nothing.
 use mathlib.Core.List.{List}
 use mathlib.Core.Path.{_≡_}

@@ -19,6 +19,7 @@ use names::NameCounter;
 use prefix_writer::PREFIX_WIDTH;
 use prenex_form::Sizes;
 use scopes::Counts;
+use table_check::ACCEPTED;
 use table_check::BUFFER_TOO_SHORT;
 use table_check::LIMIT;
 
@@ -41,7 +42,7 @@ pub fn measure(words: &[u32], list: &[u32]) -> Answer
 {
     let v = table_check::check(words, list);
     let number = v.number;
-    if number != 0 {
+    if number != ACCEPTED {
         return refusal(number, v.position);
     }
     done(measure_accepted(words, list))
@@ -70,7 +71,7 @@ fn done(sizes: Sizes) -> Answer
     ensures { λ r. ⌜ r ≡ doneOf sizes ⌝ }
 {
     Answer {
-        number: 0,
+        number: ACCEPTED,
         position: 0,
         sizes,
     }
@@ -126,7 +127,7 @@ pub fn lift(
 {
     let v = table_check::check(words, list);
     let fault = v.number;
-    if fault != 0 {
+    if fault != ACCEPTED {
         return refusal(fault, v.position);
     }
     lift_accepted(words, list, nodes, prefix, variables)

@@ -66,7 +66,7 @@ returns c =
     let p = c .before .before .before .before .before .before .before .pre in
     let inv = c .before .loop .inv in
     let e : c .before .loop .i ≡ kept (tableOf (c .before .before .before .before .before .before .before .args .words .now) (c .before .before .before .before .before .before .before .args .list .now)) = omega (arith, p .1 .1) in
-    (write-all _ _ _ _ (inv .2) e, (defined-all _ (rw e at (inv .4)), rw e at (inv .3)))
+    (write-all _ _ _ _ (inv .2) e, defined-all _ (rw e at (inv .4)))
 
 pub write-first-spec : {M : Type 1} → statement M
 write-first-spec =

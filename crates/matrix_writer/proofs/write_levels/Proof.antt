@@ -5,7 +5,7 @@ use native.Mathlib.Omega.{arith}
 use borrow.Author.Needs.{needs}
 use Rattle.formula.specs.Words.{tableOf}
 use Rattle.matrix_writer.proofs.Blocks.{table-whole, kept-positive-of}
-use Rattle.matrix_writer.proofs.Levels.{Levelled, levelled-none, levelled-small, level-room, levelled-next, levelled-all, root-quantifier}
+use Rattle.matrix_writer.proofs.Levels.{Levelled, levelled-none, level-room, levelled-next, levelled-all, root-quantifier}
 use Rattle.matrix_writer.proofs.write_levels.Statement.{statement}
 use Rattle.matrix_writer.proofs.write_levels.Tie as tie
 
@@ -64,11 +64,6 @@ loop-again c =
     let d = t .before .loop .inv .1 in
     (search needs, levelled-next d _ _ _ (w .ensures) (c .dual-kind .ensures) (w .kept .1 .1 .0) (level-room d _ _ (p .0) (p .1 .1) (t .loop-test .taken)))
 
-cast-result : tie.Need-cast-result Inv-loop μ-loop
-cast-result c =
-    let p = c .before .before .before .before .before .before .before .before .before .before .pre .1 .1 in
-    let i = c .before .loop .inv in omega (arith, levelled-small (i .1) _ _ (p .0) (p .1 .1) (i .0))
-
 same-length : tie.Need-same-length Inv-loop μ-loop
 same-length c = c .before .loop .inv .1 .long
 
@@ -93,6 +88,5 @@ write-levels-spec =
     add-j
     loop-less
     loop-again
-    cast-result
     same-length
     returns)

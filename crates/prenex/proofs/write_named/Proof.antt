@@ -104,7 +104,7 @@ write-levels-requires c κs =
           record {
             names-first = omega (arith, x .0, p .1 .1 .1 .1 .0);
             copies-first = omega (arith, x .1, y .0, p .1 .1 .1 .1 .0, n .bound-is);
-            defined = f .ensures .1 .0;
+            defined = f .ensures .1;
             definitions-long = f .kept .1 .1 .1 .1 .1 .0;
           };
     } in
@@ -136,7 +136,7 @@ write-prefix-requires c κs =
     record {
       names-first = omega (arith, x .0, p .1 .1 .1 .1 .0);
       copies-first = omega (arith, x .1, y .0, p .1 .1 .1 .1 .0, n .bound-is);
-      defined = f .ensures .1 .0;
+      defined = f .ensures .1;
       definitions-long = f .kept .1 .1 .1 .1 .1 .0;
     } in
     (p .0, (named, (p .1 .0, ((n .blocks-is, n .deepest-is), (r .prefix-fits, r .variables-fit)))))
@@ -158,7 +158,7 @@ returns c =
     record {
       nodes-are =
           whole (s .args .words .now) (s .args .list .now) (p .0 .checked) (s .args .nodes .now) (p .1 .1 .1 .1 .1 .nodes-fit) _ _ (c .before .before .before .before .before .before .before .before .before .before .before .before .before .before .before .before .before .before .write-first .ensures .0)
-          (c .before .before .before .before .before .before .before .before .before .before .before .write-levels .ensures .0);
+          (c .before .before .before .before .before .before .before .before .before .before .before .write-levels .ensures);
       prefix-is = w .0;
       variables-are = w .1;
     }
