@@ -25,7 +25,7 @@ use Rattle.arrays.specs.Held.{atLevel, Chained}
 use Rattle.arrays.specs.Chains.{blocksFrom}
 use Rattle.arrays.proofs.Chains.{linked, linked-is, linked-next, blocksFrom-all, blocksFrom-some, on-chain}
 use Rattle.matrix_writer.specs.Added.{addedNodes}
-use Rattle.matrix_writer.specs.Buffer.{longestForm, withNodes, Room, Wrote}
+use Rattle.matrix_writer.specs.Buffer.{withNodes, Room, Wrote}
 use Rattle.matrix_writer.specs.Chain.{nodesAfter, LevelKind}
 use Rattle.matrix_writer.proofs.Added.{length-added, added-grows}
 use Rattle.matrix_writer.proofs.Buffer.{with-none, with-append, with-then, wrote, wrote-then}
@@ -48,14 +48,12 @@ levelled-none {t} out kind next e q =
     }
 
 module _ {t : Table} {out nodes : List ℕ} {kind next j : ℕ} (done : Levelled t out nodes kind next j) where
-  -- the room for all levels
-  module _ (first l : ℕ) (e : first ≡ kept t) (room : Room out first (length (addedNodes t l))) where
-    -- is room for the next one
-    pub level-room : j < l → Room nodes next (length (levelNodes t j next))
-    level-room h =
-        let n = done .wrote-added .next-is in
-        let g : length (addedNodes t (suc j)) ≤ length (addedNodes t l) = added-grows t (suc j) l h in
-        rw n (record { fits = omega (arith, room .fits, length-added t j, done .long); small = omega (arith, room .small, length-added t j) })
+  -- the room for all levels is room for the next one
+  pub level-room : (first l : ℕ) → first ≡ kept t → Room out first (length (addedNodes t l)) → j < l → Room nodes next (length (levelNodes t j next))
+  level-room first l e room h =
+      let n = done .wrote-added .next-is in
+      let g : length (addedNodes t (suc j)) ≤ length (addedNodes t l) = added-grows t (suc j) l h in
+      rw n (record { fits = omega (arith, room .fits, length-added t j, done .long); small = omega (arith, room .small, length-added t j) })
 
   pub levelled-next : (last : List ℕ) (after other : ℕ) → Wrote nodes next (levelNodes t j next) last after → other ≡ kindOf (dual (quantifierOf kind))
       → length last ≡ length nodes → Room nodes next (length (levelNodes t j next)) → Levelled t out last other after (j + 1)

@@ -2,8 +2,9 @@
 ghost use mathlib.Core.Path.{_≡_};
 ghost use Prim.Native.Nat.{_+_, _*_, _-_, _≤_};
 ghost use lib.Dec.{eqb};
-ghost use lib.ListN.{take};
+ghost use lib.ListN.{length, take};
 ghost use Rattle.lists.specs.Choice.{pick};
+ghost use Rattle.lists.specs.Parts.{overwrite};
 ghost use Rattle.formula.specs.Node.{isBlock};
 ghost use Rattle.formula.specs.Words.{width, nodeCount, nodeAt, tableOf};
 ghost use Rattle.formula.specs.Form.{prefixWidth};
@@ -11,8 +12,11 @@ ghost use Rattle.table_check.specs.Verdict.{limit, verdict, accepted};
 ghost use Rattle.prenex_form.specs.Sizes.{sizes as sizesOf};
 ghost use Rattle.prenex_form.specs.Promise.{PrenexOf};
 ghost use Rattle.prenex_form.specs.Names.{highestNumber, boundCount};
-ghost use Rattle.arrays.specs.Held.{Started, Chained, Bound};
+ghost use Rattle.prenex_form.specs.Levels.{levels};
+ghost use Rattle.prenex_form.specs.Matrix.{writtenNodes};
+ghost use Rattle.arrays.specs.Held.{firstCopy, Definitions, Started, Chained, Bound};
 ghost use Rattle.scopes.specs.Passes.{Placed, Blank, BlockCounts};
+ghost use Rattle.first_nodes.specs.Given.{Given, Counted};
 ghost use Rattle.prenex.specs.Arrays.{Room, Written};
 ghost use Rattle.prenex.specs.Outcome.{refusal as refusalOf, done as doneOf, measured, after, lifted};
 use names::NameCounter;
@@ -291,30 +295,19 @@ fn write_named(
     let counter = NameCounter { next: highest + 1 };
     let names = counter.take_run(counts.bound);
     let copies = names.counter.take_run(counts.inner_bound);
-    let n = words.len() / formula::WIDTH;
-    let first = n - root_blocks(words, list) as usize;
-    first_nodes::write_first(
-        nodes,
-        words,
-        list,
-        bindings,
-        names.name,
-        &mut definitions,
-        copies.counter,
-        first,
-    );
     let deepest = counts.deepest as usize;
-    matrix_writer::write_levels(
+    write_nodes(
         words,
         list,
         nodes,
         firsts,
         nexts,
         starts,
+        bindings,
         names.name,
         copies.name,
-        &definitions,
-        first,
+        &mut definitions,
+        copies.counter,
         deepest,
     );
     let blocks = counts.blocks as usize;
@@ -330,6 +323,59 @@ fn write_named(
         firsts,
         nexts,
         blocks,
+        deepest,
+    );
+}
+
+// Writes the form's nodes, first the table's own and then those of the levels, and the definition
+// variables of the inner blocks to their array.
+fn write_nodes(
+    words: &[u32],
+    list: &[u32],
+    nodes: &mut [u32],
+    firsts: &[u16],
+    nexts: &[u16],
+    starts: &[u16],
+    bindings: &[u16],
+    names: u32,
+    copies: u32,
+    definitions: &mut [u32],
+    counter: NameCounter,
+    deepest: usize,
+)
+    requires { ⌜ Started (now words) (now list) (now starts) ⌝ }
+    requires { ⌜ Chained (now words) (now list) (now firsts) (now nexts) ⌝ }
+    requires { ⌜ Given (now words) (now list) (now bindings) names ⌝ }
+    requires { ⌜ copies ≡ firstCopy (tableOf (now words) (now list)) ⌝ }
+    requires { ⌜ Counted (now words) (now list) 0 (now definitions) counter ⌝ }
+    requires { ⌜ deepest ≡ levels (tableOf (now words) (now list)) ⌝ }
+    requires { ⌜ length (writtenNodes (tableOf (now words) (now list))) ≤ length (now nodes) ⌝ }
+    ensures { λ _. ⌜ now (nodes .exit) ≡ overwrite (now (nodes .entry)) 0 (writtenNodes (tableOf (now (words .entry)) (now (list .entry)))) ⌝ }
+    ensures { λ _. ⌜ Definitions (tableOf (now (words .entry)) (now (list .entry))) (now (definitions .exit)) ⌝ }
+{
+    let n = words.len() / formula::WIDTH;
+    let first = n - root_blocks(words, list) as usize;
+    first_nodes::write_first(
+        nodes,
+        words,
+        list,
+        bindings,
+        names,
+        definitions,
+        counter,
+        first,
+    );
+    matrix_writer::write_levels(
+        words,
+        list,
+        nodes,
+        firsts,
+        nexts,
+        starts,
+        names,
+        copies,
+        definitions,
+        first,
         deepest,
     );
 }
