@@ -1,3 +1,4 @@
 pub mod Numbers
 pub mod StoredWords
 pub mod StoredValues
+pub mod GateLines
