@@ -2,3 +2,5 @@ pub mod Numbers
 pub mod StoredWords
 pub mod StoredValues
 pub mod GateLines
+pub mod StoredNodes
+pub mod Drafts

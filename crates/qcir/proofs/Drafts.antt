@@ -1,0 +1,122 @@
+-- What holds of a draft: its nodes are sound, each is named once or waits to be, and each gate's node has the gate's value.
+-- Assumes nothing.
+use mathlib.Core.Path.{_≡_, refl, sym, _∙_, ap}
+use mathlib.Core.Bool.{Bool, true, false, not}
+use mathlib.Core.List.{List, [], _∷_, _++_, map}
+use Prim.Native.Nat.{ℕ, zero, suc, _+_, _-_, _≤_, _<_}
+use native.Mathlib.Omega.{arith}
+use lib.Dec.{eqb, ltb, leb}
+use lib.ListN.{length, length-append}
+use borrow.Author.Tests.{ltb-true, ltb-false, lt-ltb, le-ltb, le-leb, eqb-true, eqb-false, eq-eqb, ne-eqb}
+use Rattle.lists.specs.Choice.{pick, pick-yes, pick-no, Is, is-true, is-false, look, clash}
+use Rattle.lists.specs.Members.{mem, all, distinct, times}
+use Rattle.formula.specs.Node.{Quantifier, exists, for-all, Node, constant, variable, negation, operator, block, Table, operands, bound}
+use Rattle.formula.specs.Words.{nodeCount, isBlockKind, range, nodeOf, tableOf}
+use Rattle.formula.specs.Valuation.{Valuation, quant}
+use Rattle.formula.specs.Truth.{operatorValue}
+use Rattle.formula.specs.Tree.{timesNamed}
+use Rattle.table_check.specs.Verdict.{isNumber, wellFormed}
+use Rattle.qcir.specs.Meaning.{Meaning}
+use Rattle.qcir.specs.Table.{Draft, Stored, store, storeBlock, blockKind}
+use Rattle.qcir.proofs.StoredWords.{withNode, Extends, extends-same, extends-append, range-appended, count-with}
+use Rattle.qcir.proofs.StoredValues.{Kept, Stands, stands-kept, stands-constant, stands-variable, stands-negation, stands-operator, stands-block}
+use Rattle.qcir.proofs.StoredNodes.{Sound, Fresh, new, sound-more, kept-with, named-more}
+
+abbrev pub draftTable : Draft → Table
+draftTable d = tableOf (d .words) (d .entries)
+
+-- 1 if k is below n, else 0
+unfoldable pub below : ℕ → ℕ → ℕ
+below k n = pick (ltb k n) 1 0
+
+pub below-yes : (k n : ℕ) → k < n → below k n ≡ 1
+unfolding below
+below-yes k n h = pick-yes _ _ _ (lt-ltb k n h)
+
+pub below-no : (k n : ℕ) → n ≤ k → below k n ≡ 0
+unfolding below
+below-no k n h = pick-no _ _ _ (le-ltb k n h)
+
+times-one : (k a : ℕ) → k ≡ a → times k (a ∷ []) ≡ 1
+unfolding times
+times-one k a e = let p : _≡_ {A = ℕ} (pick (eqb k a) 1 0) 1 = pick-yes _ _ _ (eq-eqb k a e) in omega arith
+
+times-other : (k a : ℕ) → (k ≡ a → ⊥) → times k (a ∷ []) ≡ 0
+unfolding times
+times-other k a e = let p : _≡_ {A = ℕ} (pick (eqb k a) 1 0) 0 = pick-no _ _ _ (ne-eqb k a e) in omega arith
+
+pub times-cons : (k x : ℕ) (xs : List ℕ) → times k (x ∷ xs) ≡ times k (x ∷ []) + times k xs
+unfolding times
+times-cons k x xs = omega arith
+
+-- the numbers below n + 1 are those below n, and n
+below-by : (k n m : ℕ) → m ≡ suc n → Is (ltb k n) → Is (eqb k n) → below k m ≡ below k n + times k (n ∷ [])
+below-by k n m e (is-true p) q =
+    let h : k < n = ltb-true k n p in
+    omega (arith, below-yes k m (omega arith), below-yes k n h, times-other k n (λ z. omega arith))
+below-by k n m e (is-false p) (is-true q) =
+    let h : k ≡ n = eqb-true k n q in
+    omega (arith, below-yes k m (omega arith), below-no k n (omega arith), times-one k n h)
+below-by k n m e (is-false p) (is-false q) =
+    let h : n ≤ k = ltb-false k n p in
+    let g : k ≡ n → ⊥ = eqb-false k n q in
+    omega (arith, below-no k m (omega arith), below-no k n h, times-other k n g)
+
+below-more : (k n m : ℕ) → m ≡ suc n → below k m ≡ below k n + times k (n ∷ [])
+below-more k n m e = below-by k n m e (look (ltb k n)) (look (eqb k n))
+
+-- The draft's nodes are sound. Each is named by one, or stands in `hand` and is named next, or stands for a gate that is used once by
+-- `uses`. A gate's node has the value that m gives its name, and m gives the other names what a valuation gives them.
+pub record Holds (R : Type 0) (d : Draft) (hand uses : List ℕ) (m : Meaning) : Type 0 where
+  pub sound : Sound R (d .words) (d .entries)
+  pub once : (k : ℕ) → timesNamed (draftTable d) k + times k hand + times (suc k) (map (d .gate) uses) ≡ below k (nodeCount (d .words))
+  pub gates : (x k : ℕ) → d .gate x ≡ suc k → Stands (draftTable d) k (m x)
+  pub variables : (x : ℕ) → d .gate x ≡ 0 → (v : Valuation) → m x v ≡ v x
+
+-- s is the draft d with nodes more; what was stored last is in hand and has the value g.
+pub record Stores (R : Type 0) (d : Draft) (hand uses : List ℕ) (m : Meaning) (g : Valuation → Bool) (s : Stored) : Type 0 where
+  pub holds : Holds R (s .draft) (s .node ∷ hand) uses m
+  pub stands : Stands (draftTable (s .draft)) (s .node) g
+  pub kept : Kept (draftTable d) (draftTable (s .draft))
+  pub gate : (x : ℕ) → s .draft .gate x ≡ d .gate x
+
+-- The draft d with one node more.
+abbrev nextDraft : Draft → List ℕ → ℕ → ℕ → ℕ → ℕ → Draft
+nextDraft d ls' kind a b c = record { words = withNode (d .words) kind a b c; entries = ls'; gate = d .gate }
+
+module _ (R : Type 0) (d : Draft) (hand' hand uses : List ℕ) (m : Meaning) (holds : Holds R d hand' uses m)
+    (ls' : List ℕ) (kind a b c : ℕ) (ext : Extends (d .entries) ls') (fresh : Fresh R (d .words) (d .entries) ls' kind a b c)
+    (taken : (k : ℕ) → times k hand' ≡ times k (operands (nodeOf ls' kind a b c)) + times k hand) where
+  holds-more : Holds R (nextDraft d ls' kind a b c) (nodeCount (d .words) ∷ hand) uses m
+  holds-more =
+      let sound = holds .sound in
+      record {
+        sound = sound-more R (d .words) (d .entries) ls' kind a b c sound ext fresh;
+        once = λ k.
+            omega (
+              arith,
+              holds .once k,
+              taken k,
+              times-cons k (nodeCount (d .words)) hand,
+              named-more R (d .words) (d .entries) ls' kind a b c sound ext fresh k,
+              below-more k (nodeCount (d .words)) (nodeCount (withNode (d .words) kind a b c)) (count-with (d .words) (sound .whole) kind a b c),
+            );
+        gates = λ x k e. stands-kept (kept-with R (d .words) (d .entries) ls' kind a b c sound ext fresh) (holds .gates x k e);
+        variables = holds .variables;
+      }
+
+  stores-more : (g : Valuation → Bool)
+      → ((t : Table) → Kept (draftTable d) t → nodeCount (d .words) < t .size → t .node (nodeCount (d .words)) ≡ nodeOf ls' kind a b c → Stands t (nodeCount (d .words)) g)
+      → Stores R d hand uses m g (record { draft = nextDraft d ls' kind a b c; node = nodeCount (d .words) })
+  unfolding tableOf
+  stores-more g h =
+      let sound = holds .sound in
+      let kept = kept-with R (d .words) (d .entries) ls' kind a b c sound ext fresh in
+      record {
+        holds = holds-more;
+        stands = h (tableOf (withNode (d .words) kind a b c) ls') kept
+            (omega (arith, count-with (d .words) (sound .whole) kind a b c))
+            (new R (d .words) (d .entries) ls' kind a b c sound ext fresh);
+        kept = kept;
+        gate = λ x. refl;
+      }
