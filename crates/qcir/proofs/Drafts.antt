@@ -1,15 +1,16 @@
 -- What holds of a draft: its nodes are sound, each is named once or waits to be, and each gate's node has the gate's value.
 -- Assumes nothing.
-use mathlib.Core.Path.{_≡_, refl, sym, _∙_, ap}
-use mathlib.Core.Bool.{Bool, true, false, not}
+use mathlib.Core.Path.{_≡_, refl, sym, _∙_, ap, subst}
+use mathlib.Core.Bool.{Bool, true, false, not, _||_}
 use mathlib.Core.List.{List, [], _∷_, _++_, map}
 use Prim.Native.Nat.{ℕ, zero, suc, _+_, _-_, _≤_, _<_}
 use native.Mathlib.Omega.{arith}
 use lib.Dec.{eqb, ltb, leb}
 use lib.ListN.{length, length-append}
 use borrow.Author.Tests.{ltb-true, ltb-false, lt-ltb, le-ltb, le-leb, eqb-true, eqb-false, eq-eqb, ne-eqb}
-use Rattle.lists.specs.Choice.{pick, pick-yes, pick-no, Is, is-true, is-false, look, clash}
+use Rattle.lists.specs.Choice.{pick, pick-yes, pick-no, Is, is-true, is-false, look, clash, or-cases}
 use Rattle.lists.specs.Members.{mem, all, distinct, times}
+use Rattle.lists.proofs.Members.{mem-one}
 use Rattle.formula.specs.Node.{Quantifier, exists, for-all, Node, constant, variable, negation, operator, block, Table, operands, bound}
 use Rattle.formula.specs.Words.{nodeCount, isBlockKind, range, nodeOf, tableOf}
 use Rattle.formula.specs.Valuation.{Valuation, quant}
@@ -120,3 +121,134 @@ module _ (R : Type 0) (d : Draft) (hand' hand uses : List ℕ) (m : Meaning) (ho
         kept = kept;
         gate = λ x. refl;
       }
+
+times-none : (k : ℕ) → times k [] ≡ 0
+unfolding times
+times-none k = refl
+
+mem-just : (x a : ℕ) → mem x (a ∷ []) ≡ true → x ≡ a
+mem-just x a h = eqb-true x a (sym (mem-one x a) ∙ h)
+
+mem-two : (x a b : ℕ) (P : ℕ → Type 0) → P a → P b → mem x (a ∷ b ∷ []) ≡ true → P x
+unfolding mem
+mem-two x a b P p q h =
+    or-cases (eqb x a) (eqb x b || false) h (λ e. subst P (sym (eqb-true x a e)) p) (λ e. subst P (sym (mem-just x b e)) q)
+
+block-node : (ls : List ℕ) (q : Quantifier) (xs : List ℕ) (a : ℕ) → nodeOf (ls ++ xs) (blockKind q) (length ls) (length xs) a ≡ block q xs a
+unfolding nodeOf pick blockKind
+block-node ls exists xs a = ap (λ ys. block exists ys a) (range-appended ls xs)
+block-node ls for-all xs a = ap (λ ys. block for-all ys a) (range-appended ls xs)
+
+block-formed : (q : Quantifier) (a b c : ℕ) → wellFormed (blockKind q) a b c ≡ true
+unfolding wellFormed blockKind isBlockKind
+block-formed exists a b c = refl
+block-formed for-all a b c = refl
+
+-- Nodes to be stored, by their kinds.
+module _ (R : Type 0) (ws ls : List ℕ) where
+  constant-fresh : (b : ℕ) → b ≤ 1 → Fresh R ws ls ls 1 b 0 0
+  unfolding nodeOf pick operands bound isBlockKind wellFormed mem distinct all
+  constant-fresh b l =
+      record {
+        fits = λ k. clash k refl;
+        lower = λ x h. clash h refl;
+        apart = refl;
+        listed = omega arith;
+        formed = λ r. rw (le-leb b 1 l);
+        numbered = λ r. refl;
+      }
+
+  variable-fresh : (x : ℕ) → (R → isNumber x ≡ true) → Fresh R ws ls ls 2 x 0 0
+  unfolding nodeOf pick operands bound isBlockKind wellFormed mem distinct all
+  variable-fresh x n =
+      record {
+        fits = λ k. clash k refl;
+        lower = λ y h. clash h refl;
+        apart = refl;
+        listed = omega arith;
+        formed = λ r. rw (n r);
+        numbered = λ r. refl;
+      }
+
+  negation-fresh : (a : ℕ) → a < nodeCount ws → Fresh R ws ls ls 3 a 0 0
+  unfolding nodeOf pick operands bound isBlockKind wellFormed distinct all
+  negation-fresh a l =
+      record {
+        fits = λ k. clash k refl;
+        lower = λ y h. omega (arith, mem-just y a h);
+        apart = refl;
+        listed = omega arith;
+        formed = λ r. refl;
+        numbered = λ r. refl;
+      }
+
+  operator-fresh : (o a b : ℕ) → o ≤ 15 → a < nodeCount ws → b < nodeCount ws → Fresh R ws ls ls 4 o a b
+  unfolding nodeOf pick operands bound isBlockKind wellFormed distinct all
+  operator-fresh o a b l p q =
+      record {
+        fits = λ k. clash k refl;
+        lower = λ y h. mem-two y a b (λ z. z < nodeCount ws) p q h;
+        apart = refl;
+        listed = omega arith;
+        formed = λ r. rw (le-leb o 15 l);
+        numbered = λ r. refl;
+      }
+
+  block-fresh : (q : Quantifier) (xs : List ℕ) (a : ℕ) → a < nodeCount ws → distinct xs ≡ true → (R → all isNumber xs ≡ true)
+      → Fresh R ws ls (ls ++ xs) (blockKind q) (length ls) (length xs) a
+  unfolding operands bound
+  block-fresh q xs a l u n =
+      let e = block-node ls q xs a in
+      record {
+        fits = λ k. omega (arith, length-append ls xs);
+        lower = λ y h. omega (arith, mem-just y a (rw e at h));
+        apart = rw e u;
+        listed = rw e (sym (length-append ls xs));
+        formed = λ r. block-formed q (length ls) (length xs) a;
+        numbered = λ r. rw e (n r);
+      }
+
+-- One node more, by its kind.
+module _ (R : Type 0) (d : Draft) (hand uses : List ℕ) (m : Meaning) where
+  pub new-constant : Holds R d hand uses m → (b : ℕ) → b ≤ 1 → Stores R d hand uses m (λ v. eqb b 1) (store d 1 b 0 0)
+  unfolding store nodeOf pick operands
+  new-constant holds b l =
+      stores-more R d hand hand uses m holds (d .entries) 1 b 0 0 (extends-same (d .entries)) (constant-fresh R (d .words) (d .entries) b l)
+      (λ k. omega (arith, times-none k)) (λ v. eqb b 1)
+      (λ t k low e. stands-constant t _ low (eqb b 1) e)
+
+  pub new-variable : Holds R d hand uses m → (x : ℕ) → (R → isNumber x ≡ true) → Stores R d hand uses m (λ v. v x) (store d 2 x 0 0)
+  unfolding store nodeOf pick operands
+  new-variable holds x r =
+      stores-more R d hand hand uses m holds (d .entries) 2 x 0 0 (extends-same (d .entries)) (variable-fresh R (d .words) (d .entries) x r)
+      (λ k. omega (arith, times-none k)) (λ v. v x)
+      (λ t k low e. stands-variable t _ low x e)
+
+  pub new-negation : (a : ℕ) (g : Valuation → Bool) → Holds R d (a ∷ hand) uses m → Stands (draftTable d) a g
+      → Stores R d hand uses m (λ v. not (g v)) (store d 3 a 0 0)
+  unfolding store nodeOf pick operands tableOf
+  new-negation a g holds p =
+      stores-more R d (a ∷ hand) hand uses m holds (d .entries) 3 a 0 0 (extends-same (d .entries)) (negation-fresh R (d .words) (d .entries) a (p .low))
+      (λ k. times-cons k a hand) (λ v. not (g v))
+      (λ t k low e. stands-negation t _ low a g e (p .low) (stands-kept k p))
+
+  pub new-operator : (o a b : ℕ) (g h : Valuation → Bool) → o ≤ 15 → Holds R d (b ∷ a ∷ hand) uses m → Stands (draftTable d) a g → Stands (draftTable d) b h
+      → Stores R d hand uses m (λ v. operatorValue o (g v) (h v)) (store d 4 o a b)
+  unfolding store nodeOf pick operands tableOf
+  new-operator o a b g h l holds p q =
+      stores-more R d (b ∷ a ∷ hand) hand uses m holds (d .entries) 4 o a b (extends-same (d .entries))
+      (operator-fresh R (d .words) (d .entries) o a b l (p .low) (q .low))
+      (λ k. omega (arith, times-cons k b (a ∷ hand), times-cons k a hand, times-cons k a (b ∷ [])))
+      (λ v. operatorValue o (g v) (h v))
+      (λ t k low e. stands-operator t _ low o a b g h e (p .low) (q .low) (stands-kept k p) (stands-kept k q))
+
+  pub new-block : (q : Quantifier) (xs : List ℕ) (a : ℕ) (g : Valuation → Bool) → distinct xs ≡ true → (R → all isNumber xs ≡ true)
+      → Holds R d (a ∷ hand) uses m → Stands (draftTable d) a g
+      → Stores R d hand uses m (quant q xs g) (storeBlock q xs (record { draft = d; node = a }))
+  unfolding storeBlock store operands tableOf
+  new-block q xs a g u r holds p =
+      let e = block-node (d .entries) q xs a in
+      stores-more R d (a ∷ hand) hand uses m holds (d .entries ++ xs) (blockKind q) (length (d .entries)) (length xs) a (extends-append (d .entries) xs)
+      (block-fresh R (d .words) (d .entries) q xs a (p .low) u r)
+      (λ k. rw e (times-cons k a hand)) (quant q xs g)
+      (λ t k low n. stands-block t _ low q xs a g (n ∙ e) (p .low) (stands-kept k p))
