@@ -38,11 +38,11 @@ pub below-no : (k n : ℕ) → n ≤ k → below k n ≡ 0
 unfolding below
 below-no k n h = pick-no _ _ _ (le-ltb k n h)
 
-times-one : (k a : ℕ) → k ≡ a → times k (a ∷ []) ≡ 1
+pub times-one : (k a : ℕ) → k ≡ a → times k (a ∷ []) ≡ 1
 unfolding times
 times-one k a e = let p : _≡_ {A = ℕ} (pick (eqb k a) 1 0) 1 = pick-yes _ _ _ (eq-eqb k a e) in omega arith
 
-times-other : (k a : ℕ) → (k ≡ a → ⊥) → times k (a ∷ []) ≡ 0
+pub times-other : (k a : ℕ) → (k ≡ a → ⊥) → times k (a ∷ []) ≡ 0
 unfolding times
 times-other k a e = let p : _≡_ {A = ℕ} (pick (eqb k a) 1 0) 0 = pick-no _ _ _ (ne-eqb k a e) in omega arith
 

@@ -4,3 +4,4 @@ pub mod StoredValues
 pub mod GateLines
 pub mod StoredNodes
 pub mod Drafts
+pub mod StoredGates
