@@ -105,6 +105,84 @@ times-shift k a = go (look (eqb k a))
     go (is-false e) =
         let n : k ≡ a → ⊥ = eqb-false k a e in times-other (suc k) (suc a) (λ z. n (omega arith)) ∙ sym (times-other k a n)
 
+not-first : (x y : ℕ) (ys : List ℕ) → mem x (y ∷ ys) ≡ false → (eqb x y ≡ false) × (mem x ys ≡ false)
+unfolding mem
+not-first x y ys h = (or-neither-left _ (mem x ys) h, or-neither-right (eqb x y) _ h)
+
+numbers-cons : (x : Name) (xs : List Name) → numbersOf (x ∷ xs) ≡ x .number ∷ numbersOf xs
+unfolding numbersOf
+numbers-cons x xs = refl
+
+-- the names in a gate line
+line-variable : (g : Gate) (x : ℕ) → mem x (numbersOf (gateVariables g)) ≡ true → mem x (numbersOf (lineNames g)) ≡ true
+unfolding lineNames
+line-variable g x h =
+    rw (numbers-cons, numbers-append) (mem-tail x _ _ (mem-left x (numbersOf (gateVariables g)) (numbersOf (namesOf (gateInputs g))) h))
+
+line-input : (g : Gate) (x : ℕ) → mem x (numbersOf (namesOf (gateInputs g))) ≡ true → mem x (numbersOf (lineNames g)) ≡ true
+unfolding lineNames
+line-input g x h =
+    rw (numbers-cons, numbers-append) (mem-tail x _ _ (mem-right x (numbersOf (gateVariables g)) (numbersOf (namesOf (gateInputs g))) h))
+
+-- gate entries with x's set to the entry of node i
+abbrev setGate : (ℕ → ℕ) → ℕ → ℕ → ℕ → ℕ
+setGate gate x i y = pick (eqb y x) (suc i) (gate y)
+
+-- then a use of x is one of node i, where x's entry was 0
+module _ (gate : ℕ → ℕ) (x i : ℕ) (k : ℕ) where
+  abbrev after : List ℕ → ℕ
+  after ys = times (suc k) (map (setGate gate x i) ys)
+
+  abbrev earlier : List ℕ → ℕ
+  earlier ys = times (suc k) (map gate ys)
+
+  -- another name's use
+  use-other : (y : ℕ) (ys : List ℕ) → eqb y x ≡ false → (after (y ∷ ys) ≡ times (suc k) (gate y ∷ []) + after ys) × (times x (y ∷ ys) ≡ times x ys)
+  use-other y ys e =
+      let n : y ≡ x → ⊥ = eqb-false y x e in
+      let a : setGate gate x i y ≡ gate y = pick-no _ _ _ e in
+      (
+        times-cons (suc k) (setGate gate x i y) (map (setGate gate x i) ys) ∙ ap (λ z. times (suc k) (z ∷ []) + after ys) a,
+        omega (arith, times-cons x y ys, times-other x y (λ z. n (sym z))),
+      )
+
+  use-none : (ys : List ℕ) → times x ys ≡ 0 → after ys ≡ earlier ys
+  use-none [] e = refl
+  use-none (y ∷ ys) e = go (look (eqb y x)) (use-none ys)
+    where
+      go : Is (eqb y x) → (times x ys ≡ 0 → after ys ≡ earlier ys) → after (y ∷ ys) ≡ earlier (y ∷ ys)
+      go (is-true q) rest = absurd (omega (arith, times-cons x y ys, times-one x y (sym (eqb-true y x q))))
+      go (is-false q) rest =
+          let r = use-other y ys q in
+          let h : after ys ≡ earlier ys = rest (sym (r .1) ∙ e) in
+          omega (arith, r .0, times-cons (suc k) (gate y) (map gate ys))
+
+  use-once : gate x ≡ 0 → (ys : List ℕ) → times x ys ≡ 1 → after ys ≡ earlier ys + times k (i ∷ [])
+  unfolding times
+  use-once new [] e = absurd (omega arith)
+  use-once new (y ∷ ys) e = go (look (eqb y x)) (use-once new ys)
+    where
+      go : Is (eqb y x) → (times x ys ≡ 1 → after ys ≡ earlier ys + times k (i ∷ [])) → after (y ∷ ys) ≡ earlier (y ∷ ys) + times k (i ∷ [])
+      go (is-true q) rest =
+          let z : y ≡ x = eqb-true y x q in
+          let a : setGate gate x i y ≡ suc i = pick-yes _ _ _ q in
+          let b : gate y ≡ 0 = ap gate z ∙ new in
+          omega (
+            arith,
+            times-cons x y ys,
+            times-one x y (sym z),
+            use-none ys (omega (arith, times-cons x y ys, times-one x y (sym z))),
+            times-cons (suc k) (setGate gate x i y) (map (setGate gate x i) ys),
+            ap (λ n. times (suc k) (n ∷ [])) a,
+            times-shift k i,
+            times-cons (suc k) (gate y) (map gate ys),
+            times-other (suc k) (gate y) (λ w. omega arith),
+          )
+      go (is-false q) rest =
+          let r = use-other y ys q in
+          let h : after ys ≡ earlier ys + times k (i ∷ []) = rest (sym (r .1) ∙ e) in
+          omega (arith, r .0, times-cons (suc k) (gate y) (map gate ys))
+
 module _ (R : Type 0) where
   stores-as : {d : Draft} {hand uses : List ℕ} {m : Meaning} {g h : Valuation → Bool} {s : Stored} → ((v : Valuation) → g v ≡ h v)
       → Stores R d hand uses m g s → Stores R d hand uses m h s
@@ -154,9 +232,6 @@ module _ (R : Type 0) where
     unfolding storeLiteral literalValue
     literal-stores l r p = go (look (l .minus))
       where
-        x : ℕ
-        x = l .name .number
-
         go : Is (l .minus) → Stores R d hand uses m (literalValue m l) (storeLiteral d l)
         go (is-true e) =
             let s = name-stores (l .name .number) r p in
@@ -167,3 +242,96 @@ module _ (R : Type 0) where
         go (is-false e) =
             subst (Stores R d hand uses m (literalValue m l)) (sym (pick-no _ _ _ e))
             (stores-as (λ v. sym (pick-no _ _ _ e)) (name-stores (l .name .number) r p))
+
+  -- the numbers of inputs are variable numbers
+  abbrev Inputs : List Literal → Type 0
+  Inputs ls = R → (x : ℕ) → mem x (numbersOf (namesOf ls)) ≡ true → isNumber x ≡ true
+
+  inputs-stores : (t : ℕ) → t ≤ 15 → (s : Stored) (hand uses : List ℕ) (m : Meaning) (g : Valuation → Bool) (ls : List Literal) → Inputs ls
+      → Holds R (s .draft) (s .node ∷ hand) (numbersOf (namesOf ls) ++ uses) m → Stands (draftTable (s .draft)) (s .node) g
+      → Stores R (s .draft) hand uses m (folded t m g ls) (storeInputs t s ls)
+  unfolding storeInputs folded numbersOf namesOf
+  inputs-stores t small s hand uses m g [] r p q = stores-none (s .draft) hand uses m g (s .node) p q
+  inputs-stores t small s hand uses m g (l ∷ ls) r p q =
+      let e = storeLiteral (s .draft) l in
+      let a = literal-stores (s .draft) (s .node ∷ hand) (numbersOf (namesOf ls) ++ uses) m l (λ h. r h _ (mem-head _ _)) p in
+      let b = new-operator R (e .draft) hand (numbersOf (namesOf ls) ++ uses) m t (s .node) (e .node) g (literalValue m l) small (a .holds) (stands-kept (a .kept) q) (a .stands) in
+      stores-after (kept-more (a .kept) (b .kept)) (λ x. b .gate x ∙ a .gate x)
+      (inputs-stores t small (store (e .draft) 4 t (s .node) (e .node)) hand uses m (λ v. operatorValue t (g v) (literalValue m l v)) ls
+      (λ h x i. r h x (mem-tail x (l .name .number) (numbersOf (namesOf ls)) i)) (b .holds) (b .stands))
+
+  -- a first input, and those that follow
+  gate-inputs : (t : ℕ) → t ≤ 15 → (d : Draft) (hand uses : List ℕ) (m : Meaning) (l : Literal) (ls : List Literal) → Inputs (l ∷ ls)
+      → Holds R d hand (numbersOf (namesOf (l ∷ ls)) ++ uses) m
+      → Stores R d hand uses m (folded t m (literalValue m l) ls) (storeInputs t (storeLiteral d l) ls)
+  unfolding numbersOf namesOf
+  gate-inputs t small d hand uses m l ls r p =
+      let a = literal-stores d hand (numbersOf (namesOf ls) ++ uses) m l (λ h. r h _ (mem-head _ _)) p in
+      stores-after (a .kept) (a .gate)
+      (inputs-stores t small (storeLiteral d l) hand uses m (literalValue m l) ls (λ h x i. r h x (mem-tail x (l .name .number) (numbersOf (namesOf ls)) i)) (a .holds) (a .stands))
+
+  gate-stores : (d : Draft) (hand uses : List ℕ) (m : Meaning) (g : Gate) → Inputs (gateInputs g) → distinct (numbersOf (gateVariables g)) ≡ true
+      → (R → all isNumber (numbersOf (gateVariables g)) ≡ true)
+      → Holds R d hand (numbersOf (namesOf (gateInputs g)) ++ uses) m → Stores R d hand uses m (gateValue m g) (storeGate d g)
+  unfolding gateInputs gateVariables storeGate storeInputs gateValue folded numbersOf namesOf
+  gate-stores d hand uses m (junction-gate j g []) r u n p =
+      stores-as (junction-empty m j) (new-constant R d hand uses m p (emptyValue j) (empty-small j))
+  gate-stores d hand uses m (junction-gate j g (l ∷ ls)) r u n p =
+      stores-as (junction-folded m j l ls) (gate-inputs (junctionTable j) (table-small j) d hand uses m l ls r p)
+  gate-stores d hand uses m (xor-gate g l k) r u n p =
+      stores-as (λ v. xor-value (literalValue m l v) (literalValue m k v)) (gate-inputs 6 (omega arith) d hand uses m l (k ∷ []) r p)
+  gate-stores d hand uses m (quantified-gate q g x xs l) r u n p =
+      let e = storeLiteral d l in
+      let a = literal-stores d hand uses m l (λ h. r h _ (mem-head _ _)) p in
+      stores-after (a .kept) (a .gate) (new-block R (e .draft) hand uses m q (numbersOf (x ∷ xs)) (e .node) (literalValue m l) u n (a .holds) (a .stands))
+
+  -- the gate's name stands for what was stored
+  defined : (s : Stored) (uses : List ℕ) (m : Meaning) (x : ℕ) (g : Valuation → Bool) → s .draft .gate x ≡ 0 → times x uses ≡ 1
+      → Holds R (s .draft) (s .node ∷ []) uses m → Stands (draftTable (s .draft)) (s .node) g
+      → Holds R (record { words = s .draft .words; entries = s .draft .entries; gate = setGate (s .draft .gate) x (s .node) }) [] uses
+      (λ y v. pick (eqb y x) (g v) (m y v))
+  unfolding times
+  defined s uses m x g new used p q =
+      record {
+        sound = p .sound;
+        once = λ k. omega (arith, p .once k, use-once (s .draft .gate) x (s .node) k new uses used);
+        gates = λ y k e. gate-at y k e (look (eqb y x));
+        variables = λ y e v. other y e v (look (eqb y x));
+      }
+    where
+      gate-at : (y k : ℕ) → setGate (s .draft .gate) x (s .node) y ≡ suc k → Is (eqb y x)
+          → Stands (draftTable (s .draft)) k (λ v. pick (eqb y x) (g v) (m y v))
+      gate-at y k e (is-true z) =
+          let i : suc (s .node) ≡ suc k = sym (pick-yes _ _ _ z) ∙ e in
+          let j : s .node ≡ k = omega arith in
+          subst (λ n. Stands (draftTable (s .draft)) n (λ v. pick (eqb y x) (g v) (m y v))) j (stands-as (λ v. sym (pick-yes _ _ _ z)) q)
+      gate-at y k e (is-false z) = stands-as (λ v. sym (pick-no _ _ _ z)) (p .gates y k (sym (pick-no _ _ _ z) ∙ e))
+
+      other : (y : ℕ) → setGate (s .draft .gate) x (s .node) y ≡ 0 → (v : Valuation) → Is (eqb y x) → pick (eqb y x) (g v) (m y v) ≡ v y
+      other y e v (is-true z) = let i : suc (s .node) ≡ 0 = sym (pick-yes _ _ _ z) ∙ e in absurd (omega arith)
+      other y e v (is-false z) = pick-no _ _ _ z ∙ p .variables y (sym (pick-no _ _ _ z) ∙ e) v
+
+  pub gates-hold : (out before : List ℕ) (gs : List Gate) → Lines R out before gs → (d : Draft) (m : Meaning)
+      → ((x : ℕ) → mem x before ≡ false → d .gate x ≡ 0) → Holds R d [] (inputNumbers gs ++ out) m → Holds R (storeGates d gs) [] out (meaning m gs)
+  unfolding inputNumbers storeGates meaning
+  gates-hold out before [] no-line d m none p = p
+  gates-hold out before (g ∷ gs) (line fresh used apart ranged rest) d m none p =
+      let x = gateName g .number in
+      let s = storeGate d g in
+      let uses : List ℕ = inputNumbers gs ++ out in
+      let h : Holds R d [] (numbersOf (namesOf (gateInputs g)) ++ uses) m = rw append-assoc at p in
+      let a = gate-stores d [] uses m g (λ r y i. ranged r y (line-input g y i)) apart (λ r. all-intro isNumber _ (λ y i. ranged r y (line-variable g y i))) h in
+      gates-hold out (gateName g .number ∷ before) gs rest _ _
+      (λ y n. pick-no _ _ _ (not-first y (gateName g .number) before n .0) ∙ a .gate y ∙ none y (not-first y (gateName g .number) before n .1))
+      (defined s uses m x (gateValue m g) (a .gate x ∙ none x fresh) used (a .holds) (a .stands))
+
+  pub prefix-stores : (ls : List Line) → Prefix R ls → (d : Draft) (m : Meaning) (g : Valuation → Bool) (s : Stored) → Stores R d [] [] m g s
+      → Stores R d [] [] m (quantify (map lineBlock ls) g) (storePrefix s ls)
+  unfolding storePrefix quantify lineBlock
+  prefix-stores [] no-prefix d m g s p = p
+  prefix-stores (l ∷ ls) (prefix-line apart ranged rest) d m g s p =
+      let a = prefix-stores ls rest d m g s p in
+      let e = storePrefix s ls in
+      stores-after (a .kept) (a .gate)
+      (new-block R (e .draft) [] [] m (l .quantifier) (numbersOf (lineVariables l)) (e .node) (quantify (map lineBlock ls) g) apart
+      (λ r. all-intro isNumber _ (ranged r)) (a .holds) (a .stands))
