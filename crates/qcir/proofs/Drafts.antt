@@ -153,7 +153,6 @@ module _ (R : Type 0) (ws ls : List ℕ) where
         fits = λ k. clash k refl;
         lower = λ x h. clash h refl;
         apart = refl;
-        listed = omega arith;
         formed = λ r. rw (le-leb b 1 l);
         numbered = λ r. refl;
       }
@@ -165,7 +164,6 @@ module _ (R : Type 0) (ws ls : List ℕ) where
         fits = λ k. clash k refl;
         lower = λ y h. clash h refl;
         apart = refl;
-        listed = omega arith;
         formed = λ r. rw (n r);
         numbered = λ r. refl;
       }
@@ -177,7 +175,6 @@ module _ (R : Type 0) (ws ls : List ℕ) where
         fits = λ k. clash k refl;
         lower = λ y h. omega (arith, mem-just y a h);
         apart = refl;
-        listed = omega arith;
         formed = λ r. refl;
         numbered = λ r. refl;
       }
@@ -189,7 +186,6 @@ module _ (R : Type 0) (ws ls : List ℕ) where
         fits = λ k. clash k refl;
         lower = λ y h. mem-two y a b (λ z. z < nodeCount ws) p q h;
         apart = refl;
-        listed = omega arith;
         formed = λ r. rw (le-leb o 15 l);
         numbered = λ r. refl;
       }
@@ -203,7 +199,6 @@ module _ (R : Type 0) (ws ls : List ℕ) where
         fits = λ k. omega (arith, length-append ls xs);
         lower = λ y h. omega (arith, mem-just y a (rw e at h));
         apart = rw e u;
-        listed = rw e (sym (length-append ls xs));
         formed = λ r. block-formed q (length ls) (length xs) a;
         numbered = λ r. rw e (n r);
       }

@@ -5,3 +5,4 @@ pub mod GateLines
 pub mod StoredNodes
 pub mod Drafts
 pub mod StoredGates
+pub mod StoredCounts

@@ -21,14 +21,12 @@ use Rattle.table_check.proofs.Accepted.{Fits}
 use Rattle.qcir.proofs.StoredWords.{withNode, Extends, count-with, whole-with, field-kept, field-new, node-kept, node-new}
 use Rattle.qcir.proofs.StoredValues.{Kept}
 
--- The words are whole nodes, each names lower ones, and the list is all that the blocks bind, each its variables once; given R, all
--- words are within their ranges.
+-- The words are whole nodes, each names lower ones, and no block binds a number twice; given R, all words are within their ranges.
 pub record Sound (R : Type 0) (ws ls : List ℕ) : Type 0 where
   pub whole : length ws ≡ width * nodeCount ws
   pub fits : (i : ℕ) → i < nodeCount ws → Fits ws ls i
   pub lower : Lower (nodeAt ws ls) (nodeCount ws)
   pub apart : (i : ℕ) → i < nodeCount ws → distinct (bound (nodeAt ws ls i)) ≡ true
-  pub listed : sum (λ i. length (bound (nodeAt ws ls i))) (nodeCount ws) ≡ length ls
   pub formed : R → (i : ℕ) → i < nodeCount ws → wellFormed (field ws i 0) (field ws i 1) (field ws i 2) (field ws i 3) ≡ true
   pub numbered : R → (i : ℕ) → i < nodeCount ws → all isNumber (bound (nodeAt ws ls i)) ≡ true
 
@@ -37,7 +35,6 @@ pub record Fresh (R : Type 0) (ws ls ls' : List ℕ) (kind a b c : ℕ) : Type 0
   pub fits : isBlockKind kind ≡ true → a + b ≤ length ls'
   pub lower : (x : ℕ) → mem x (operands (nodeOf ls' kind a b c)) ≡ true → x < nodeCount ws
   pub apart : distinct (bound (nodeOf ls' kind a b c)) ≡ true
-  pub listed : length ls + length (bound (nodeOf ls' kind a b c)) ≡ length ls'
   pub formed : R → wellFormed kind a b c ≡ true
   pub numbered : R → all isNumber (bound (nodeOf ls' kind a b c)) ≡ true
 
@@ -95,7 +92,6 @@ module _ (R : Type 0) (ws ls ls' : List ℕ) (kind a b c : ℕ) (sound : Sound R
         apart = each (λ i. distinct (bound (nodeAt (withNode ws kind a b c) ls' i)) ≡ true) n m count
             (λ i h. ap (λ nd. distinct (bound nd)) (old i h) ∙ sound .apart i h)
             (ap (λ nd. distinct (bound nd)) new ∙ fresh .apart);
-        listed = omega (arith, sum-more (λ nd. length (bound nd)), sound .listed, fresh .listed);
         formed = λ r. each (λ i. wellFormed (field (withNode ws kind a b c) i 0) (field (withNode ws kind a b c) i 1) (field (withNode ws kind a b c) i 2) (field (withNode ws kind a b c) i 3) ≡ true) n m count
             (λ i h. rw (word i 0 h (omega arith), word i 1 h (omega arith), word i 2 h (omega arith), word i 3 h (omega arith)) (sound .formed r i h))
             (rw (word-new 0, word-new 1, word-new 2, word-new 3) (fresh .formed r));
