@@ -6,3 +6,4 @@ pub mod StoredNodes
 pub mod Drafts
 pub mod StoredGates
 pub mod StoredCounts
+pub mod Theorem

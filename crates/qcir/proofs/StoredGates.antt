@@ -124,6 +124,19 @@ unfolding lineNames
 line-input g x h =
     rw (numbers-cons, numbers-append) (mem-tail x _ _ (mem-right x (numbersOf (gateVariables g)) (numbersOf (namesOf (gateInputs g))) h))
 
+-- nothing is named or used where nothing is stored
+none-named : (k : ℕ) → timesNamed (tableOf [] []) k ≡ 0
+unfolding timesNamed tableOf sum
+none-named k = refl
+
+none-times : (k : ℕ) → times k [] ≡ 0
+unfolding times
+none-times k = refl
+
+none-used : (k : ℕ) (ys : List ℕ) → times (suc k) (map (λ y. 0) ys) ≡ 0
+none-used k [] = none-times (suc k)
+none-used k (y ∷ ys) = omega (arith, times-cons (suc k) 0 (map (λ y. 0) ys), times-other (suc k) 0 (λ z. omega arith), none-used k ys)
+
 -- gate entries with x's set to the entry of node i
 abbrev setGate : (ℕ → ℕ) → ℕ → ℕ → ℕ → ℕ
 setGate gate x i y = pick (eqb y x) (suc i) (gate y)
@@ -227,7 +240,7 @@ module _ (R : Type 0) where
             } in
             subst (Stores R d hand uses m (m x)) (sym (pick-no _ _ _ e)) (stores-none d hand uses m (m x) i q (p .gates x i z))
 
-    literal-stores : (l : Literal) → (R → isNumber (l .name .number) ≡ true) → Holds R d hand (l .name .number ∷ uses) m
+    pub literal-stores : (l : Literal) → (R → isNumber (l .name .number) ≡ true) → Holds R d hand (l .name .number ∷ uses) m
         → Stores R d hand uses m (literalValue m l) (storeLiteral d l)
     unfolding storeLiteral literalValue
     literal-stores l r p = go (look (l .minus))
@@ -335,3 +348,24 @@ module _ (R : Type 0) where
       stores-after (a .kept) (a .gate)
       (new-block R (e .draft) [] [] m (l .quantifier) (numbersOf (lineVariables l)) (e .node) (quantify (map lineBlock ls) g) apart
       (λ r. all-intro isNumber _ (ranged r)) (a .holds) (a .stands))
+
+  pub empty-holds : (uses : List ℕ) → Holds R emptyDraft [] uses (λ x u. u x)
+  unfolding emptyDraft
+  empty-holds uses =
+      record {
+        sound = empty-sound;
+        once = λ k. omega (arith, none-named k, none-times k, none-used k uses, below-no k 0 (omega arith));
+        gates = λ x k e. absurd (omega arith);
+        variables = λ x e v. refl;
+      }
+    where
+      empty-sound : Sound R [] []
+      empty-sound =
+          record {
+            whole = omega arith;
+            fits = λ i h. absurd (omega arith);
+            lower = λ i a h. absurd (omega arith);
+            apart = λ i h. absurd (omega arith);
+            formed = λ r i h. absurd (omega arith);
+            numbered = λ r i h. absurd (omega arith);
+          }
