@@ -3,16 +3,16 @@
 use mathlib.Core.Path.{_≡_, refl, sym, _∙_, ap, subst}
 use mathlib.Core.Bool.{Bool, true, false, not, _||_}
 use mathlib.Core.List.{List, [], _∷_, _++_, map}
-use Prim.Native.Nat.{ℕ, zero, suc, _+_, _-_, _≤_, _<_}
+use Prim.Native.Nat.{ℕ, suc, _+_, _≤_, _<_}
 use native.Mathlib.Omega.{arith}
-use lib.Dec.{eqb, ltb, leb}
+use lib.Dec.{eqb, ltb}
 use lib.ListN.{length, length-append}
 use borrow.Author.Tests.{ltb-true, ltb-false, lt-ltb, le-ltb, le-leb, eqb-true, eqb-false, eq-eqb, ne-eqb}
 use Rattle.lists.specs.Choice.{pick, pick-yes, pick-no, Is, is-true, is-false, look, clash, or-cases}
 use Rattle.lists.specs.Members.{mem, all, distinct, times}
 use Rattle.lists.proofs.Members.{mem-one}
-use Rattle.formula.specs.Node.{Quantifier, exists, for-all, Node, constant, variable, negation, operator, block, Table, operands, bound}
-use Rattle.formula.specs.Words.{nodeCount, isBlockKind, range, nodeOf, tableOf}
+use Rattle.formula.specs.Node.{Quantifier, exists, for-all, block, Table, operands, bound}
+use Rattle.formula.specs.Words.{nodeCount, isBlockKind, nodeOf, tableOf}
 use Rattle.formula.specs.Valuation.{Valuation, quant}
 use Rattle.formula.specs.Truth.{operatorValue}
 use Rattle.formula.specs.Tree.{timesNamed}

@@ -1,9 +1,9 @@
 -- What the refusals of names leave: each gate line defines a new name, which is used once, after the line; no list has a name twice.
 -- Assumes nothing.
 use mathlib.Core.Path.{_≡_, refl, sym, _∙_, ap}
-use mathlib.Core.Bool.{Bool, true, false, not, _&&_, _||_}
-use mathlib.Core.List.{List, [], _∷_, _++_, map}
-use Prim.Native.Nat.{ℕ, suc, _+_}
+use mathlib.Core.Bool.{Bool, true, false, not, _||_}
+use mathlib.Core.List.{List, [], _∷_, _++_}
+use Prim.Native.Nat.{ℕ, _+_}
 use native.Mathlib.Omega.{arith}
 use lib.Dec.{eqb}
 use lib.ListN.{length}
@@ -12,7 +12,7 @@ use Rattle.lists.specs.Choice.{pick, pick-yes, pick-no, Is, is-true, is-false, 
 use Rattle.lists.specs.Members.{mem, times, distinct}
 use Rattle.lists.proofs.Members.{mem-head, mem-left, mem-right, mem-tail, times-zero}
 use Rattle.table_check.specs.Verdict.{isNumber}
-use Rattle.qcir.specs.File.{Name, Literal, Gate, gateName, gateVariables, gateInputs, Line, lineVariables, prefixVariables, File, numbersOf, namesOf}
+use Rattle.qcir.specs.File.{Name, Gate, gateName, gateVariables, gateInputs, Line, lineVariables, prefixVariables, File, numbersOf, namesOf}
 use Rattle.qcir.specs.Refusals.{keep, gateNames, outerNames, quantifiedNames, repeated, repeatedInGates, gatesListed, namingGates, without, earlyUses, misplaced, inputNumbers, usedNumbers, notUsedOnce}
 use Rattle.qcir.proofs.Numbers.{lineNames, linesNames, allNumbers, Ranged}
 

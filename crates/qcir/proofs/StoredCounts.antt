@@ -42,7 +42,7 @@ counts-more ws n kind a b c p =
             arith,
             p .counted,
             sum-cong (countAt (withNode ws kind a b c)) (countAt ws) (nodeCount ws)
-            (λ i h. rw (field-kept ws w kind a b c i 0 h (omega arith), field-kept ws w kind a b c i 2 h (omega arith))),
+                (λ i h. rw (field-kept ws w kind a b c i 0 h (omega arith), field-kept ws w kind a b c i 2 h (omega arith))),
             new w,
           ));
     }

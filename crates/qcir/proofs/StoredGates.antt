@@ -1,34 +1,31 @@
 -- What is stored for names, inputs, gate lines and prefix lines has their values.
 -- Assumes nothing.
-use mathlib.Core.Path.{_≡_, refl, sym, _∙_, ap, ap₂, subst}
+use mathlib.Core.Path.{_≡_, refl, sym, _∙_, ap, subst}
 use mathlib.Core.Bool.{Bool, true, false, not, _&&_, _||_, and-true, and-assoc, or-false, or-assoc}
 use mathlib.Core.List.{List, [], _∷_, _++_, map, append-assoc}
-use Prim.Native.Nat.{ℕ, zero, suc, _+_, _-_, _≤_, _<_}
+use Prim.Native.Nat.{ℕ, suc, _+_, _-_, _≤_}
 use native.Mathlib.Omega.{arith}
 use lib.Dec.{eqb}
-use lib.ListN.{length}
-use borrow.Author.Tests.{eqb-true, eqb-false, eq-eqb, ne-eqb}
-use Rattle.lists.specs.Choice.{pick, pick-yes, pick-no, Is, is-true, is-false, look, clash, or-neither-left, or-neither-right}
+use borrow.Author.Tests.{eqb-true, eqb-false}
+use Rattle.lists.specs.Choice.{pick, pick-yes, pick-no, Is, is-true, is-false, look, or-neither-left, or-neither-right}
 use Rattle.lists.specs.Members.{mem, all, distinct, times}
 use Rattle.lists.specs.Parts.{sum}
 use Rattle.lists.proofs.Members.{mem-head, mem-tail, mem-left, mem-right, all-intro}
-use Rattle.formula.specs.Node.{Quantifier}
-use Rattle.formula.specs.Words.{nodeCount, tableOf}
-use Rattle.formula.specs.Valuation.{Valuation, quant}
+use Rattle.formula.specs.Words.{tableOf}
+use Rattle.formula.specs.Valuation.{Valuation}
 use Rattle.formula.specs.Truth.{bit, digit, operatorValue}
 use Rattle.formula.specs.Tree.{timesNamed}
 use Rattle.formula.specs.Form.{quantify}
-use Rattle.formula.proofs.Quantify.{quant-cong}
 use Rattle.table_check.specs.Verdict.{isNumber}
 use Rattle.qcir.specs.File.{Name, Literal, Junction, conjunction, disjunction, Gate, junction-gate, xor-gate, quantified-gate, gateName, gateVariables, gateInputs, Line, lineVariables, numbersOf, namesOf}
 use Rattle.qcir.specs.Meaning.{Meaning, literalValue, junctionValue, gateValue, meaning, lineBlock}
 use Rattle.qcir.specs.Refusals.{inputNumbers}
-use Rattle.qcir.specs.Table.{Draft, Stored, store, storeName, storeLiteral, storeInputs, storeBlock, junctionTable, emptyValue, storeGate, storeGates, storePrefix, emptyDraft}
+use Rattle.qcir.specs.Table.{Draft, Stored, store, storeName, storeLiteral, storeInputs, junctionTable, emptyValue, storeGate, storeGates, storePrefix, emptyDraft}
 use Rattle.qcir.proofs.Numbers.{lineNames}
 use Rattle.qcir.proofs.GateLines.{numbers-append, Lines, no-line, line, Prefix, no-prefix, prefix-line}
 use Rattle.qcir.proofs.StoredValues.{Kept, kept-same, kept-more, Stands, stands-kept, stands-as}
 use Rattle.qcir.proofs.StoredNodes.{Sound}
-use Rattle.qcir.proofs.Drafts.{draftTable, below, below-no, times-one, times-other, times-cons, Holds, Stores, new-constant, new-variable, new-negation, new-operator, new-block}
+use Rattle.qcir.proofs.Drafts.{draftTable, below-no, times-one, times-other, times-cons, Holds, Stores, new-constant, new-variable, new-negation, new-operator, new-block}
 
 -- the operators of gates
 and-value : (a b : Bool) → operatorValue 8 a b ≡ (a && b)
@@ -153,8 +150,7 @@ module _ (gate : ℕ → ℕ) (x i : ℕ) (k : ℕ) where
   use-other : (y : ℕ) (ys : List ℕ) → eqb y x ≡ false → (after (y ∷ ys) ≡ times (suc k) (gate y ∷ []) + after ys) × (times x (y ∷ ys) ≡ times x ys)
   use-other y ys e =
       let n : y ≡ x → ⊥ = eqb-false y x e in
-      let a : setGate gate x i y ≡ gate y = pick-no _ _ _ e in
-      (
+      let a : setGate gate x i y ≡ gate y = pick-no _ _ _ e in (
         times-cons (suc k) (setGate gate x i y) (map (setGate gate x i) ys) ∙ ap (λ z. times (suc k) (z ∷ []) + after ys) a,
         omega (arith, times-cons x y ys, times-other x y (λ z. n (sym z))),
       )

@@ -1,14 +1,12 @@
 -- What holds of the nodes stored so far, and that one node more keeps it.
 -- Assumes nothing.
-use mathlib.Core.Path.{_≡_, refl, sym, _∙_, ap, ap₂, subst}
-use mathlib.Core.Bool.{Bool, true, false, not}
-use mathlib.Core.List.{List, [], _∷_, _++_}
+use mathlib.Core.Path.{_≡_, sym, _∙_, ap, ap₂}
+use mathlib.Core.Bool.{true}
+use mathlib.Core.List.{List, [], _∷_}
 use Prim.Native.Nat.{ℕ, suc, _+_, _*_, _≤_, _<_}
 use native.Mathlib.Omega.{arith}
-use lib.Dec.{eqb, ltb}
 use lib.ListN.{length, getD}
-use borrow.Author.Tests.{ltb-true, ltb-false}
-use Rattle.lists.specs.Choice.{Is, is-true, is-false, look}
+use borrow.Author.Count.{below-more}
 use Rattle.lists.specs.Members.{mem, all, distinct, times}
 use Rattle.lists.specs.Parts.{sum}
 use Rattle.lists.proofs.Parts.{sum-cong}
@@ -40,11 +38,7 @@ pub record Fresh (R : Type 0) (ws ls ls' : List ℕ) (kind a b c : ℕ) : Type 0
 
 -- what holds below n and at n holds below n + 1
 each : (P : ℕ → Type 0) (n m : ℕ) → m ≡ suc n → ((i : ℕ) → i < n → P i) → P n → (i : ℕ) → i < m → P i
-each P n m e h p i l = go (look (ltb i n))
-  where
-    go : Is (ltb i n) → P i
-    go (is-true t) = h i (ltb-true i n t)
-    go (is-false t) = let k : n ≤ i = ltb-false i n t in let q : n ≡ i = omega arith in subst P q p
+each P n m e h p i l = below-more P n h p i (omega arith)
 
 module _ (R : Type 0) (ws ls ls' : List ℕ) (kind a b c : ℕ) (sound : Sound R ws ls) (ext : Extends ls ls') (fresh : Fresh R ws ls ls' kind a b c) where
   count : nodeCount (withNode ws kind a b c) ≡ suc (nodeCount ws)

@@ -1,9 +1,9 @@
 -- The table of a file whose names are not refused has the file's truth value, and within the limits the table checker accepts it.
 -- Assumes nothing.
-use mathlib.Core.Path.{_≡_, refl, sym, _∙_, ap, subst}
-use mathlib.Core.Bool.{Bool, true, false}
-use mathlib.Core.List.{List, [], _∷_, map}
-use Prim.Native.Nat.{ℕ, suc, _+_, _-_, _*_, _≤_, _<_}
+use mathlib.Core.Path.{_≡_, refl}
+use mathlib.Core.Bool.{false}
+use mathlib.Core.List.{[], _∷_, map}
+use Prim.Native.Nat.{ℕ, _+_, _-_, _*_, _≤_, _<_}
 use native.Mathlib.Omega.{arith}
 use lib.Dec.{eqb}
 use lib.ListN.{length}
@@ -17,7 +17,7 @@ use Rattle.formula.specs.Node.{operands}
 use Rattle.formula.specs.Words.{width, nodeCount, nodeAt, tableOf}
 use Rattle.formula.specs.Valuation.{Valuation}
 use Rattle.formula.specs.Truth.{truth}
-use Rattle.formula.specs.Tree.{timesNamed, Tree, boundBelow}
+use Rattle.formula.specs.Tree.{timesNamed, Tree}
 use Rattle.formula.specs.Form.{quantify}
 use Rattle.table_check.specs.Verdict.{limit, countAt, verdict, accepted}
 use Rattle.table_check.specs.Accepted.{Accepted}
@@ -25,14 +25,14 @@ use Rattle.table_check.proofs.Accepted.{counts-below, holds-accepted}
 use Rattle.qcir.specs.File.{File}
 use Rattle.qcir.specs.Meaning.{Meaning, literalValue, meaning, lineBlock, fileTruth}
 use Rattle.qcir.specs.Refusals.{misplaced, notUsedOnce}
-use Rattle.qcir.specs.Table.{Draft, Stored, storeLiteral, storeGates, storePrefix, emptyDraft, fileDraft, tableWords, tableList}
+use Rattle.qcir.specs.Table.{Stored, storeLiteral, storeGates, storePrefix, emptyDraft, fileDraft, tableWords, tableList}
 use Rattle.qcir.specs.Reading.{crowded}
 use Rattle.qcir.proofs.Numbers.{Ranged}
 use Rattle.qcir.proofs.GateLines.{gate-lines, prefix-proper, output-ranged}
-use Rattle.qcir.proofs.StoredValues.{kept-same, Stands}
+use Rattle.qcir.proofs.StoredValues.{kept-same}
 use Rattle.qcir.proofs.StoredNodes.{Sound}
 use Rattle.qcir.proofs.StoredCounts.{file-counts, counts-few}
-use Rattle.qcir.proofs.Drafts.{below, below-yes, times-one, times-other, Holds, Stores}
+use Rattle.qcir.proofs.Drafts.{below, below-yes, times-other, Holds, Stores}
 use Rattle.qcir.proofs.StoredGates.{empty-holds, gates-hold, literal-stores, prefix-stores}
 
 -- The table's words are whole nodes, ..
