@@ -128,3 +128,38 @@ module _ (gates : List ℕ) (rs ns ps : List ℕ) (count : ℕ) where
   found-none lists line i h =
       let e : count - i ≡ 0 = omega arith in
       ap (λ (n : ℕ). firstOf (faults (λ x. getD gates x 0) (λ x. getD lists x 0) line i (tokensFrom rs ns ps i n))) e
+
+-- the positions at fault from an entry on, from a definition on, and from any other token on
+module _ (gates lists : ℕ → ℕ) (line i : ℕ) (t : Token) (ts : List Token) where
+  pub faults-entry : isEntry (t .role) ≡ true
+      → faults gates lists line i (t ∷ ts)
+      ≡ pick (eqb (lists (t .name .number)) (suc line) || (not (eqb (gates (t .name .number)) 0) && leb (gates (t .name .number)) line)) (t .name .position ∷ []) []
+      ++ faults gates (mark (t .name .number) (suc line) lists) line (suc i) ts
+  unfolding faults
+  faults-entry h =
+      let x = t .name .number in
+      rw (fault-entry (t .role) (gates x) (lists x) line i h, lists-entry (t .role) x line lists h, line-other (t .role) line i (entry-defines-none (t .role) h))
+
+  pub faults-definition : isEntry (t .role) ≡ false → isDefinition (t .role) ≡ true
+      → faults gates lists line i (t ∷ ts)
+      ≡ pick (leb (gates (t .name .number)) i || not (eqb (lists (t .name .number)) 0)) (t .name .position ∷ []) []
+      ++ faults gates lists (suc i) (suc i) ts
+  unfolding faults
+  faults-definition h d =
+      let x = t .name .number in
+      rw (fault-definition (t .role) (gates x) (lists x) line i h d, lists-other (t .role) x line lists h, line-definition (t .role) line i d)
+
+  pub faults-other : isEntry (t .role) ≡ false → isDefinition (t .role) ≡ false
+      → faults gates lists line i (t ∷ ts)
+      ≡ pick (isInput (t .role) && leb line (gates (t .name .number))) (t .name .position ∷ []) [] ++ faults gates lists line (suc i) ts
+  unfolding faults
+  faults-other h d =
+      let x = t .name .number in
+      rw (fault-other (t .role) (gates x) (lists x) line i h d, lists-other (t .role) x line lists h, line-other (t .role) line i d)
+
+  -- a token that is neither, nor an input, is passed
+  pub faults-passed : isEntry (t .role) ≡ false → isDefinition (t .role) ≡ false → isInput (t .role) ≡ false
+      → faults gates lists line i (t ∷ ts) ≡ faults gates lists line (suc i) ts
+  faults-passed h d n =
+      faults-other h d
+      ∙ ap (λ (l : List ℕ). l ++ faults gates lists line (suc i) ts) (pick-no (isInput (t .role) && leb line (gates (t .name .number))) (t .name .position ∷ []) [] (and-off-left (isInput (t .role)) (leb line (gates (t .name .number))) n))
