@@ -27,6 +27,13 @@ pub record InputRole (r : ℕ) : Type 0 where
   pub input : isInput r ≡ true
   pub no-empty : eqb r emptyRole ≡ false
 
+-- they define nothing
+pub entry-defines : (r : ℕ) → EntryRole r → isDefinition r ≡ false
+entry-defines r p = entry-defines-none r (p .entry)
+
+pub input-defines : (r : ℕ) → InputRole r → isDefinition r ≡ false
+input-defines r p = p .no-definition
+
 -- The tokens are those of the names, with roles of this sort, but for ends of gates without inputs.
 pub data Entries (P : ℕ → Type 0) : List Token → List Name → Type 0 where
   nothing : Entries P [] []
