@@ -14,7 +14,7 @@ use Rattle.qcir.specs.File.{Name, Gate, gateName, numbersOf}
 use Rattle.qcir.specs.Refusals.{gateNames}
 use Rattle.qcir_tokens.specs.Tokens.{Token, isDefinition, definitionFrom, gatesTokens}
 use Rattle.qcir_places.proofs.Entries.{EntryRole, InputRole, Entries, past, past-le, entries-define, entry-defines, input-defines}
-use Rattle.qcir_places.proofs.Shapes.{gate-shape, gates-shape}
+use Rattle.qcir_places.proofs.Shapes.{gate-shape, gateHead, gates-shape}
 
 -- at a definition
 module _ (i : ℕ) (t : Token) (ts : List Token) (y : ℕ) (d : isDefinition (t .role) ≡ true) where
@@ -133,10 +133,9 @@ names-gate j i y g gs h next =
     let a : suc i ≤ past (s .bound) (suc i) = past-le (s .bound) (suc i) in
     let b : past (s .bound) (suc i) ≤ past (s .inputs) (past (s .bound) (suc i)) = past-le (s .inputs) (past (s .bound) (suc i)) in
     ap (λ (ts : List Token). leb (suc j) (definitionFrom i ts y)) (gates-shape g gs)
-    ∙ names-cons j i y (s .head) (s .bound ++ (s .inputs ++ gatesTokens gs)) (numbersOf (gateNames gs)) (s .definition) h (look (eqb y (s .head .name .number)))
+    ∙ names-cons j i y (gateHead g) (s .bound ++ (s .inputs ++ gatesTokens gs)) (numbersOf (gateNames gs)) (s .definition) h (look (eqb y (gateName g .number)))
     (ap (leb (suc j)) (entries-define (s .inputs ++ gatesTokens gs) entry-defines (suc i) (s .variables) y ∙ entries-define (gatesTokens gs) input-defines (past (s .bound) (suc i)) (s .uses) y)
     ∙ next (past (s .inputs) (past (s .bound) (suc i))) (omega arith))
-    ∙ ap (λ (x : Name). mem y (x .number ∷ numbersOf (gateNames gs))) (s .named)
 
 names-defined : (j y : ℕ) (gs : List Gate) (i : ℕ) → j ≤ i → leb (suc j) (definitionFrom i (gatesTokens gs) y) ≡ mem y (numbersOf (gateNames gs))
 unfolding gatesTokens definitionFrom gateNames numbersOf mem

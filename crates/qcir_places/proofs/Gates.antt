@@ -9,7 +9,7 @@ use lib.Dec.{eqb, leb}
 use borrow.Author.Tests.{ne-eqb}
 use Rattle.lists.specs.Choice.{pick, pick-yes, pick-no, Is, is-true, is-false, look, or-left, or-right, or-cases}
 use Rattle.lists.specs.Members.{mem}
-use Rattle.lists.proofs.Members.{or-group}
+use Rattle.lists.proofs.Members.{or-group, mem-nil}
 use Rattle.qcir.specs.File.{Name, Gate, gateName, gateVariables, gateInputs, numbersOf, namesOf}
 use Rattle.qcir.specs.Refusals.{gateNames, quantifiedNames, repeated, repeatedInGates, laterPlaces, gatesListed, namingGates, without, earlyUses}
 use Rattle.qcir_tokens.specs.Tokens.{Token, ascending, gatesTokens}
@@ -17,7 +17,7 @@ use Rattle.qcir_places.specs.Faults.{mark, faults}
 use Rattle.qcir_places.proofs.Turn.{faults-definition}
 use Rattle.qcir_places.proofs.Above.{Iff, Above, none, above-left, above-right, above-both, above-pick, above-step}
 use Rattle.qcir_places.proofs.Entries.{EntryRole, InputRole, entry-defines, input-defines, past, past-le, marked, entries-found, inputs-found, Each, no-names, a-name, each-map, each-append, Ascent, ascending-one, entries-ascend}
-use Rattle.qcir_places.proofs.Shapes.{gate-shape, gates-shape}
+use Rattle.qcir_places.proofs.Shapes.{gate-shape, gateHead, gates-shape}
 use Rattle.qcir_places.proofs.Listed.{later-append, naming-append, later-before, later-after}
 use Rattle.qcir_places.proofs.Defined.{Known, known-test, known-past, known-gate, known-next, known-early}
 
@@ -32,20 +32,19 @@ record LineAscent (p : ℕ) (g : Gate) (rest : List Token) : Type 0 where
 line-ascends : (p : ℕ) (g : Gate) (gs : List Gate) → ascending p (gatesTokens (g ∷ gs)) ≡ true → LineAscent p g (gatesTokens gs)
 line-ascends p g gs a =
     let s = gate-shape g in
-    let n : s .head .name .position ≡ gateName g .position = ap (λ x. x .position) (s .named) in
-    let h = ascending-one p (s .head) (s .bound ++ (s .inputs ++ gatesTokens gs)) (s .no-empty) (subst (λ ts. ascending p ts ≡ true) (gates-shape g gs) a) in
-    let l : p ≤ s .head .name .position = h .0 in
-    let u : Ascent (suc (s .head .name .position)) (gateVariables g) (s .inputs ++ gatesTokens gs) =
-        entries-ascend (s .inputs ++ gatesTokens gs) (λ r q. q .no-empty) (suc (s .head .name .position)) (s .variables) (h .1) in
+    let h = ascending-one p (gateHead g) (s .bound ++ (s .inputs ++ gatesTokens gs)) (s .no-empty) (subst (λ ts. ascending p ts ≡ true) (gates-shape g gs) a) in
+    let l : p ≤ gateName g .position = h .0 in
+    let u : Ascent (suc (gateName g .position)) (gateVariables g) (s .inputs ++ gatesTokens gs) =
+        entries-ascend (s .inputs ++ gatesTokens gs) (λ r q. q .no-empty) (suc (gateName g .position)) (s .variables) (h .1) in
     let v : Ascent (u .end) (namesOf (gateInputs g)) (gatesTokens gs) =
         entries-ascend (gatesTokens gs) (λ r q. q .no-empty) (u .end) (s .uses) (u .onward) in
-    let o : suc (s .head .name .position) ≤ u .end = u .order in
+    let o : suc (gateName g .position) ≤ u .end = u .order in
     let w : u .end ≤ v .end = v .order in
     record {
       first = omega arith;
       end = v .end;
       order = omega arith;
-      between = each-map (λ y b. let b0 : suc (s .head .name .position) ≤ y .position = b .0 in let b1 : y .position < u .end = b .1 in (omega arith, omega arith)) (u .between);
+      between = each-map (λ y b. let b0 : suc (gateName g .position) ≤ y .position = b .0 in let b1 : y .position < u .end = b .1 in (omega arith, omega arith)) (u .between);
       onward = v .onward;
     }
 
@@ -202,3 +201,104 @@ module _ (k : ℕ) (names : List Name) (defined : List ℕ) (g : Gate) (gs : Lis
           early = above-right k (namingGates (numbersOf (gateNames (g ∷ gs))) (without defined (namesOf (gateInputs g)))) (earlyUses (x .number ∷ defined) gs) (all .early);
           repeats = above-right k (repeated [] vs) (repeatedInGates gs) (all .repeats);
         }
+
+-- One line of the pass.
+module _ (k : ℕ) (gates lists : ℕ → ℕ) (line i : ℕ) (names : List Name) (defined : List ℕ) (g : Gate) (gs : List Gate)
+    (marks : Marks lists i names) (known : Known gates i defined (gatesTokens (g ∷ gs))) where
+  -- the tokens of its list and its inputs, and those after them
+  abbrev after-head : List Token
+  after-head = gate-shape g .bound ++ (gate-shape g .inputs ++ gatesTokens gs)
+
+  -- the marks after it
+  abbrev marks-after : ℕ → ℕ
+  marks-after = marked (suc (suc i)) (gateVariables g) lists
+
+  abbrev index-after : ℕ
+  index-after = past (gate-shape g .inputs) (past (gate-shape g .bound) (suc i))
+
+  known-here : Known gates i defined (gateHead g ∷ after-head)
+  known-here = subst (Known gates i defined) (gates-shape g gs) known
+
+  known-inside : Known gates (suc i) (gateName g .number ∷ defined) after-head
+  known-inside = known-next gates i defined (gateHead g) after-head (gate-shape g .definition) known-here
+
+  known-after : Known gates index-after (gateName g .number ∷ defined) (gatesTokens gs)
+  known-after =
+      let s = gate-shape g in
+      known-past gates (past (s .bound) (suc i)) (gateName g .number ∷ defined) (gatesTokens gs) input-defines (s .uses)
+      (known-past gates (suc i) (gateName g .number ∷ defined) (s .inputs ++ gatesTokens gs) entry-defines (s .variables) known-inside)
+
+  index-later : suc i ≤ index-after
+  index-later =
+      let s = gate-shape g in
+      let a : suc i ≤ past (s .bound) (suc i) = past-le (s .bound) (suc i) in
+      let b : past (s .bound) (suc i) ≤ past (s .inputs) (past (s .bound) (suc i)) = past-le (s .inputs) (past (s .bound) (suc i)) in omega arith
+
+  marked-after : Marks marks-after index-after (names ++ gateVariables g)
+  marked-after = let l : suc i ≤ index-after = index-later in marks-next (suc (suc i)) i index-after lists names (gateVariables g) (omega arith) (omega arith) (omega arith) marks
+
+  head-found : Iff (Above k (faults gates lists line i (gateHead g ∷ after-head)))
+      (((leb (gates (gateName g .number)) i || not (eqb (lists (gateName g .number)) 0)) ≡ true → k ≤ gateName g .position) × Above k (faults gates lists (suc i) (suc i) after-head))
+  head-found =
+      above-step k (gateName g .position) (leb (gates (gateName g .number)) i || not (eqb (lists (gateName g .number)) 0)) (faults gates lists line i (gateHead g ∷ after-head)) (faults gates lists (suc i) (suc i) after-head)
+      (faults-definition gates lists line i (gateHead g) after-head (gate-shape g .no-entry) (gate-shape g .definition))
+
+  list-found : Iff (Above k (faults gates lists (suc i) (suc i) after-head))
+      (Above k (repeated [] (gateVariables g)) × Above k (namingGates (gateName g .number ∷ defined) (gateVariables g)) × Above k (faults gates marks-after (suc i) (past (gate-shape g .bound) (suc i)) (gate-shape g .inputs ++ gatesTokens gs)))
+  list-found =
+      entries-found k gates (suc i) (gate-shape g .inputs ++ gatesTokens gs) (gateName g .number ∷ defined)
+      (known-test gates (suc i) (gateName g .number ∷ defined) after-head known-inside) (suc i) lists [] (gate-shape g .variables)
+      (λ y. let f : lists y ≤ suc i = marks .fresh y in ne-eqb (lists y) (suc (suc i)) (λ e. omega arith) ∙ sym (mem-nil y))
+
+  uses-found : Iff (Above k (faults gates marks-after (suc i) (past (gate-shape g .bound) (suc i)) (gate-shape g .inputs ++ gatesTokens gs)))
+      (Above k (namingGates (numbersOf (gateNames (g ∷ gs))) (without defined (namesOf (gateInputs g)))) × Above k (faults gates marks-after (suc i) index-after (gatesTokens gs)))
+  uses-found =
+      inputs-found k gates (suc i) (gatesTokens gs) (numbersOf (gateNames (g ∷ gs))) defined (known-early gates i defined (g ∷ gs) known) (past (gate-shape g .bound) (suc i)) marks-after (gate-shape g .uses)
+
+  -- the test of the definition
+  own-test : (leb (gates (gateName g .number)) i || not (eqb (lists (gateName g .number)) 0)) ≡ (mem (gateName g .number) defined || mem (gateName g .number) (numbersOf names))
+  own-test = rw (known-gate gates i defined (gateHead g) after-head (gate-shape g .definition) known-here, marks .listed (gateName g .number))
+
+  line-found : Iff (Above k (faults gates lists line i (gatesTokens (g ∷ gs)))) (LineClear k names defined g gs × Above k (faults gates marks-after (suc i) index-after (gatesTokens gs)))
+  line-found =
+      record {
+        to = λ a.
+          let h = head-found .to (subst (λ ts. Above k (faults gates lists line i ts)) (gates-shape g gs) a) in
+          let l = list-found .to (h .1) in
+          let u = uses-found .to (l .2) in
+          (record { own = λ m. h .0 (own-test ∙ m); repeats = l .0; bound = l .1; early = u .0 }, u .1);
+        from = λ q.
+          subst (λ ts. Above k (faults gates lists line i ts)) (sym (gates-shape g gs))
+          (head-found .from (λ m. q .0 .own (sym own-test ∙ m), list-found .from (q .0 .repeats, q .0 .bound, uses-found .from (q .0 .early, q .1))));
+      }
+
+nothing-clear : (k : ℕ) (names : List Name) (defined : List ℕ) → Clear k names defined []
+unfolding gateNames quantifiedNames repeated namingGates gatesListed earlyUses repeatedInGates
+nothing-clear k names defined = record { twice = none; bound = none; listed = none; early = none; repeats = none }
+
+nothing-found : (k : ℕ) (gates lists : ℕ → ℕ) (line i : ℕ) → Above k (faults gates lists line i (gatesTokens []))
+unfolding faults gatesTokens
+nothing-found k gates lists line i = none
+
+-- all lines
+pub gates-found : (k : ℕ) (gates : ℕ → ℕ) (gs : List Gate) (lists : ℕ → ℕ) (line i : ℕ) (names : List Name) (defined : List ℕ) (p : ℕ)
+    → Marks lists i names → Known gates i defined (gatesTokens gs) → Each (λ y. y .position < p) names → ascending p (gatesTokens gs) ≡ true
+    → Iff (Above k (faults gates lists line i (gatesTokens gs))) (Clear k names defined gs)
+gates-found k gates [] lists line i names defined p marks known before a =
+    record { to = λ z. nothing-clear k names defined; from = λ z. nothing-found k gates lists line i }
+gates-found k gates (g ∷ gs) lists line i names defined p marks known before a =
+    let l : LineAscent p g (gatesTokens gs) = line-ascends p g gs a in
+    let f : p ≤ gateName g .position = l .first in
+    let o : gateName g .position < l .end = l .order in
+    let here = line-found k gates lists line i names defined g gs marks known in
+    let later =
+        gates-found k gates gs (marks-after k gates lists line i names defined g gs marks known) (suc i) (index-after k gates lists line i names defined g gs marks known) (names ++ gateVariables g) (gateName g .number ∷ defined) (l .end)
+        (marked-after k gates lists line i names defined g gs marks known) (known-after k gates lists line i names defined g gs marks known)
+        (each-append (each-map (λ y b. let b0 : y .position < p = b in omega arith) before) (each-map (λ y b. b .1) (l .between))) (l .onward) in
+    let up : Each (λ y. y .position ≤ gateName g .position) names = each-map (λ y b. let b0 : y .position < p = b in omega arith) before in
+    let own : Each (λ y. gateName g .position ≤ y .position) (gateVariables g) = each-map (λ y b. let b0 : gateName g .position < y .position = b .0 in omega arith) (l .between) in
+    let rest : Each (λ y. gateName g .position ≤ y .position) (quantifiedNames gs) = each-map (λ y b. let b0 : l .end ≤ y .position = b in omega arith) (quantified-after (l .end) gs (l .onward)) in
+    record {
+      to = λ z. let h = here .to z in clear-to k names defined g gs up own rest (h .0) (later .to (h .1));
+      from = λ z. here .from (line-from k names defined g gs up own rest z, later .from (rest-from k names defined g gs up own rest z));
+    }

@@ -5,3 +5,4 @@ pub mod Shapes
 pub mod Listed
 pub mod Defined
 pub mod Gates
+pub mod Misplaced

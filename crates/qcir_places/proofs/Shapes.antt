@@ -80,32 +80,36 @@ any-inputs-entries g (l ∷ ls) = inputs-entries l ls
 
 -- The tokens of a gate line: its definition, its list and its inputs.
 pub record GateShape (g : Gate) : Type 0 where
-  pub head : Token
+  pub role : ℕ
   pub bound : List Token
   pub inputs : List Token
-  pub named : head .name ≡ gateName g
-  pub no-entry : isEntry (head .role) ≡ false
-  pub definition : isDefinition (head .role) ≡ true
-  pub no-empty : eqb (head .role) emptyRole ≡ false
-  pub shape : gateTokens g ≡ head ∷ (bound ++ inputs)
+  pub no-entry : isEntry role ≡ false
+  pub definition : isDefinition role ≡ true
+  pub no-empty : eqb role emptyRole ≡ false
+  pub shape : gateTokens g ≡ record { role = role; name = gateName g } ∷ (bound ++ inputs)
   pub variables : Entries EntryRole bound (gateVariables g)
   pub uses : Entries InputRole inputs (namesOf (gateInputs g))
 
 pub gate-shape : (g : Gate) → GateShape g
 unfolding gateTokens gateName gateVariables gateInputs token junctionRole quantifierRole isEntry isOuter isBound isDefinition
 gate-shape (junction-gate conjunction g ls) =
-    record { head = record { role = 13; name = g }; bound = []; inputs = anyInputsTokens g ls; named = refl; no-entry = refl; definition = refl; no-empty = refl; shape = refl; variables = nothing; uses = any-inputs-entries g ls }
+    record { role = 13; bound = []; inputs = anyInputsTokens g ls; no-entry = refl; definition = refl; no-empty = refl; shape = refl; variables = nothing; uses = any-inputs-entries g ls }
 gate-shape (junction-gate disjunction g ls) =
-    record { head = record { role = 14; name = g }; bound = []; inputs = anyInputsTokens g ls; named = refl; no-entry = refl; definition = refl; no-empty = refl; shape = refl; variables = nothing; uses = any-inputs-entries g ls }
+    record { role = 14; bound = []; inputs = anyInputsTokens g ls; no-entry = refl; definition = refl; no-empty = refl; shape = refl; variables = nothing; uses = any-inputs-entries g ls }
 gate-shape (xor-gate g l r) =
-    record { head = record { role = 15; name = g }; bound = []; inputs = inputsTokens l (r ∷ []); named = refl; no-entry = refl; definition = refl; no-empty = refl; shape = refl; variables = nothing; uses = inputs-entries l (r ∷ []) }
+    record { role = 15; bound = []; inputs = inputsTokens l (r ∷ []); no-entry = refl; definition = refl; no-empty = refl; shape = refl; variables = nothing; uses = inputs-entries l (r ∷ []) }
 gate-shape (quantified-gate exists g x xs l) =
-    record { head = record { role = 16; name = g }; bound = listTokens boundRole boundRole x xs; inputs = inputsTokens l []; named = refl; no-entry = refl; definition = refl; no-empty = refl; shape = refl; variables = list-entries boundRole boundRole bound-role bound-role x xs; uses = inputs-entries l [] }
+    record { role = 16; bound = listTokens boundRole boundRole x xs; inputs = inputsTokens l []; no-entry = refl; definition = refl; no-empty = refl; shape = refl; variables = list-entries boundRole boundRole bound-role bound-role x xs; uses = inputs-entries l [] }
 gate-shape (quantified-gate for-all g x xs l) =
-    record { head = record { role = 17; name = g }; bound = listTokens boundRole boundRole x xs; inputs = inputsTokens l []; named = refl; no-entry = refl; definition = refl; no-empty = refl; shape = refl; variables = list-entries boundRole boundRole bound-role bound-role x xs; uses = inputs-entries l [] }
+    record { role = 17; bound = listTokens boundRole boundRole x xs; inputs = inputsTokens l []; no-entry = refl; definition = refl; no-empty = refl; shape = refl; variables = list-entries boundRole boundRole bound-role bound-role x xs; uses = inputs-entries l [] }
 
-pub gates-shape : (g : Gate) (gs : List Gate) → let s = gate-shape g in gatesTokens (g ∷ gs) ≡ s .head ∷ (s .bound ++ (s .inputs ++ gatesTokens gs))
+-- The definition of a gate line.
+abbrev pub gateHead : Gate → Token
+gateHead g = record { role = gate-shape g .role; name = gateName g }
+
+pub gates-shape : (g : Gate) (gs : List Gate)
+    → gatesTokens (g ∷ gs) ≡ gateHead g ∷ (gate-shape g .bound ++ (gate-shape g .inputs ++ gatesTokens gs))
 unfolding gatesTokens
 gates-shape g gs =
     let s = gate-shape g in
-    ap (λ (l : List Token). l ++ gatesTokens gs) (s .shape) ∙ ap (λ (l : List Token). s .head ∷ l) (append-assoc (s .bound) (s .inputs) (gatesTokens gs))
+    ap (λ (l : List Token). l ++ gatesTokens gs) (s .shape) ∙ ap (λ (l : List Token). gateHead g ∷ l) (append-assoc (s .bound) (s .inputs) (gatesTokens gs))
