@@ -1,19 +1,19 @@
 -- What the first definitions of a file say at a token: which numbers are defined before it, and which from it on.
 -- Assumes nothing.
-use mathlib.Core.Path.{_≡_, refl, sym, _∙_, ap, subst}
-use mathlib.Core.Bool.{Bool, true, false, not, _&&_, _||_, and-true}
+use mathlib.Core.Path.{_≡_, refl, sym, _∙_, ap}
+use mathlib.Core.Bool.{true, false, not, _&&_, and-true}
 use mathlib.Core.List.{List, [], _∷_, _++_}
-use Prim.Native.Nat.{ℕ, zero, suc, _≤_, _<_}
+use Prim.Native.Nat.{ℕ, suc, _≤_, _<_}
 use native.Mathlib.Omega.{arith}
 use lib.Dec.{eqb, leb}
 use borrow.Author.Tests.{eqb-true, eqb-false, eq-eqb, ne-eqb, leb-true, le-leb, lt-leb}
-use Rattle.lists.specs.Choice.{pick, pick-yes, pick-no, Is, is-true, is-false, look, clash, or-left, or-right, or-cases, or-neither, or-neither-left, or-neither-right, and-both, and-off-left, and-off-right}
+use Rattle.lists.specs.Choice.{pick-yes, pick-no, Is, is-true, is-false, look, clash, or-left, or-cases, or-neither-left, or-neither-right, and-both, and-off-left, and-off-right}
 use Rattle.lists.specs.Members.{mem}
 use Rattle.lists.proofs.Members.{mem-nil}
 use Rattle.qcir.specs.File.{Name, Gate, gateName, numbersOf}
 use Rattle.qcir.specs.Refusals.{gateNames}
 use Rattle.qcir_tokens.specs.Tokens.{Token, isDefinition, definitionFrom, gatesTokens}
-use Rattle.qcir_places.proofs.Entries.{EntryRole, InputRole, Entries, past, past-le, entries-define, entry-defines, input-defines}
+use Rattle.qcir_places.proofs.Entries.{Entries, past, past-le, entries-define, entry-defines, input-defines}
 use Rattle.qcir_places.proofs.Shapes.{gate-shape, gateHead, gates-shape}
 
 -- at a definition
@@ -77,9 +77,9 @@ module _ (gates : ℕ → ℕ) (i : ℕ) (defined : List ℕ) where
   known-past {P} {ts} {xs} rest f e known =
       record {
         old = λ y m.
-          let o = known .old y m in
-          let l : gates y ≤ i = o .1 in
-          let p : i ≤ past ts i = past-le ts i in (o .0, omega arith);
+            let o = known .old y m in
+            let l : gates y ≤ i = o .1 in
+            let p : i ≤ past ts i = past-le ts i in (o .0, omega arith);
         new = λ y m. known .new y m ∙ entries-define rest f i e y;
       }
 

@@ -1,12 +1,12 @@
 -- Tokens of a list of names: what the pass finds among them, and what it has marked after them.
 -- Assumes nothing.
 use mathlib.Core.Path.{_≡_, refl, sym, _∙_, ap, subst}
-use mathlib.Core.Bool.{Bool, true, false, not, _&&_, _||_}
+use mathlib.Core.Bool.{true, false, not, _&&_, _||_}
 use mathlib.Core.List.{List, [], _∷_, _++_}
-use Prim.Native.Nat.{ℕ, zero, suc, _≤_, _<_}
+use Prim.Native.Nat.{ℕ, suc, _≤_, _<_}
 use native.Mathlib.Omega.{arith}
 use lib.Dec.{eqb, leb}
-use borrow.Author.Tests.{eqb-true, eqb-false, eq-eqb, ne-eqb, leb-true, not-true}
+use borrow.Author.Tests.{eq-eqb, leb-true, not-true}
 use Rattle.lists.specs.Choice.{pick, pick-yes, pick-no, Is, is-true, is-false, look, clash, or-left, or-right, or-cases, and-left, and-right, and-both, and-off-left}
 use Rattle.lists.specs.Members.{mem}
 use Rattle.qcir.specs.File.{Name}
@@ -14,7 +14,7 @@ use Rattle.qcir.specs.Refusals.{repeated, namingGates, without}
 use Rattle.qcir_tokens.specs.Tokens.{Token, token, emptyRole, isOuter, isBound, isDefinition, isInput, definitionFrom, ascending}
 use Rattle.qcir_places.specs.Faults.{isEntry, mark, faults}
 use Rattle.qcir_places.proofs.Above.{Iff, Above, none, above-pick, above-step}
-use Rattle.qcir_places.proofs.Turn.{entry-defines-none, faults-entry, faults-definition, faults-other, faults-passed}
+use Rattle.qcir_places.proofs.Turn.{entry-defines-none, faults-entry, faults-other, faults-passed}
 
 -- The roles of entries and of inputs.
 pub record EntryRole (r : ℕ) : Type 0 where
@@ -99,7 +99,7 @@ module _ (k : ℕ) (named defined : List ℕ) (x : Name) (xs : List Name) where
           }
       go (is-false h) =
           let s : Iff (Above k (namingGates named (without defined (x ∷ xs)))) ((mem (x .number) named ≡ true → k ≤ x .position) × Above k (namingGates named (without defined xs))) =
-              above-step k (x .position) (mem (x .number) named) (namingGates named (without defined (x ∷ xs))) (namingGates named (without defined xs)) (without-new h) in
+          above-step k (x .position) (mem (x .number) named) (namingGates named (without defined (x ∷ xs))) (namingGates named (without defined xs)) (without-new h) in
           record {
             to = λ a. let q = s .to a in (λ f. q .0 (and-left (mem (x .number) named) (not (mem (x .number) defined)) f), q .1);
             from = λ q. s .from (λ m. q .0 (and-both (mem (x .number) named) (not (mem (x .number) defined)) m (ap not h)), q .1);
@@ -121,23 +121,23 @@ module _ (k : ℕ) (gates : ℕ → ℕ) (line : ℕ) (rest : List Token) where
         let b = eqb (lists x) (suc line) in
         let d = not (eqb (gates x) 0) && leb (gates x) line in
         let here : Iff (Above k (faults gates lists line i (t ∷ (ts ++ rest)))) (((b || d) ≡ true → k ≤ at) × Above k (faults gates next line (suc i) (ts ++ rest))) =
-            above-step k at (b || d) (faults gates lists line i (t ∷ (ts ++ rest))) (faults gates next line (suc i) (ts ++ rest)) (faults-entry gates lists line i t (ts ++ rest) (p .entry)) in
+        above-step k at (b || d) (faults gates lists line i (t ∷ (ts ++ rest))) (faults gates next line (suc i) (ts ++ rest)) (faults-entry gates lists line i t (ts ++ rest) (p .entry)) in
         let later : Iff (Above k (faults gates next line (suc i) (ts ++ rest)))
-            (Above k (repeated (x ∷ before) xs) × Above k (namingGates defined xs) × Above k (faults gates (marked (suc line) xs next) line (past ts (suc i)) rest)) =
-            entries-found (suc i) next (x ∷ before) e (mark-own x (suc line) lists before own) in
+        (Above k (repeated (x ∷ before) xs) × Above k (namingGates defined xs) × Above k (faults gates (marked (suc line) xs next) line (past ts (suc i)) rest)) =
+        entries-found (suc i) next (x ∷ before) e (mark-own x (suc line) lists before own) in
         let twice : Iff (Above k (repeated before (t .name ∷ xs))) ((mem x before ≡ true → k ≤ at) × Above k (repeated (x ∷ before) xs)) =
-            above-pick k at (mem x before) (repeated (x ∷ before) xs) in
+        above-pick k at (mem x before) (repeated (x ∷ before) xs) in
         let gate : Iff (Above k (namingGates defined (t .name ∷ xs))) ((mem x defined ≡ true → k ≤ at) × Above k (namingGates defined xs)) =
-            above-pick k at (mem x defined) (namingGates defined xs) in
+        above-pick k at (mem x defined) (namingGates defined xs) in
         record {
           to = λ a.
-            let h = here .to a in
-            let l = later .to (h .1) in
-            (twice .from (λ m. h .0 (or-left b d (own x ∙ m)), l .0), gate .from (λ m. h .0 (or-right b d (known x ∙ m)), l .1), l .2);
+              let h = here .to a in
+              let l = later .to (h .1) in
+              (twice .from (λ m. h .0 (or-left b d (own x ∙ m)), l .0), gate .from (λ m. h .0 (or-right b d (known x ∙ m)), l .1), l .2);
           from = λ q.
-            let u = twice .to (q .0) in
-            let g = gate .to (q .1) in
-            here .from (λ m. or-cases b d m (λ z. u .0 (sym (own x) ∙ z)) (λ z. g .0 (sym (known x) ∙ z)), later .from (u .1, g .1, q .2));
+              let u = twice .to (q .0) in
+              let g = gate .to (q .1) in
+              here .from (λ m. or-cases b d m (λ z. u .0 (sym (own x) ∙ z)) (λ z. g .0 (sym (known x) ∙ z)), later .from (u .1, g .1, q .2));
         }
     entries-found i lists before (passed x {ts} {xs} e) own =
         let later = entries-found (suc i) lists before e own in
@@ -157,18 +157,18 @@ module _ (k : ℕ) (gates : ℕ → ℕ) (line : ℕ) (rest : List Token) where
         let c = isInput (t .role) in
         let d = leb line (gates x) in
         let here : Iff (Above k (faults gates lists line i (t ∷ (ts ++ rest)))) (((c && d) ≡ true → k ≤ at) × Above k (faults gates lists line (suc i) (ts ++ rest))) =
-            above-step k at (c && d) (faults gates lists line i (t ∷ (ts ++ rest))) (faults gates lists line (suc i) (ts ++ rest)) (faults-other gates lists line i t (ts ++ rest) (p .no-entry) (p .no-definition)) in
+        above-step k at (c && d) (faults gates lists line i (t ∷ (ts ++ rest))) (faults gates lists line (suc i) (ts ++ rest)) (faults-other gates lists line i t (ts ++ rest) (p .no-entry) (p .no-definition)) in
         let later : Iff (Above k (faults gates lists line (suc i) (ts ++ rest))) (Above k (namingGates named (without defined xs)) × Above k (faults gates lists line (past ts (suc i)) rest)) =
-            inputs-found (suc i) lists e in
+        inputs-found (suc i) lists e in
         let named-here = naming-without k named defined (t .name) xs in
         record {
           to = λ a.
-            let h = here .to a in
-            let l = later .to (h .1) in
-            (named-here .from (λ m. h .0 (and-both c d (p .input) (early x ∙ m)), l .0), l .1);
+              let h = here .to a in
+              let l = later .to (h .1) in
+              (named-here .from (λ m. h .0 (and-both c d (p .input) (early x ∙ m)), l .0), l .1);
           from = λ q.
-            let u = named-here .to (q .0) in
-            here .from (λ m. u .0 (sym (early x) ∙ and-right c d m), later .from (u .1, q .1));
+              let u = named-here .to (q .0) in
+              here .from (λ m. u .0 (sym (early x) ∙ and-right c d m), later .from (u .1, q .1));
         }
     inputs-found i lists (passed x {ts} {xs} e) =
         let later = inputs-found (suc i) lists e in
@@ -201,7 +201,7 @@ pub ascending-one : (p : ℕ) (t : Token) (ts : List Token) → eqb (t .role) em
 unfolding ascending
 ascending-one p t ts h a =
     let b : (leb p (t .name .position) && ascending (suc (t .name .position)) ts) ≡ true =
-        sym (pick-no (eqb (t .role) emptyRole) (ascending p ts) (leb p (t .name .position) && ascending (suc (t .name .position)) ts) h) ∙ a in
+    sym (pick-no (eqb (t .role) emptyRole) (ascending p ts) (leb p (t .name .position) && ascending (suc (t .name .position)) ts) h) ∙ a in
     (leb-true p (t .name .position) (and-left (leb p (t .name .position)) (ascending (suc (t .name .position)) ts) b), and-right (leb p (t .name .position)) (ascending (suc (t .name .position)) ts) b)
 
 pub ascending-passed : (p : ℕ) (t : Token) (ts : List Token) → eqb (t .role) emptyRole ≡ true → ascending p (t ∷ ts) ≡ true → ascending p ts ≡ true

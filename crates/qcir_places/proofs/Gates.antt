@@ -1,9 +1,9 @@
 -- What the pass finds among the gate lines.
 -- Assumes nothing.
 use mathlib.Core.Path.{_≡_, refl, sym, _∙_, ap, subst}
-use mathlib.Core.Bool.{Bool, true, false, not, _&&_, _||_, or-false}
+use mathlib.Core.Bool.{Bool, true, not, _||_, or-false}
 use mathlib.Core.List.{List, [], _∷_, _++_, append-assoc}
-use Prim.Native.Nat.{ℕ, zero, suc, _≤_, _<_}
+use Prim.Native.Nat.{ℕ, suc, _≤_, _<_}
 use native.Mathlib.Omega.{arith}
 use lib.Dec.{eqb, leb}
 use borrow.Author.Tests.{ne-eqb}
@@ -16,7 +16,7 @@ use Rattle.qcir_tokens.specs.Tokens.{Token, ascending, gatesTokens}
 use Rattle.qcir_places.specs.Faults.{mark, faults}
 use Rattle.qcir_places.proofs.Turn.{faults-definition}
 use Rattle.qcir_places.proofs.Above.{Iff, Above, none, above-left, above-right, above-both, above-pick, above-step}
-use Rattle.qcir_places.proofs.Entries.{EntryRole, InputRole, entry-defines, input-defines, past, past-le, marked, entries-found, inputs-found, Each, no-names, a-name, each-map, each-append, Ascent, ascending-one, entries-ascend}
+use Rattle.qcir_places.proofs.Entries.{entry-defines, input-defines, past, past-le, marked, entries-found, inputs-found, Each, no-names, each-map, each-append, Ascent, ascending-one, entries-ascend}
 use Rattle.qcir_places.proofs.Shapes.{gate-shape, gateHead, gates-shape}
 use Rattle.qcir_places.proofs.Listed.{later-append, naming-append, later-before, later-after}
 use Rattle.qcir_places.proofs.Defined.{Known, known-test, known-past, known-gate, known-next, known-early}
@@ -35,9 +35,9 @@ line-ascends p g gs a =
     let h = ascending-one p (gateHead g) (s .bound ++ (s .inputs ++ gatesTokens gs)) (s .no-empty) (subst (λ ts. ascending p ts ≡ true) (gates-shape g gs) a) in
     let l : p ≤ gateName g .position = h .0 in
     let u : Ascent (suc (gateName g .position)) (gateVariables g) (s .inputs ++ gatesTokens gs) =
-        entries-ascend (s .inputs ++ gatesTokens gs) (λ r q. q .no-empty) (suc (gateName g .position)) (s .variables) (h .1) in
+    entries-ascend (s .inputs ++ gatesTokens gs) (λ r q. q .no-empty) (suc (gateName g .position)) (s .variables) (h .1) in
     let v : Ascent (u .end) (namesOf (gateInputs g)) (gatesTokens gs) =
-        entries-ascend (gatesTokens gs) (λ r q. q .no-empty) (u .end) (s .uses) (u .onward) in
+    entries-ascend (gatesTokens gs) (λ r q. q .no-empty) (u .end) (s .uses) (u .onward) in
     let o : suc (gateName g .position) ≤ u .end = u .order in
     let w : u .end ≤ v .end = v .order in
     record {
@@ -137,10 +137,10 @@ module _ (k : ℕ) (names : List Name) (defined : List ℕ) (g : Gate) (gs : Lis
         twice = above-pick k (x .position) (mem (x .number) defined) (repeated (x .number ∷ defined) (gateNames gs)) .from (λ m. line .own (or-left (mem (x .number) defined) (mem (x .number) (numbersOf names)) m), rest .twice);
         bound = subst (Above k) (sym (naming-append defined vs qs)) (above-both k (namingGates defined vs) (namingGates defined qs) (a .1) (b .1));
         listed =
-          above-both k (laterPlaces x (names ++ (vs ++ qs))) (gatesListed (gateNames gs) (names ++ (vs ++ qs)))
-          (subst (Above k) (sym (later-append x names (vs ++ qs) ∙ ap (λ (l : List ℕ). laterPlaces x names ++ l) (later-append x vs qs)))
-          (above-both k (laterPlaces x names) (laterPlaces x vs ++ laterPlaces x qs) c (above-both k (laterPlaces x vs) (laterPlaces x qs) (a .0) (b .0))))
-          (subst (λ l. Above k (gatesListed (gateNames gs) l)) (append-assoc names vs qs) (rest .listed));
+            above-both k (laterPlaces x (names ++ (vs ++ qs))) (gatesListed (gateNames gs) (names ++ (vs ++ qs)))
+            (subst (Above k) (sym (later-append x names (vs ++ qs) ∙ ap (λ (l : List ℕ). laterPlaces x names ++ l) (later-append x vs qs)))
+            (above-both k (laterPlaces x names) (laterPlaces x vs ++ laterPlaces x qs) c (above-both k (laterPlaces x vs) (laterPlaces x qs) (a .0) (b .0))))
+            (subst (λ l. Above k (gatesListed (gateNames gs) l)) (append-assoc names vs qs) (rest .listed));
         early = above-both k (namingGates (numbersOf (gateNames (g ∷ gs))) (without defined (namesOf (gateInputs g)))) (earlyUses (x .number ∷ defined) gs) (line .early) (rest .early);
         repeats = above-both k (repeated [] vs) (repeatedInGates gs) (line .repeats) (rest .repeats);
       }
@@ -263,13 +263,13 @@ module _ (k : ℕ) (gates lists : ℕ → ℕ) (line i : ℕ) (names : List Name
   line-found =
       record {
         to = λ a.
-          let h = head-found .to (subst (λ ts. Above k (faults gates lists line i ts)) (gates-shape g gs) a) in
-          let l = list-found .to (h .1) in
-          let u = uses-found .to (l .2) in
-          (record { own = λ m. h .0 (own-test ∙ m); repeats = l .0; bound = l .1; early = u .0 }, u .1);
+            let h = head-found .to (subst (λ ts. Above k (faults gates lists line i ts)) (gates-shape g gs) a) in
+            let l = list-found .to (h .1) in
+            let u = uses-found .to (l .2) in
+            (record { own = λ m. h .0 (own-test ∙ m); repeats = l .0; bound = l .1; early = u .0 }, u .1);
         from = λ q.
-          subst (λ ts. Above k (faults gates lists line i ts)) (sym (gates-shape g gs))
-          (head-found .from (λ m. q .0 .own (sym own-test ∙ m), list-found .from (q .0 .repeats, q .0 .bound, uses-found .from (q .0 .early, q .1))));
+            subst (λ ts. Above k (faults gates lists line i ts)) (sym (gates-shape g gs))
+            (head-found .from (λ m. q .0 .own (sym own-test ∙ m), list-found .from (q .0 .repeats, q .0 .bound, uses-found .from (q .0 .early, q .1))));
       }
 
 nothing-clear : (k : ℕ) (names : List Name) (defined : List ℕ) → Clear k names defined []
@@ -292,9 +292,9 @@ gates-found k gates (g ∷ gs) lists line i names defined p marks known before a
     let o : gateName g .position < l .end = l .order in
     let here = line-found k gates lists line i names defined g gs marks known in
     let later =
-        gates-found k gates gs (marks-after k gates lists line i names defined g gs marks known) (suc i) (index-after k gates lists line i names defined g gs marks known) (names ++ gateVariables g) (gateName g .number ∷ defined) (l .end)
-        (marked-after k gates lists line i names defined g gs marks known) (known-after k gates lists line i names defined g gs marks known)
-        (each-append (each-map (λ y b. let b0 : y .position < p = b in omega arith) before) (each-map (λ y b. b .1) (l .between))) (l .onward) in
+    gates-found k gates gs (marks-after k gates lists line i names defined g gs marks known) (suc i) (index-after k gates lists line i names defined g gs marks known) (names ++ gateVariables g) (gateName g .number ∷ defined) (l .end)
+    (marked-after k gates lists line i names defined g gs marks known) (known-after k gates lists line i names defined g gs marks known)
+    (each-append (each-map (λ y b. let b0 : y .position < p = b in omega arith) before) (each-map (λ y b. b .1) (l .between))) (l .onward) in
     let up : Each (λ y. y .position ≤ gateName g .position) names = each-map (λ y b. let b0 : y .position < p = b in omega arith) before in
     let own : Each (λ y. gateName g .position ≤ y .position) (gateVariables g) = each-map (λ y b. let b0 : gateName g .position < y .position = b .0 in omega arith) (l .between) in
     let rest : Each (λ y. gateName g .position ≤ y .position) (quantifiedNames gs) = each-map (λ y b. let b0 : l .end ≤ y .position = b in omega arith) (quantified-after (l .end) gs (l .onward)) in

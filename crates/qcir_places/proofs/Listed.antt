@@ -1,7 +1,7 @@
 -- Laws of the places of gates' names in lists.
 -- Assumes nothing.
 use mathlib.Core.Path.{_≡_, refl, sym, _∙_, ap}
-use mathlib.Core.Bool.{Bool, true, false, _||_}
+use mathlib.Core.Bool.{true, _||_}
 use mathlib.Core.List.{List, [], _∷_, _++_, append-assoc}
 use Prim.Native.Nat.{ℕ, _≤_, max}
 use native.Mathlib.Omega.{arith}
@@ -63,11 +63,11 @@ module _ (k : ℕ) (x : Name) where
       let later = later-after gates e in
       record {
         to = λ a.
-          let s = all .to a in
-          let r = later .to (s .1) in
-          (here .from (λ z. let w : k ≤ y .position = s .0 (or-left b m (turned (x .number) (y .number) z)) in omega arith, r .0), other .from (λ z. s .0 (or-right b m z), r .1));
+            let s = all .to a in
+            let r = later .to (s .1) in
+            (here .from (λ z. let w : k ≤ y .position = s .0 (or-left b m (turned (x .number) (y .number) z)) in omega arith, r .0), other .from (λ z. s .0 (or-right b m z), r .1));
         from = λ q.
-          let u = here .to (q .0) in
-          let v = other .to (q .1) in
-          all .from (λ z. or-cases b m z (λ w. let o : k ≤ max (x .position) (y .position) = u .0 (turned (y .number) (x .number) w) in omega arith) (v .0), later .from (u .1, v .1));
+            let u = here .to (q .0) in
+            let v = other .to (q .1) in
+            all .from (λ z. or-cases b m z (λ w. let o : k ≤ max (x .position) (y .position) = u .0 (turned (y .number) (x .number) w) in omega arith) (v .0), later .from (u .1, v .1));
       }

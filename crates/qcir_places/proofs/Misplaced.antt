@@ -1,14 +1,14 @@
 -- The pass finds refusal 11's places: its first is the lowest of them.
 -- Assumes nothing.
 use mathlib.Core.Path.{_≡_, refl, sym, _∙_, ap, subst, fun-ext}
-use mathlib.Core.Bool.{Bool, true, false, not, _&&_}
+use mathlib.Core.Bool.{Bool, true, false}
 use mathlib.Core.List.{List, [], _∷_, _++_, append-assoc}
-use Prim.Native.Nat.{ℕ, zero, suc, _≤_, _<_}
+use Prim.Native.Nat.{ℕ, suc, _≤_, _<_}
 use native.Mathlib.Omega.{arith}
-use lib.Dec.{eqb, leb}
+use lib.Dec.{eqb}
 use lib.ListN.{getD}
 use borrow.Author.Tests.{eqb-true}
-use Rattle.lists.specs.Choice.{pick, pick-no, Is, is-true, is-false, look}
+use Rattle.lists.specs.Choice.{pick-no, Is, is-true, is-false, look}
 use Rattle.lists.specs.Members.{mem}
 use Rattle.lists.proofs.Members.{mem-nil}
 use Rattle.qcir.specs.File.{Name, Literal, File, numbersOf}
@@ -18,7 +18,7 @@ use Rattle.qcir_tokens.specs.Held.{Definitions, foundOf}
 use Rattle.qcir_places.specs.Faults.{isEntry, fault, listsAfter, lineAfter, faults, firstOf}
 use Rattle.qcir_places.proofs.Turn.{faults-here, faults-later, faults-passed}
 use Rattle.qcir_places.proofs.Above.{Iff, Above, none, above-left, above-right, above-both, above-pick, above-lower, found-same, first-none, first-some}
-use Rattle.qcir_places.proofs.Entries.{entry-defines, past, marked, entries-found, Each, each-map, Ascent, ascending-one, ascending-passed, entries-ascend, entries-define, defines-none}
+use Rattle.qcir_places.proofs.Entries.{entry-defines, past, marked, entries-found, each-map, Ascent, ascending-one, ascending-passed, entries-ascend, entries-define, defines-none}
 use Rattle.qcir_places.proofs.Shapes.{outer-entries}
 use Rattle.qcir_places.proofs.Defined.{Known, known-start, known-test}
 use Rattle.qcir_places.proofs.Gates.{Marks, marks-next, Clear, gates-found}
@@ -161,16 +161,16 @@ module _ (k : ℕ) (gates : ℕ → ℕ) (f : File) (defined : (x : ℕ) → gat
       let e = repeatedInGates gs in
       record {
         to = λ z.
-          let o = outer-found .to (subst (λ ts. Above k (faults gates (λ x. 0) 0 0 ts)) (file-shape f) z) in
-          let l = lines-found .to (subst (Above k) output-passed (o .2)) in
-          above-both k a (b ++ (c ++ (d ++ e))) (l .twice) (above-both k b (c ++ (d ++ e)) (l .listed) (above-both k c (d ++ e) (l .early) (above-both k d e (o .0) (l .repeats))));
+            let o = outer-found .to (subst (λ ts. Above k (faults gates (λ x. 0) 0 0 ts)) (file-shape f) z) in
+            let l = lines-found .to (subst (Above k) output-passed (o .2)) in
+            above-both k a (b ++ (c ++ (d ++ e))) (l .twice) (above-both k b (c ++ (d ++ e)) (l .listed) (above-both k c (d ++ e) (l .early) (above-both k d e (o .0) (l .repeats))));
         from = λ z.
-          let z1 = above-right k a (b ++ (c ++ (d ++ e))) z in
-          let z2 = above-right k b (c ++ (d ++ e)) z1 in
-          let z3 = above-right k c (d ++ e) z2 in
-          let l : Clear k (outerNames f) [] gs = record { twice = above-left k a (b ++ (c ++ (d ++ e))) z; bound = naming-none k (quantifiedNames gs); listed = above-left k b (c ++ (d ++ e)) z1; early = above-left k c (d ++ e) z2; repeats = above-right k d e z3 } in
-          subst (λ ts. Above k (faults gates (λ x. 0) 0 0 ts)) (sym (file-shape f))
-          (outer-found .from (above-left k d e z3, naming-none k (outerNames f), subst (Above k) (sym output-passed) (lines-found .from l)));
+            let z1 = above-right k a (b ++ (c ++ (d ++ e))) z in
+            let z2 = above-right k b (c ++ (d ++ e)) z1 in
+            let z3 = above-right k c (d ++ e) z2 in
+            let l : Clear k (outerNames f) [] gs = record { twice = above-left k a (b ++ (c ++ (d ++ e))) z; bound = naming-none k (quantifiedNames gs); listed = above-left k b (c ++ (d ++ e)) z1; early = above-left k c (d ++ e) z2; repeats = above-right k d e z3 } in
+            subst (λ ts. Above k (faults gates (λ x. 0) 0 0 ts)) (sym (file-shape f))
+            (outer-found .from (above-left k d e z3, naming-none k (outerNames f), subst (Above k) (sym output-passed) (lines-found .from l)));
       }
 
 -- What the pass finds in a file's tokens, from arrays.

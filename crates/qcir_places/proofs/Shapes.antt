@@ -1,14 +1,14 @@
 -- The tokens of a file's parts as tokens of lists of names.
 -- Assumes nothing.
-use mathlib.Core.Path.{_≡_, refl, sym, _∙_, ap}
+use mathlib.Core.Path.{_≡_, refl, _∙_, ap}
 use mathlib.Core.Bool.{Bool, true, false}
 use mathlib.Core.List.{List, [], _∷_, _++_, append-assoc}
 use Prim.Native.Nat.{ℕ}
 use lib.Dec.{eqb}
 use Rattle.formula.specs.Node.{Quantifier, exists, for-all}
-use Rattle.qcir.specs.File.{Name, Literal, Junction, conjunction, disjunction, Gate, junction-gate, xor-gate, quantified-gate, gateName, gateVariables, gateInputs, Line, lineVariables, prefixVariables, File, namesOf}
+use Rattle.qcir.specs.File.{Name, Literal, conjunction, disjunction, Gate, junction-gate, xor-gate, quantified-gate, gateName, gateVariables, gateInputs, Line, lineVariables, prefixVariables, File, namesOf}
 use Rattle.qcir.specs.Refusals.{outerNames}
-use Rattle.qcir_tokens.specs.Tokens.{Token, token, freeRole, lineRole, laterRole, junctionRole, xorRole, quantifierRole, boundRole, inputRole, emptyRole, isOuter, isBound, isDefinition, isInput, listTokens, freeTokens, prefixTokens, inputsTokens, anyInputsTokens, gateTokens, gatesTokens}
+use Rattle.qcir_tokens.specs.Tokens.{Token, token, freeRole, lineRole, laterRole, junctionRole, quantifierRole, boundRole, inputRole, emptyRole, isOuter, isBound, isDefinition, isInput, listTokens, freeTokens, prefixTokens, inputsTokens, anyInputsTokens, gateTokens, gatesTokens}
 use Rattle.qcir_places.specs.Faults.{isEntry}
 use Rattle.qcir_places.proofs.Entries.{EntryRole, InputRole, Entries, nothing, one, passed, entries-append}
 

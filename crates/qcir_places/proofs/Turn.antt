@@ -1,9 +1,9 @@
 -- Laws of the pass over the tokens: the fault of one token by its role, and one turn.
 -- Assumes nothing.
-use mathlib.Core.Path.{_≡_, refl, sym, _∙_, ap, fun-ext}
-use mathlib.Core.Bool.{Bool, true, false, not, _&&_, _||_}
+use mathlib.Core.Path.{_≡_, sym, _∙_, ap, fun-ext}
+use mathlib.Core.Bool.{true, false, not, _&&_, _||_}
 use mathlib.Core.List.{List, [], _∷_, _++_}
-use Prim.Native.Nat.{ℕ, zero, suc, _+_, _-_, _≤_, _<_}
+use Prim.Native.Nat.{ℕ, suc, _+_, _-_, _≤_, _<_}
 use native.Mathlib.Numerals.{add-one}
 use native.Mathlib.Omega.{arith}
 use lib.Dec.{eqb, leb}
@@ -12,7 +12,6 @@ use borrow.Author.Tests.{leb-true, lt-leb, eqb-true}
 use Rattle.lists.specs.Choice.{pick, pick-yes, pick-no, Is, is-true, is-false, look, or-cases, and-off-left, and-off-right}
 use Rattle.lists.proofs.Stores.{getD-set}
 use Rattle.qcir_tokens.specs.Tokens.{Token, isOuter, isBound, isDefinition, isInput}
-use Rattle.qcir_tokens.specs.declared.Found.{Found}
 use Rattle.qcir_tokens.specs.Held.{tokenAt, tokensFrom}
 use Rattle.qcir_places.specs.Faults.{isEntry, fault, mark, listsAfter, lineAfter, faults, firstOf}
 

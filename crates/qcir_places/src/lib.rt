@@ -1,7 +1,7 @@
 // Refusal 11: finds the first name of a QCIR file that stands where it must not.
 ghost use mathlib.Core.Bool.{true};
 ghost use mathlib.Core.Path.{_≡_};
-ghost use Prim.Native.Nat.{ℕ, suc, _<_, _≤_};
+ghost use Prim.Native.Nat.{ℕ, _<_, _≤_};
 ghost use lib.ListN.{length, getD};
 ghost use Rattle.qcir.specs.File.{File};
 ghost use Rattle.qcir.specs.Refusals.{misplaced};

@@ -1,13 +1,12 @@
 -- `qcir_places::first_fault` meets its contract. The invariant: no token passed is at fault, and the pass over all tokens goes on from here.
 -- Assumes nothing.
-use mathlib.Core.Path.{_≡_, refl, sym, _∙_, ap}
+use mathlib.Core.Path.{_≡_, sym, _∙_, ap}
 use Prim.Native.Nat.{_+_, _-_, _≤_}
-use native.Mathlib.Numerals.{add-one}
 use native.Mathlib.Omega.{arith}
 use lib.ListN.{length, getD}
 use borrow.Author.Needs.{needs}
 use Rattle.qcir_tokens.specs.Held.{numberCount}
-use Rattle.qcir_places.specs.Faults.{lineAfter, firstOf}
+use Rattle.qcir_places.specs.Faults.{firstOf}
 use Rattle.qcir_places.proofs.Turn.{line-below, From, All, from-start, found-here, found-later, found-none}
 use Rattle.qcir_places.proofs.first_fault.Statement.{statement}
 use Rattle.qcir_places.proofs.first_fault.Tie as tie
@@ -87,10 +86,13 @@ loop-again c =
     let a = c .before .before .before .before .before .before .before .before .before .before .before .before .before .before .before .before .before .args in
     let r = c .before .before .pass .ensures .1 in
     let next =
-        found-later (a .gates .now) (a .roles .now) (a .numbers .now) (a .positions .now) (a .count) (turn .loop .lists) (c .before .before .pass .last .0) (turn .loop .line) (turn .loop .i) (c .before .before .before .before .before .before .before .before .before .before .loop-test .taken)
-        (sym (c .before .before .before .before .before .is-fault .ensures) ∙ c .before .before .before .before .if1 .left) (c .before .before .pass .ensures .0) in
-    (omega arith, omega (arith, line-below (getD (a .roles .now) (turn .loop .i) 0) (turn .loop .line) (turn .loop .i) (turn .loop .inv .1)), c .before .before .pass .kept .0 ∙ turn .loop .inv .2,
-    turn .loop .inv .3 ∙ next ∙ ap (λ l. From (a .gates .now) (a .roles .now) (a .numbers .now) (a .positions .now) (a .count) (c .before .before .pass .last .0) l (turn .loop .i + 1)) (sym r))
+    found-later (a .gates .now) (a .roles .now) (a .numbers .now) (a .positions .now) (a .count) (turn .loop .lists) (c .before .before .pass .last .0) (turn .loop .line) (turn .loop .i) (c .before .before .before .before .before .before .before .before .before .before .loop-test .taken)
+    (sym (c .before .before .before .before .before .is-fault .ensures) ∙ c .before .before .before .before .if1 .left) (c .before .before .pass .ensures .0) in (
+      omega arith,
+      omega (arith, line-below (getD (a .roles .now) (turn .loop .i) 0) (turn .loop .line) (turn .loop .i) (turn .loop .inv .1)),
+      c .before .before .pass .kept .0 ∙ turn .loop .inv .2,
+      turn .loop .inv .3 ∙ next ∙ ap (λ l. From (a .gates .now) (a .roles .now) (a .numbers .now) (a .positions .now) (a .count) (c .before .before .pass .last .0) l (turn .loop .i + 1)) (sym r),
+    )
 
 same-length-2 : tie.Need-same-length-2 Inv-loop μ-loop
 same-length-2 c = search needs
