@@ -1,6 +1,7 @@
 -- Lists of numbers none of which is below a bound. Two lists with the same such bounds have the same lowest element.
 -- Assumes nothing.
 use mathlib.Core.Path.{_≡_, refl, sym, _∙_, ap, subst}
+use mathlib.Core.Logic.{_↔_}
 use mathlib.Core.Bool.{Bool, true, false, not}
 use mathlib.Core.List.{List, [], _∷_, _++_}
 use Prim.Native.Nat.{ℕ, suc, _≤_, min}
@@ -13,10 +14,6 @@ use Rattle.qcir.specs.Refusals.{least}
 use Rattle.qcir_tokens.specs.declared.Found.{Found}
 use Rattle.qcir_tokens.specs.Held.{foundOf}
 use Rattle.qcir_places.specs.Faults.{firstOf}
-
-pub record Iff (P Q : Type 0) : Type 0 where
-  pub to : P → Q
-  pub from : Q → P
 
 -- no element is below k
 pub data Above (k : ℕ) : List ℕ → Type 0 where
@@ -42,17 +39,17 @@ above-both k [] ys a b = b
 above-both k (x ∷ xs) ys a b = more (above-head a) (above-both k xs ys (above-tail a) b)
 
 -- an element that stands there by a test, before others
-pub above-pick : (k x : ℕ) (b : Bool) (xs : List ℕ) → Iff (Above k (pick b (x ∷ []) [] ++ xs)) ((b ≡ true → k ≤ x) × Above k xs)
-above-pick k x b xs = record { to = λ a. (λ h. above-head (subst (λ l. Above k (l ++ xs)) (pick-yes b (x ∷ []) [] h) a), above-right k (pick b (x ∷ []) []) xs a); from = λ p. go (look b) (p .0) (p .1) }
+pub above-pick : (k x : ℕ) (b : Bool) (xs : List ℕ) → (Above k (pick b (x ∷ []) [] ++ xs) ↔ ((b ≡ true → k ≤ x) × Above k xs))
+above-pick k x b xs = (λ a. (λ h. above-head (subst (λ l. Above k (l ++ xs)) (pick-yes b (x ∷ []) [] h) a), above-right k (pick b (x ∷ []) []) xs a), λ p. go (look b) (p .0) (p .1))
   where
     go : Is b → (b ≡ true → k ≤ x) → Above k xs → Above k (pick b (x ∷ []) [] ++ xs)
     go (is-true h) f a = subst (λ l. Above k (l ++ xs)) (sym (pick-yes b (x ∷ []) [] h)) (more (f h) a)
     go (is-false h) f a = subst (λ l. Above k (l ++ xs)) (sym (pick-no b (x ∷ []) [] h)) a
 
 -- the same of a list that is so put together
-pub above-step : (k x : ℕ) (b : Bool) (ys xs : List ℕ) → ys ≡ pick b (x ∷ []) [] ++ xs → Iff (Above k ys) ((b ≡ true → k ≤ x) × Above k xs)
+pub above-step : (k x : ℕ) (b : Bool) (ys xs : List ℕ) → ys ≡ pick b (x ∷ []) [] ++ xs → (Above k ys ↔ ((b ≡ true → k ≤ x) × Above k xs))
 above-step k x b ys xs e =
-    record { to = λ a. above-pick k x b xs .to (subst (Above k) e a); from = λ p. subst (Above k) (sym e) (above-pick k x b xs .from p) }
+    (λ a. above-pick k x b xs .0 (subst (Above k) e a), λ p. subst (Above k) (sym e) (above-pick k x b xs .1 p))
 
 -- a bound that is not above k
 pub above-lower : (j k : ℕ) (xs : List ℕ) → j ≤ k → Above k xs → Above j xs
@@ -84,13 +81,13 @@ found-cons x xs =
 bounded : (x : ℕ) (xs : List ℕ) → Above (suc x) (x ∷ xs) → ⊥
 bounded x xs a = let h : suc x ≤ x = above-head a in omega arith
 
-pub found-same : (xs ys : List ℕ) → ((k : ℕ) → Iff (Above k xs) (Above k ys)) → foundOf xs ≡ foundOf ys
+pub found-same : (xs ys : List ℕ) → ((k : ℕ) → (Above k xs ↔ Above k ys)) → foundOf xs ≡ foundOf ys
 found-same [] [] h = refl
-found-same [] (y ∷ ys) h = absurd (bounded y ys (h (suc y) .to none))
-found-same (x ∷ xs) [] h = absurd (bounded x xs (h (suc x) .from none))
+found-same [] (y ∷ ys) h = absurd (bounded y ys (h (suc y) .0 none))
+found-same (x ∷ xs) [] h = absurd (bounded x xs (h (suc x) .1 none))
 found-same (x ∷ xs) (y ∷ ys) h =
-    let a : least (x ∷ xs) ≤ least (y ∷ ys) = least-above (least (x ∷ xs)) y ys (h (least (x ∷ xs)) .to (above-least x xs)) in
-    let b : least (y ∷ ys) ≤ least (x ∷ xs) = least-above (least (y ∷ ys)) x xs (h (least (y ∷ ys)) .from (above-least y ys)) in
+    let a : least (x ∷ xs) ≤ least (y ∷ ys) = least-above (least (x ∷ xs)) y ys (h (least (x ∷ xs)) .0 (above-least x xs)) in
+    let b : least (y ∷ ys) ≤ least (x ∷ xs) = least-above (least (y ∷ ys)) x xs (h (least (y ∷ ys)) .1 (above-least y ys)) in
     let q : least (x ∷ xs) ≡ least (y ∷ ys) = omega arith in
     found-cons x xs ∙ ap {B = Found} (λ (k : ℕ). record { found = true; lowest = k }) q ∙ sym (found-cons y ys)
 

@@ -1,6 +1,7 @@
 -- Tokens of a list of names: what the pass finds among them, and what it has marked after them.
 -- Assumes nothing.
 use mathlib.Core.Path.{_≡_, refl, sym, _∙_, ap, subst}
+use mathlib.Core.Logic.{_↔_}
 use mathlib.Core.Bool.{true, false, not, _&&_, _||_}
 use mathlib.Core.List.{List, [], _∷_, _++_}
 use Prim.Native.Nat.{ℕ, suc, _≤_, _<_}
@@ -13,7 +14,7 @@ use Rattle.qcir.specs.File.{Name}
 use Rattle.qcir.specs.Refusals.{repeated, namingGates, without}
 use Rattle.qcir_tokens.specs.Tokens.{Token, token, emptyRole, isOuter, isBound, isDefinition, isInput, definitionFrom, ascending}
 use Rattle.qcir_places.specs.Faults.{isEntry, mark, faults}
-use Rattle.qcir_places.proofs.Above.{Iff, Above, none, above-pick, above-step}
+use Rattle.qcir_places.proofs.Above.{Above, none, above-pick, above-step}
 use Rattle.qcir_places.proofs.Turn.{entry-defines-none, faults-entry, faults-other, faults-passed}
 
 -- The roles of entries and of inputs.
@@ -86,94 +87,90 @@ module _ (k : ℕ) (named defined : List ℕ) (x : Name) (xs : List Name) where
   unfolding without namingGates
   without-new h = ap (namingGates named) (pick-no (mem (x .number) defined) (without defined xs) (x ∷ without defined xs) h)
 
-  naming-without : Iff (Above k (namingGates named (without defined (x ∷ xs))))
-      (((mem (x .number) named && not (mem (x .number) defined)) ≡ true → k ≤ x .position) × Above k (namingGates named (without defined xs)))
+  naming-without : (Above k (namingGates named (without defined (x ∷ xs)))
+      ↔ (((mem (x .number) named && not (mem (x .number) defined)) ≡ true → k ≤ x .position) × Above k (namingGates named (without defined xs))))
   naming-without = go (look (mem (x .number) defined))
     where
-      go : Is (mem (x .number) defined) → Iff (Above k (namingGates named (without defined (x ∷ xs))))
-          (((mem (x .number) named && not (mem (x .number) defined)) ≡ true → k ≤ x .position) × Above k (namingGates named (without defined xs)))
-      go (is-true h) =
-          record {
-            to = λ a. (λ f. clash h (not-true (mem (x .number) defined) (and-right (mem (x .number) named) (not (mem (x .number) defined)) f)), subst (Above k) (without-before h) a);
-            from = λ q. subst (Above k) (sym (without-before h)) (q .1);
-          }
+      go : Is (mem (x .number) defined) → (Above k (namingGates named (without defined (x ∷ xs)))
+          ↔ (((mem (x .number) named && not (mem (x .number) defined)) ≡ true → k ≤ x .position) × Above k (namingGates named (without defined xs))))
+      go (is-true h) = (
+        λ a. (λ f. clash h (not-true (mem (x .number) defined) (and-right (mem (x .number) named) (not (mem (x .number) defined)) f)), subst (Above k) (without-before h) a),
+        λ q. subst (Above k) (sym (without-before h)) (q .1),
+      )
       go (is-false h) =
-          let s : Iff (Above k (namingGates named (without defined (x ∷ xs)))) ((mem (x .number) named ≡ true → k ≤ x .position) × Above k (namingGates named (without defined xs))) =
-          above-step k (x .position) (mem (x .number) named) (namingGates named (without defined (x ∷ xs))) (namingGates named (without defined xs)) (without-new h) in
-          record {
-            to = λ a. let q = s .to a in (λ f. q .0 (and-left (mem (x .number) named) (not (mem (x .number) defined)) f), q .1);
-            from = λ q. s .from (λ m. q .0 (and-both (mem (x .number) named) (not (mem (x .number) defined)) m (ap not h)), q .1);
-          }
+          let s : (Above k (namingGates named (without defined (x ∷ xs))) ↔ ((mem (x .number) named ≡ true → k ≤ x .position) × Above k (namingGates named (without defined xs)))) =
+          above-step k (x .position) (mem (x .number) named) (namingGates named (without defined (x ∷ xs))) (namingGates named (without defined xs)) (without-new h) in (
+            λ a. let q = s .0 a in (λ f. q .0 (and-left (mem (x .number) named) (not (mem (x .number) defined)) f), q .1),
+            λ q. s .1 (λ m. q .0 (and-both (mem (x .number) named) (not (mem (x .number) defined)) m (ap not h)), q .1),
+          )
 
 module _ (k : ℕ) (gates : ℕ → ℕ) (line : ℕ) (rest : List Token) where
   -- what the pass finds in a list: names that stand in it before, and names of gates defined by then
   module _ (defined : List ℕ) (known : (y : ℕ) → (not (eqb (gates y) 0) && leb (gates y) line) ≡ mem y defined) where
     pub entries-found : {ts : List Token} {xs : List Name} (i : ℕ) (lists : ℕ → ℕ) (before : List ℕ) → Entries EntryRole ts xs
         → ((y : ℕ) → eqb (lists y) (suc line) ≡ mem y before)
-        → Iff (Above k (faults gates lists line i (ts ++ rest)))
-        (Above k (repeated before xs) × Above k (namingGates defined xs) × Above k (faults gates (marked (suc line) xs lists) line (past ts i) rest))
+        → (Above k (faults gates lists line i (ts ++ rest))
+        ↔ (Above k (repeated before xs) × Above k (namingGates defined xs) × Above k (faults gates (marked (suc line) xs lists) line (past ts i) rest)))
     unfolding repeated namingGates marked past
-    entries-found i lists before nothing own = record { to = λ a. (none, none, a); from = λ p. p .2 }
+    entries-found i lists before nothing own = (λ a. (none, none, a), λ p. p .2)
     entries-found i lists before (one t {ts} {xs} p e) own =
         let x = t .name .number in
         let at = t .name .position in
         let next = mark x (suc line) lists in
         let b = eqb (lists x) (suc line) in
         let d = not (eqb (gates x) 0) && leb (gates x) line in
-        let here : Iff (Above k (faults gates lists line i (t ∷ (ts ++ rest)))) (((b || d) ≡ true → k ≤ at) × Above k (faults gates next line (suc i) (ts ++ rest))) =
+        let here : (Above k (faults gates lists line i (t ∷ (ts ++ rest))) ↔ (((b || d) ≡ true → k ≤ at) × Above k (faults gates next line (suc i) (ts ++ rest)))) =
         above-step k at (b || d) (faults gates lists line i (t ∷ (ts ++ rest))) (faults gates next line (suc i) (ts ++ rest)) (faults-entry gates lists line i t (ts ++ rest) (p .entry)) in
-        let later : Iff (Above k (faults gates next line (suc i) (ts ++ rest)))
-        (Above k (repeated (x ∷ before) xs) × Above k (namingGates defined xs) × Above k (faults gates (marked (suc line) xs next) line (past ts (suc i)) rest)) =
+        let later : (Above k (faults gates next line (suc i) (ts ++ rest))
+        ↔ (Above k (repeated (x ∷ before) xs) × Above k (namingGates defined xs) × Above k (faults gates (marked (suc line) xs next) line (past ts (suc i)) rest))) =
         entries-found (suc i) next (x ∷ before) e (mark-own x (suc line) lists before own) in
-        let twice : Iff (Above k (repeated before (t .name ∷ xs))) ((mem x before ≡ true → k ≤ at) × Above k (repeated (x ∷ before) xs)) =
+        let twice : (Above k (repeated before (t .name ∷ xs)) ↔ ((mem x before ≡ true → k ≤ at) × Above k (repeated (x ∷ before) xs))) =
         above-pick k at (mem x before) (repeated (x ∷ before) xs) in
-        let gate : Iff (Above k (namingGates defined (t .name ∷ xs))) ((mem x defined ≡ true → k ≤ at) × Above k (namingGates defined xs)) =
-        above-pick k at (mem x defined) (namingGates defined xs) in
-        record {
-          to = λ a.
-              let h = here .to a in
-              let l = later .to (h .1) in
-              (twice .from (λ m. h .0 (or-left b d (own x ∙ m)), l .0), gate .from (λ m. h .0 (or-right b d (known x ∙ m)), l .1), l .2);
-          from = λ q.
-              let u = twice .to (q .0) in
-              let g = gate .to (q .1) in
-              here .from (λ m. or-cases b d m (λ z. u .0 (sym (own x) ∙ z)) (λ z. g .0 (sym (known x) ∙ z)), later .from (u .1, g .1, q .2));
-        }
+        let gate : (Above k (namingGates defined (t .name ∷ xs)) ↔ ((mem x defined ≡ true → k ≤ at) × Above k (namingGates defined xs))) =
+        above-pick k at (mem x defined) (namingGates defined xs) in (
+          λ a.
+              let h = here .0 a in
+              let l = later .0 (h .1) in
+              (twice .1 (λ m. h .0 (or-left b d (own x ∙ m)), l .0), gate .1 (λ m. h .0 (or-right b d (known x ∙ m)), l .1), l .2),
+          λ q.
+              let u = twice .0 (q .0) in
+              let g = gate .0 (q .1) in
+              here .1 (λ m. or-cases b d m (λ z. u .0 (sym (own x) ∙ z)) (λ z. g .0 (sym (known x) ∙ z)), later .1 (u .1, g .1, q .2)),
+        )
     entries-found i lists before (passed x {ts} {xs} e) own =
         let later = entries-found (suc i) lists before e own in
         let same = passed-by gates lists line i x (ts ++ rest) in
-        record { to = λ a. later .to (subst (Above k) same a); from = λ q. subst (Above k) (sym same) (later .from q) }
+        (λ a. later .0 (subst (Above k) same a), λ q. subst (Above k) (sym same) (later .1 q))
 
   -- what the pass finds among inputs: names of these gates, but of none defined before the line
   module _ (named defined : List ℕ) (early : (y : ℕ) → leb line (gates y) ≡ (mem y named && not (mem y defined))) where
     pub inputs-found : {ts : List Token} {xs : List Name} (i : ℕ) (lists : ℕ → ℕ) → Entries InputRole ts xs
-        → Iff (Above k (faults gates lists line i (ts ++ rest)))
-        (Above k (namingGates named (without defined xs)) × Above k (faults gates lists line (past ts i) rest))
+        → (Above k (faults gates lists line i (ts ++ rest))
+        ↔ (Above k (namingGates named (without defined xs)) × Above k (faults gates lists line (past ts i) rest)))
     unfolding past namingGates without
-    inputs-found i lists nothing = record { to = λ a. (none, a); from = λ q. q .1 }
+    inputs-found i lists nothing = (λ a. (none, a), λ q. q .1)
     inputs-found i lists (one t {ts} {xs} p e) =
         let x = t .name .number in
         let at = t .name .position in
         let c = isInput (t .role) in
         let d = leb line (gates x) in
-        let here : Iff (Above k (faults gates lists line i (t ∷ (ts ++ rest)))) (((c && d) ≡ true → k ≤ at) × Above k (faults gates lists line (suc i) (ts ++ rest))) =
+        let here : (Above k (faults gates lists line i (t ∷ (ts ++ rest))) ↔ (((c && d) ≡ true → k ≤ at) × Above k (faults gates lists line (suc i) (ts ++ rest)))) =
         above-step k at (c && d) (faults gates lists line i (t ∷ (ts ++ rest))) (faults gates lists line (suc i) (ts ++ rest)) (faults-other gates lists line i t (ts ++ rest) (p .no-entry) (p .no-definition)) in
-        let later : Iff (Above k (faults gates lists line (suc i) (ts ++ rest))) (Above k (namingGates named (without defined xs)) × Above k (faults gates lists line (past ts (suc i)) rest)) =
+        let later : (Above k (faults gates lists line (suc i) (ts ++ rest)) ↔ (Above k (namingGates named (without defined xs)) × Above k (faults gates lists line (past ts (suc i)) rest))) =
         inputs-found (suc i) lists e in
-        let named-here = naming-without k named defined (t .name) xs in
-        record {
-          to = λ a.
-              let h = here .to a in
-              let l = later .to (h .1) in
-              (named-here .from (λ m. h .0 (and-both c d (p .input) (early x ∙ m)), l .0), l .1);
-          from = λ q.
-              let u = named-here .to (q .0) in
-              here .from (λ m. u .0 (sym (early x) ∙ and-right c d m), later .from (u .1, q .1));
-        }
+        let named-here = naming-without k named defined (t .name) xs in (
+          λ a.
+              let h = here .0 a in
+              let l = later .0 (h .1) in
+              (named-here .1 (λ m. h .0 (and-both c d (p .input) (early x ∙ m)), l .0), l .1),
+          λ q.
+              let u = named-here .0 (q .0) in
+              here .1 (λ m. u .0 (sym (early x) ∙ and-right c d m), later .1 (u .1, q .1)),
+        )
     inputs-found i lists (passed x {ts} {xs} e) =
         let later = inputs-found (suc i) lists e in
         let same = passed-by gates lists line i x (ts ++ rest) in
-        record { to = λ a. later .to (subst (Above k) same a); from = λ q. subst (Above k) (sym same) (later .from q) }
+        (λ a. later .0 (subst (Above k) same a), λ q. subst (Above k) (sym same) (later .1 q))
 
 -- What holds of each name.
 pub data Each (P : Name → Type 0) : List Name → Type 0 where

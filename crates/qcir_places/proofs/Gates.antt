@@ -1,6 +1,7 @@
 -- What the pass finds among the gate lines.
 -- Assumes nothing.
 use mathlib.Core.Path.{_≡_, refl, sym, _∙_, ap, subst}
+use mathlib.Core.Logic.{_↔_}
 use mathlib.Core.Bool.{Bool, true, not, _||_, or-false}
 use mathlib.Core.List.{List, [], _∷_, _++_, append-assoc}
 use Prim.Native.Nat.{ℕ, suc, _≤_, _<_}
@@ -15,7 +16,7 @@ use Rattle.qcir.specs.Refusals.{gateNames, quantifiedNames, repeated, repeatedI
 use Rattle.qcir_tokens.specs.Tokens.{Token, ascending, gatesTokens}
 use Rattle.qcir_places.specs.Faults.{mark, faults}
 use Rattle.qcir_places.proofs.Turn.{faults-definition}
-use Rattle.qcir_places.proofs.Above.{Iff, Above, none, above-left, above-right, above-both, above-pick, above-step}
+use Rattle.qcir_places.proofs.Above.{Above, none, above-left, above-right, above-both, above-pick, above-step}
 use Rattle.qcir_places.proofs.Entries.{entry-defines, input-defines, past, past-le, marked, entries-found, inputs-found, Each, no-names, each-map, each-append, Ascent, ascending-one, entries-ascend}
 use Rattle.qcir_places.proofs.Shapes.{gate-shape, gateHead, gates-shape}
 use Rattle.qcir_places.proofs.Listed.{later-append, naming-append, later-before, later-after}
@@ -130,11 +131,11 @@ module _ (k : ℕ) (names : List Name) (defined : List ℕ) (g : Gate) (gs : Lis
       let x = gateName g in
       let vs = gateVariables g in
       let qs = quantifiedNames gs in
-      let a = later-after k x defined own-after .to (line .bound) in
-      let b = later-after k x defined later-after-it .to (rest .bound) in
-      let c = later-before k x before .from (λ m. line .own (or-right (mem (x .number) defined) (mem (x .number) (numbersOf names)) m)) in
+      let a = later-after k x defined own-after .0 (line .bound) in
+      let b = later-after k x defined later-after-it .0 (rest .bound) in
+      let c = later-before k x before .1 (λ m. line .own (or-right (mem (x .number) defined) (mem (x .number) (numbersOf names)) m)) in
       record {
-        twice = above-pick k (x .position) (mem (x .number) defined) (repeated (x .number ∷ defined) (gateNames gs)) .from (λ m. line .own (or-left (mem (x .number) defined) (mem (x .number) (numbersOf names)) m), rest .twice);
+        twice = above-pick k (x .position) (mem (x .number) defined) (repeated (x .number ∷ defined) (gateNames gs)) .1 (λ m. line .own (or-left (mem (x .number) defined) (mem (x .number) (numbersOf names)) m), rest .twice);
         bound = subst (Above k) (sym (naming-append defined vs qs)) (above-both k (namingGates defined vs) (namingGates defined qs) (a .1) (b .1));
         listed =
             above-both k (laterPlaces x (names ++ (vs ++ qs))) (gatesListed (gateNames gs) (names ++ (vs ++ qs)))
@@ -178,12 +179,12 @@ module _ (k : ℕ) (names : List Name) (defined : List ℕ) (g : Gate) (gs : Lis
         let x = gateName g in
         let vs = gateVariables g in
         let qs = quantifiedNames gs in
-        let t = above-pick k (x .position) (mem (x .number) defined) (repeated (x .number ∷ defined) (gateNames gs)) .to (all .twice) in
-        let c = later-before k x before .to (above-left k (laterPlaces x names) (laterPlaces x vs ++ laterPlaces x qs) places) in
+        let t = above-pick k (x .position) (mem (x .number) defined) (repeated (x .number ∷ defined) (gateNames gs)) .0 (all .twice) in
+        let c = later-before k x before .0 (above-left k (laterPlaces x names) (laterPlaces x vs ++ laterPlaces x qs) places) in
         record {
           own = λ m. or-cases (mem (x .number) defined) (mem (x .number) (numbersOf names)) m (t .0) c;
           repeats = above-left k (repeated [] vs) (repeatedInGates gs) (all .repeats);
-          bound = later-after k x defined own-after .from (own-places .0, named .0);
+          bound = later-after k x defined own-after .1 (own-places .0, named .0);
           early = above-left k (namingGates (numbersOf (gateNames (g ∷ gs))) (without defined (namesOf (gateInputs g)))) (earlyUses (x .number ∷ defined) gs) (all .early);
         }
 
@@ -193,10 +194,10 @@ module _ (k : ℕ) (names : List Name) (defined : List ℕ) (g : Gate) (gs : Lis
         let x = gateName g in
         let vs = gateVariables g in
         let qs = quantifiedNames gs in
-        let t = above-pick k (x .position) (mem (x .number) defined) (repeated (x .number ∷ defined) (gateNames gs)) .to (all .twice) in
+        let t = above-pick k (x .position) (mem (x .number) defined) (repeated (x .number ∷ defined) (gateNames gs)) .0 (all .twice) in
         record {
           twice = t .1;
-          bound = later-after k x defined later-after-it .from (own-places .1, named .1);
+          bound = later-after k x defined later-after-it .1 (own-places .1, named .1);
           listed = subst (λ l. Above k (gatesListed (gateNames gs) l)) (sym (append-assoc names vs qs)) (above-right k (laterPlaces x (names ++ (vs ++ qs))) (gatesListed (gateNames gs) (names ++ (vs ++ qs))) (all .listed));
           early = above-right k (namingGates (numbersOf (gateNames (g ∷ gs))) (without defined (namesOf (gateInputs g)))) (earlyUses (x .number ∷ defined) gs) (all .early);
           repeats = above-right k (repeated [] vs) (repeatedInGates gs) (all .repeats);
@@ -237,21 +238,21 @@ module _ (k : ℕ) (gates lists : ℕ → ℕ) (line i : ℕ) (names : List Name
   marked-after : Marks marks-after index-after (names ++ gateVariables g)
   marked-after = let l : suc i ≤ index-after = index-later in marks-next (suc (suc i)) i index-after lists names (gateVariables g) (omega arith) (omega arith) (omega arith) marks
 
-  head-found : Iff (Above k (faults gates lists line i (gateHead g ∷ after-head)))
-      (((leb (gates (gateName g .number)) i || not (eqb (lists (gateName g .number)) 0)) ≡ true → k ≤ gateName g .position) × Above k (faults gates lists (suc i) (suc i) after-head))
+  head-found : (Above k (faults gates lists line i (gateHead g ∷ after-head))
+      ↔ (((leb (gates (gateName g .number)) i || not (eqb (lists (gateName g .number)) 0)) ≡ true → k ≤ gateName g .position) × Above k (faults gates lists (suc i) (suc i) after-head)))
   head-found =
       above-step k (gateName g .position) (leb (gates (gateName g .number)) i || not (eqb (lists (gateName g .number)) 0)) (faults gates lists line i (gateHead g ∷ after-head)) (faults gates lists (suc i) (suc i) after-head)
       (faults-definition gates lists line i (gateHead g) after-head (gate-shape g .no-entry) (gate-shape g .definition))
 
-  list-found : Iff (Above k (faults gates lists (suc i) (suc i) after-head))
-      (Above k (repeated [] (gateVariables g)) × Above k (namingGates (gateName g .number ∷ defined) (gateVariables g)) × Above k (faults gates marks-after (suc i) (past (gate-shape g .bound) (suc i)) (gate-shape g .inputs ++ gatesTokens gs)))
+  list-found : (Above k (faults gates lists (suc i) (suc i) after-head)
+      ↔ (Above k (repeated [] (gateVariables g)) × Above k (namingGates (gateName g .number ∷ defined) (gateVariables g)) × Above k (faults gates marks-after (suc i) (past (gate-shape g .bound) (suc i)) (gate-shape g .inputs ++ gatesTokens gs))))
   list-found =
       entries-found k gates (suc i) (gate-shape g .inputs ++ gatesTokens gs) (gateName g .number ∷ defined)
       (known-test gates (suc i) (gateName g .number ∷ defined) after-head known-inside) (suc i) lists [] (gate-shape g .variables)
       (λ y. let f : lists y ≤ suc i = marks .fresh y in ne-eqb (lists y) (suc (suc i)) (λ e. omega arith) ∙ sym (mem-nil y))
 
-  uses-found : Iff (Above k (faults gates marks-after (suc i) (past (gate-shape g .bound) (suc i)) (gate-shape g .inputs ++ gatesTokens gs)))
-      (Above k (namingGates (numbersOf (gateNames (g ∷ gs))) (without defined (namesOf (gateInputs g)))) × Above k (faults gates marks-after (suc i) index-after (gatesTokens gs)))
+  uses-found : (Above k (faults gates marks-after (suc i) (past (gate-shape g .bound) (suc i)) (gate-shape g .inputs ++ gatesTokens gs))
+      ↔ (Above k (namingGates (numbersOf (gateNames (g ∷ gs))) (without defined (namesOf (gateInputs g)))) × Above k (faults gates marks-after (suc i) index-after (gatesTokens gs))))
   uses-found =
       inputs-found k gates (suc i) (gatesTokens gs) (numbersOf (gateNames (g ∷ gs))) defined (known-early gates i defined (g ∷ gs) known) (past (gate-shape g .bound) (suc i)) marks-after (gate-shape g .uses)
 
@@ -259,18 +260,17 @@ module _ (k : ℕ) (gates lists : ℕ → ℕ) (line i : ℕ) (names : List Name
   own-test : (leb (gates (gateName g .number)) i || not (eqb (lists (gateName g .number)) 0)) ≡ (mem (gateName g .number) defined || mem (gateName g .number) (numbersOf names))
   own-test = rw (known-gate gates i defined (gateHead g) after-head (gate-shape g .definition) known-here, marks .listed (gateName g .number))
 
-  line-found : Iff (Above k (faults gates lists line i (gatesTokens (g ∷ gs)))) (LineClear k names defined g gs × Above k (faults gates marks-after (suc i) index-after (gatesTokens gs)))
-  line-found =
-      record {
-        to = λ a.
-            let h = head-found .to (subst (λ ts. Above k (faults gates lists line i ts)) (gates-shape g gs) a) in
-            let l = list-found .to (h .1) in
-            let u = uses-found .to (l .2) in
-            (record { own = λ m. h .0 (own-test ∙ m); repeats = l .0; bound = l .1; early = u .0 }, u .1);
-        from = λ q.
-            subst (λ ts. Above k (faults gates lists line i ts)) (sym (gates-shape g gs))
-            (head-found .from (λ m. q .0 .own (sym own-test ∙ m), list-found .from (q .0 .repeats, q .0 .bound, uses-found .from (q .0 .early, q .1))));
-      }
+  line-found : (Above k (faults gates lists line i (gatesTokens (g ∷ gs))) ↔ (LineClear k names defined g gs × Above k (faults gates marks-after (suc i) index-after (gatesTokens gs))))
+  line-found = (
+    λ a.
+        let h = head-found .0 (subst (λ ts. Above k (faults gates lists line i ts)) (gates-shape g gs) a) in
+        let l = list-found .0 (h .1) in
+        let u = uses-found .0 (l .2) in
+        (record { own = λ m. h .0 (own-test ∙ m); repeats = l .0; bound = l .1; early = u .0 }, u .1),
+    λ q.
+        subst (λ ts. Above k (faults gates lists line i ts)) (sym (gates-shape g gs))
+        (head-found .1 (λ m. q .0 .own (sym own-test ∙ m), list-found .1 (q .0 .repeats, q .0 .bound, uses-found .1 (q .0 .early, q .1)))),
+  )
 
 nothing-clear : (k : ℕ) (names : List Name) (defined : List ℕ) → Clear k names defined []
 unfolding gateNames quantifiedNames repeated namingGates gatesListed earlyUses repeatedInGates
@@ -283,9 +283,9 @@ nothing-found k gates lists line i = none
 -- all lines
 pub gates-found : (k : ℕ) (gates : ℕ → ℕ) (gs : List Gate) (lists : ℕ → ℕ) (line i : ℕ) (names : List Name) (defined : List ℕ) (p : ℕ)
     → Marks lists i names → Known gates i defined (gatesTokens gs) → Each (λ y. y .position < p) names → ascending p (gatesTokens gs) ≡ true
-    → Iff (Above k (faults gates lists line i (gatesTokens gs))) (Clear k names defined gs)
+    → (Above k (faults gates lists line i (gatesTokens gs)) ↔ Clear k names defined gs)
 gates-found k gates [] lists line i names defined p marks known before a =
-    record { to = λ z. nothing-clear k names defined; from = λ z. nothing-found k gates lists line i }
+    (λ z. nothing-clear k names defined, λ z. nothing-found k gates lists line i)
 gates-found k gates (g ∷ gs) lists line i names defined p marks known before a =
     let l : LineAscent p g (gatesTokens gs) = line-ascends p g gs a in
     let f : p ≤ gateName g .position = l .first in
@@ -297,8 +297,7 @@ gates-found k gates (g ∷ gs) lists line i names defined p marks known before a
     (each-append (each-map (λ y b. let b0 : y .position < p = b in omega arith) before) (each-map (λ y b. b .1) (l .between))) (l .onward) in
     let up : Each (λ y. y .position ≤ gateName g .position) names = each-map (λ y b. let b0 : y .position < p = b in omega arith) before in
     let own : Each (λ y. gateName g .position ≤ y .position) (gateVariables g) = each-map (λ y b. let b0 : gateName g .position < y .position = b .0 in omega arith) (l .between) in
-    let rest : Each (λ y. gateName g .position ≤ y .position) (quantifiedNames gs) = each-map (λ y b. let b0 : l .end ≤ y .position = b in omega arith) (quantified-after (l .end) gs (l .onward)) in
-    record {
-      to = λ z. let h = here .to z in clear-to k names defined g gs up own rest (h .0) (later .to (h .1));
-      from = λ z. here .from (line-from k names defined g gs up own rest z, later .from (rest-from k names defined g gs up own rest z));
-    }
+    let rest : Each (λ y. gateName g .position ≤ y .position) (quantifiedNames gs) = each-map (λ y b. let b0 : l .end ≤ y .position = b in omega arith) (quantified-after (l .end) gs (l .onward)) in (
+      λ z. let h = here .0 z in clear-to k names defined g gs up own rest (h .0) (later .0 (h .1)),
+      λ z. here .1 (line-from k names defined g gs up own rest z, later .1 (rest-from k names defined g gs up own rest z)),
+    )

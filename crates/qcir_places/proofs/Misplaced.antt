@@ -1,6 +1,7 @@
 -- The pass finds refusal 11's places: its first is the lowest of them.
 -- Assumes nothing.
 use mathlib.Core.Path.{_≡_, refl, sym, _∙_, ap, subst, fun-ext}
+use mathlib.Core.Logic.{_↔_}
 use mathlib.Core.Bool.{Bool, true, false}
 use mathlib.Core.List.{List, [], _∷_, _++_, append-assoc}
 use Prim.Native.Nat.{ℕ, suc, _≤_, _<_}
@@ -17,7 +18,7 @@ use Rattle.qcir_tokens.specs.Tokens.{Token, token, outputRole, emptyRole, isOut
 use Rattle.qcir_tokens.specs.Held.{Definitions, foundOf}
 use Rattle.qcir_places.specs.Faults.{isEntry, fault, listsAfter, lineAfter, faults, firstOf}
 use Rattle.qcir_places.proofs.Turn.{faults-here, faults-later, faults-passed}
-use Rattle.qcir_places.proofs.Above.{Iff, Above, none, above-left, above-right, above-both, above-pick, above-lower, found-same, first-none, first-some}
+use Rattle.qcir_places.proofs.Above.{Above, none, above-left, above-right, above-both, above-pick, above-lower, found-same, first-none, first-some}
 use Rattle.qcir_places.proofs.Entries.{entry-defines, past, marked, entries-found, each-map, Ascent, ascending-one, ascending-passed, entries-ascend, entries-define, defines-none}
 use Rattle.qcir_places.proofs.Shapes.{outer-entries}
 use Rattle.qcir_places.proofs.Defined.{Known, known-start, known-test}
@@ -44,7 +45,7 @@ above-cons gates lists line i p t ts (is-false h) next a =
     let s = ascending-one p t ts h a in
     let l : p ≤ at = s .0 in
     let rest = faults gates (listsAfter (t .role) x line lists) (lineAfter (t .role) line i) (suc i) ts in
-    above-pick p at (fault (t .role) (gates x) (lists x) line i) rest .from
+    above-pick p at (fault (t .role) (gates x) (lists x) line i) rest .1
     (λ m. l, above-lower p (suc at) rest (omega arith) (next (listsAfter (t .role) x line lists) (lineAfter (t .role) line i) (suc i) (suc at) (s .1)))
 
 faults-above : (gates : ℕ → ℕ) (ts : List Token) (lists : ℕ → ℕ) (line i p : ℕ) → ascending p ts ≡ true → Above p (faults gates lists line i ts)
@@ -132,8 +133,8 @@ module _ (k : ℕ) (gates : ℕ → ℕ) (f : File) (defined : (x : ℕ) → gat
   ascent : Ascent 0 (outerNames f) tail
   ascent = entries-ascend tail (λ r q. q .no-empty) 0 (outer-entries f) (subst (λ ts. ascending 0 ts ≡ true) (file-shape f) order)
 
-  outer-found : Iff (Above k (faults gates (λ x. 0) 0 0 (outer ++ tail)))
-      (Above k (repeated [] (outerNames f)) × Above k (namingGates [] (outerNames f)) × Above k (faults gates marks 0 index tail))
+  outer-found : (Above k (faults gates (λ x. 0) 0 0 (outer ++ tail))
+      ↔ (Above k (repeated [] (outerNames f)) × Above k (namingGates [] (outerNames f)) × Above k (faults gates marks 0 index tail)))
   outer-found = entries-found k gates 0 tail [] (known-test gates 0 [] (outer ++ tail) known-outer) 0 (λ x. 0) [] (outer-entries f) (λ y. sym (mem-nil y))
 
   output-passed : faults gates marks 0 index tail ≡ faults gates marks 0 (suc index) (gatesTokens (f .gates))
@@ -141,7 +142,7 @@ module _ (k : ℕ) (gates : ℕ → ℕ) (f : File) (defined : (x : ℕ) → gat
       let r = output-role (f .output) in
       faults-passed gates marks 0 index (outputToken (f .output)) (gatesTokens (f .gates)) (r .no-entry) (r .no-definition) (r .no-input)
 
-  lines-found : Iff (Above k (faults gates marks 0 (suc index) (gatesTokens (f .gates)))) (Clear k (outerNames f) [] (f .gates))
+  lines-found : (Above k (faults gates marks 0 (suc index) (gatesTokens (f .gates))) ↔ Clear k (outerNames f) [] (f .gates))
   lines-found =
       let at = outputToken (f .output) .name .position in
       let o = ascending-one (ascent .end) (outputToken (f .output)) (gatesTokens (f .gates)) (output-role (f .output) .no-empty) (ascent .onward) in
@@ -150,7 +151,7 @@ module _ (k : ℕ) (gates : ℕ → ℕ) (f : File) (defined : (x : ℕ) → gat
       (marks-next 1 0 (suc index) (λ x. 0) [] (outerNames f) (omega arith) (omega arith) (omega arith) marks-start)
       known-gates (each-map (λ y b. let b1 : y .position < ascent .end = b .1 in omega arith) (ascent .between)) (o .1)
 
-  pub file-found : Iff (Above k (faults gates (λ x. 0) 0 0 (fileTokens f))) (Above k (misplaced f))
+  pub file-found : (Above k (faults gates (λ x. 0) 0 0 (fileTokens f)) ↔ Above k (misplaced f))
   unfolding misplaced
   file-found =
       let gs = f .gates in
@@ -158,20 +159,19 @@ module _ (k : ℕ) (gates : ℕ → ℕ) (f : File) (defined : (x : ℕ) → gat
       let b = gatesListed (gateNames gs) (outerNames f ++ quantifiedNames gs) in
       let c = earlyUses [] gs in
       let d = repeated [] (outerNames f) in
-      let e = repeatedInGates gs in
-      record {
-        to = λ z.
-            let o = outer-found .to (subst (λ ts. Above k (faults gates (λ x. 0) 0 0 ts)) (file-shape f) z) in
-            let l = lines-found .to (subst (Above k) output-passed (o .2)) in
-            above-both k a (b ++ (c ++ (d ++ e))) (l .twice) (above-both k b (c ++ (d ++ e)) (l .listed) (above-both k c (d ++ e) (l .early) (above-both k d e (o .0) (l .repeats))));
-        from = λ z.
+      let e = repeatedInGates gs in (
+        λ z.
+            let o = outer-found .0 (subst (λ ts. Above k (faults gates (λ x. 0) 0 0 ts)) (file-shape f) z) in
+            let l = lines-found .0 (subst (Above k) output-passed (o .2)) in
+            above-both k a (b ++ (c ++ (d ++ e))) (l .twice) (above-both k b (c ++ (d ++ e)) (l .listed) (above-both k c (d ++ e) (l .early) (above-both k d e (o .0) (l .repeats)))),
+        λ z.
             let z1 = above-right k a (b ++ (c ++ (d ++ e))) z in
             let z2 = above-right k b (c ++ (d ++ e)) z1 in
             let z3 = above-right k c (d ++ e) z2 in
             let l : Clear k (outerNames f) [] gs = record { twice = above-left k a (b ++ (c ++ (d ++ e))) z; bound = naming-none k (quantifiedNames gs); listed = above-left k b (c ++ (d ++ e)) z1; early = above-left k c (d ++ e) z2; repeats = above-right k d e z3 } in
             subst (λ ts. Above k (faults gates (λ x. 0) 0 0 ts)) (sym (file-shape f))
-            (outer-found .from (above-left k d e z3, naming-none k (outerNames f), subst (Above k) (sym output-passed) (lines-found .from l)));
-      }
+            (outer-found .1 (above-left k d e z3, naming-none k (outerNames f), subst (Above k) (sym output-passed) (lines-found .1 l))),
+      )
 
 -- What the pass finds in a file's tokens, from arrays.
 pub first-misplaced : (gates lists : List ℕ) (ts : List Token) → Definitions gates ts → ((x : ℕ) → getD lists x 0 ≡ 0) → (f : File) → ts ≡ fileTokens f → ascending 0 (fileTokens f) ≡ true
