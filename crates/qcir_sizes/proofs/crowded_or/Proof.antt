@@ -1,0 +1,16 @@
+-- `qcir_sizes::crowded_or` meets its contract: by the test of the limit.
+-- Assumes nothing.
+use Rattle.lists.specs.Choice.{pick, pick-yes, pick-no}
+use Rattle.qcir_sizes.proofs.crowded_or.Statement.{statement}
+use Rattle.qcir_sizes.proofs.crowded_or.Tie as tie
+use borrow.Author.Tests.{lt-ltb, le-ltb, eq-eqb, ne-eqb, le-leb, lt-leb, not-true, not-false}
+use mathlib.Core.Path.{_≡_, refl, sym, _∙_, ap}
+
+returns : tie.Need-returns
+returns c = sym (pick-yes _ _ _ (lt-ltb _ _ (c .if1 .taken)))
+
+returns-2 : tie.Need-returns-2
+returns-2 c = sym (pick-no _ _ _ (le-ltb _ _ (c .if1 .left)))
+
+pub crowded-or-spec : {M : Type 1} → statement M
+crowded-or-spec = tie.close (tie.spec returns returns-2)

@@ -1,0 +1,15 @@
+-- `qcir_sizes::sizes_of` meets its contract: by their parts.
+-- Assumes nothing.
+use Rattle.qcir_sizes.proofs.Passes.{sizes-are}
+use Rattle.qcir_sizes.proofs.sizes_of.Statement.{statement}
+use Rattle.qcir_sizes.proofs.sizes_of.Tie as tie
+use borrow.Author.Needs.{needs}
+
+crowded-or-requires : tie.Need-crowded-or-requires
+crowded-or-requires c κs = search needs
+
+returns : tie.Need-returns
+returns c = sizes-are (c .before .args .s) _ (c .crowded-or .ensures)
+
+pub sizes-of-spec : {M : Type 1} → statement M
+sizes-of-spec = tie.close (tie.spec crowded-or-requires returns)
