@@ -1,1 +1,3 @@
 pub mod Passes
+pub mod Drafts
+pub mod Files

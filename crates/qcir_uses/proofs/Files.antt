@@ -31,12 +31,12 @@ unfolding listTokens token
 quiet-list p first others x [] f o = more (f true) none
 quiet-list p first others x (y ∷ ys) f o = more (f false) (quiet-list p others others y ys o o)
 
-quiet-free : (p : ℕ → Bool) (xs : List Name) → ((a b : Bool) → p (freeRole a b) ≡ false) → Quiet p (freeTokens xs)
+pub quiet-free : (p : ℕ → Bool) (xs : List Name) → ((a b : Bool) → p (freeRole a b) ≡ false) → Quiet p (freeTokens xs)
 unfolding freeTokens
 quiet-free p [] h = none
 quiet-free p (x ∷ xs) h = quiet-list p (freeRole true) (freeRole false) x xs (h true) (h false)
 
-quiet-prefix : (p : ℕ → Bool) (ls : List Line) → ((q : Quantifier) (b : Bool) → p (lineRole q b) ≡ false) → ((b : Bool) → p (laterRole b) ≡ false) → Quiet p (prefixTokens ls)
+pub quiet-prefix : (p : ℕ → Bool) (ls : List Line) → ((q : Quantifier) (b : Bool) → p (lineRole q b) ≡ false) → ((b : Bool) → p (laterRole b) ≡ false) → Quiet p (prefixTokens ls)
 unfolding prefixTokens
 quiet-prefix p [] h k = none
 quiet-prefix p (l ∷ ls) h k = quiet-append (quiet-list p (lineRole (l .quantifier)) laterRole (l .first) (l .others) (h (l .quantifier)) k) (quiet-prefix p ls h k)
@@ -96,17 +96,17 @@ unfolding isDefinition laterRole
 later-no-definition true = refl
 later-no-definition false = refl
 
-bound-no-definition : (b : Bool) → isDefinition (boundRole b) ≡ false
+pub bound-no-definition : (b : Bool) → isDefinition (boundRole b) ≡ false
 unfolding isDefinition boundRole
 bound-no-definition true = refl
 bound-no-definition false = refl
 
-output-no-definition : (b : Bool) → isDefinition (outputRole b) ≡ false
+pub output-no-definition : (b : Bool) → isDefinition (outputRole b) ≡ false
 unfolding isDefinition outputRole
 output-no-definition true = refl
 output-no-definition false = refl
 
-input-no-definition : (a b : Bool) → isDefinition (inputRole a b) ≡ false
+pub input-no-definition : (a b : Bool) → isDefinition (inputRole a b) ≡ false
 unfolding isDefinition inputRole
 input-no-definition true true = refl
 input-no-definition true false = refl
@@ -125,13 +125,10 @@ input-use true false = refl
 input-use false true = refl
 input-use false false = refl
 
--- The tokens before the output neither use nor define anything; those of a gate's inputs define nothing.
-pub outer-quiet : (f : File) → Quiet isDefinition (freeTokens (f .free) ++ (prefixTokens (f .prefix) ++ (outputToken (f .output) ∷ [])))
-unfolding outputToken token
-outer-quiet f =
-    quiet-append (quiet-free isDefinition (f .free) free-no-definition)
-    (quiet-append (quiet-prefix isDefinition (f .prefix) line-no-definition later-no-definition)
-    (more (output-no-definition (f .output .minus)) none))
+-- The tokens before the output, and those of a gate's inputs, define nothing.
+pub front-quiet : (f : File) → Quiet isDefinition (freeTokens (f .free) ++ prefixTokens (f .prefix))
+front-quiet f =
+    quiet-append (quiet-free isDefinition (f .free) free-no-definition) (quiet-prefix isDefinition (f .prefix) line-no-definition later-no-definition)
 
 inputs-quiet : (l : Literal) (ls : List Literal) → Quiet isDefinition (inputsTokens l ls)
 unfolding inputsTokens token
@@ -152,7 +149,7 @@ unfolding anyInputsTokens token isDefinition
 any-quiet g [] = more refl none
 any-quiet g (l ∷ ls) = inputs-quiet l ls
 
-junction-defines : (j : Junction) → isDefinition (junctionRole j) ≡ true
+pub junction-defines : (j : Junction) → isDefinition (junctionRole j) ≡ true
 unfolding isDefinition junctionRole
 junction-defines conjunction = refl
 junction-defines disjunction = refl
@@ -162,7 +159,7 @@ unfolding isUse isInput isOutput junctionRole
 junction-no-use conjunction = refl
 junction-no-use disjunction = refl
 
-quantifier-defines : (q : Quantifier) → isDefinition (quantifierRole q) ≡ true
+pub quantifier-defines : (q : Quantifier) → isDefinition (quantifierRole q) ≡ true
 unfolding isDefinition quantifierRole
 quantifier-defines exists = refl
 quantifier-defines for-all = refl
@@ -171,6 +168,10 @@ quantifier-no-use : (q : Quantifier) → isUse (quantifierRole q) ≡ false
 unfolding isUse isInput isOutput quantifierRole
 quantifier-no-use exists = refl
 quantifier-no-use for-all = refl
+
+pub xor-defines : isDefinition xorRole ≡ true
+unfolding isDefinition
+xor-defines = refl
 
 xor-no-use : isUse xorRole ≡ false
 unfolding isUse isInput isOutput

@@ -1,9 +1,9 @@
 -- `qcir_sizes::add_block` meets its contract: by its parts.
 -- Assumes nothing.
+use borrow.Author.Needs.{needs}
 use Rattle.qcir_sizes.proofs.Passes.{block-is}
 use Rattle.qcir_sizes.proofs.add_block.Statement.{statement}
 use Rattle.qcir_sizes.proofs.add_block.Tie as tie
-use borrow.Author.Needs.{needs}
 
 crowded-or-requires : tie.Need-crowded-or-requires
 crowded-or-requires c κs = search needs

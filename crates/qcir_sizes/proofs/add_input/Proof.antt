@@ -1,13 +1,13 @@
 -- `qcir_sizes::add_input` meets its contract: the block is added if variables are quantified.
 -- Assumes nothing.
-use Rattle.lists.specs.Choice.{pick, pick-yes, pick-no}
+use mathlib.Core.Path.{sym, _∙_, ap}
+use borrow.Author.Needs.{needs}
+use borrow.Author.Tests.{eq-eqb, ne-eqb}
+use Rattle.lists.specs.Choice.{pick-yes, pick-no}
+use Rattle.qcir_sizes.specs.Pass.{inputAdded, blockAdded}
 use Rattle.qcir_sizes.proofs.Passes.{operand-room}
 use Rattle.qcir_sizes.proofs.add_input.Statement.{statement}
 use Rattle.qcir_sizes.proofs.add_input.Tie as tie
-use Rattle.qcir_sizes.specs.Pass.{inputAdded, blockAdded}
-use borrow.Author.Needs.{needs}
-use borrow.Author.Tests.{lt-ltb, le-ltb, eq-eqb, ne-eqb, le-leb, lt-leb, not-true, not-false}
-use mathlib.Core.Path.{_≡_, refl, sym, _∙_, ap}
 
 add-operand-requires : tie.Need-add-operand-requires
 add-operand-requires c κs = search needs
@@ -17,7 +17,9 @@ unfolding inputAdded
 returns c = c .before .before .add-operand .ensures ∙ sym (pick-yes _ _ _ (eq-eqb _ 0 (c .if1 .taken)))
 
 add-block-requires : tie.Need-add-block-requires
-add-block-requires c κs = let start = c .before .before .before in rw (c .before .before .add-operand .ensures) (operand-room (start .args .s) (start .pre) (start .args .role) (start .args .gate))
+add-block-requires c κs =
+    let start = c .before .before .before in
+    rw (c .before .before .add-operand .ensures) (operand-room (start .args .s) (start .pre) (start .args .role) (start .args .gate))
 
 returns-2 : tie.Need-returns-2
 unfolding inputAdded

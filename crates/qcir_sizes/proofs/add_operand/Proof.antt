@@ -1,12 +1,12 @@
 -- `qcir_sizes::add_operand` meets its contract: by its parts.
 -- Assumes nothing.
-use Rattle.lists.specs.Choice.{pick, pick-yes, pick-no}
+use mathlib.Core.Bool.{Bool, not}
+use mathlib.Core.Path.{_∙_, ap}
+use borrow.Author.Needs.{needs}
+use Rattle.lists.specs.Choice.{pick}
 use Rattle.qcir_sizes.proofs.Passes.{operand-is}
 use Rattle.qcir_sizes.proofs.add_operand.Statement.{statement}
 use Rattle.qcir_sizes.proofs.add_operand.Tie as tie
-use borrow.Author.Needs.{needs}
-use mathlib.Core.Bool.{Bool, not}
-use mathlib.Core.Path.{_≡_, refl, sym, _∙_, ap}
 
 is-earlier-requires : tie.Need-is-earlier-requires
 is-earlier-requires c κs = search needs
@@ -33,7 +33,9 @@ add-t11 : tie.Need-add-t11
 add-t11 c = search needs
 
 returns : tie.Need-returns
-returns c = let a = c .before .before .before .before .before .before .before .args in operand-is (a .role) (a .gate) (a .s) _ _ _ (c .before .before .before .before .before .one-if .ensures .0 ∙ ap (λ (b : Bool). pick (not b) 1 0) (c .before .before .before .before .before .before .is-earlier .ensures)) (c .before .before .before .one-if2 .ensures .0 ∙ ap (λ (b : Bool). pick b 1 0) (c .before .before .before .before .is-minus .ensures)) (c .before .one-if3 .ensures .0)
+returns c =
+    let a = c .before .before .before .before .before .before .before .args in
+    operand-is (a .role) (a .gate) (a .s) _ _ _ (c .before .before .before .before .before .one-if .ensures .0 ∙ ap (λ (b : Bool). pick (not b) 1 0) (c .before .before .before .before .before .before .is-earlier .ensures)) (c .before .before .before .one-if2 .ensures .0 ∙ ap (λ (b : Bool). pick b 1 0) (c .before .before .before .before .is-minus .ensures)) (c .before .one-if3 .ensures .0)
 
 pub add-operand-spec : {M : Type 1} → statement M
 add-operand-spec =

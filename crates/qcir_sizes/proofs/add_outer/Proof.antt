@@ -1,13 +1,13 @@
 -- `qcir_sizes::add_outer` meets its contract: by the entry's role.
 -- Assumes nothing.
-use Rattle.lists.specs.Choice.{pick, pick-yes, pick-no}
+use mathlib.Core.Path.{sym, _∙_}
+use borrow.Author.Needs.{needs}
+use borrow.Author.Tests.{le-leb, lt-leb}
+use Rattle.lists.specs.Choice.{pick-yes, pick-no}
+use Rattle.qcir_sizes.specs.Pass.{outerStep, variableAdded}
 use Rattle.qcir_sizes.proofs.Passes.{variable-room}
 use Rattle.qcir_sizes.proofs.add_outer.Statement.{statement}
 use Rattle.qcir_sizes.proofs.add_outer.Tie as tie
-use Rattle.qcir_sizes.specs.Pass.{outerStep, variableAdded}
-use borrow.Author.Needs.{needs}
-use borrow.Author.Tests.{lt-ltb, le-ltb, eq-eqb, ne-eqb, le-leb, lt-leb, not-true, not-false}
-use mathlib.Core.Path.{_≡_, refl, sym, _∙_, ap}
 
 is-free-requires : tie.Need-is-free-requires
 is-free-requires c κs = search needs
@@ -21,7 +21,9 @@ add-t5 c = search needs
 
 add-block-requires : tie.Need-add-block-requires
 unfolding variableAdded
-add-block-requires c κs = let start = c .before .before .before .before in variable-room (start .args .s) (start .pre)
+add-block-requires c κs =
+    let start = c .before .before .before .before in
+    variable-room (start .args .s) (start .pre)
 
 returns-2 : tie.Need-returns-2
 unfolding outerStep variableAdded

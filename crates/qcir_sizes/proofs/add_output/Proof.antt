@@ -1,12 +1,12 @@
 -- `qcir_sizes::add_output` meets its contract: by its parts.
 -- Assumes nothing.
-use Rattle.lists.specs.Choice.{pick, pick-yes, pick-no}
+use mathlib.Core.Bool.{Bool}
+use mathlib.Core.Path.{_∙_, ap}
+use borrow.Author.Needs.{needs}
+use Rattle.lists.specs.Choice.{pick}
 use Rattle.qcir_sizes.proofs.Passes.{output-is}
 use Rattle.qcir_sizes.proofs.add_output.Statement.{statement}
 use Rattle.qcir_sizes.proofs.add_output.Tie as tie
-use borrow.Author.Needs.{needs}
-use mathlib.Core.Bool.{Bool}
-use mathlib.Core.Path.{_≡_, refl, sym, _∙_, ap}
 
 one-if-requires : tie.Need-one-if-requires
 one-if-requires c κs = search needs
@@ -24,7 +24,9 @@ add-t8 : tie.Need-add-t8
 add-t8 c = search needs
 
 returns : tie.Need-returns
-returns c = let a = c .before .before .before .before .args in output-is (a .role) (a .gate) (a .s) _ _ (c .before .before .before .one-if .ensures .0) (c .before .one-if2 .ensures .0 ∙ ap (λ (b : Bool). pick b 1 0) (c .before .before .is-minus .ensures))
+returns c =
+    let a = c .before .before .before .before .args in
+    output-is (a .role) (a .gate) (a .s) _ _ (c .before .before .before .one-if .ensures .0) (c .before .one-if2 .ensures .0 ∙ ap (λ (b : Bool). pick b 1 0) (c .before .before .is-minus .ensures))
 
 pub add-output-spec : {M : Type 1} → statement M
 add-output-spec =

@@ -1,11 +1,11 @@
 -- `qcir_sizes::add_token` meets its contract: by the token's role.
 -- Assumes nothing.
-use Rattle.lists.specs.Choice.{pick, pick-yes, pick-no}
+use mathlib.Core.Path.{sym, _∙_}
+use borrow.Author.Needs.{needs}
+use Rattle.lists.specs.Choice.{pick-yes, pick-no}
+use Rattle.qcir_sizes.specs.Pass.{gateStep, lineBegun, variableAdded, constantAdded}
 use Rattle.qcir_sizes.proofs.add_token.Statement.{statement}
 use Rattle.qcir_sizes.proofs.add_token.Tie as tie
-use Rattle.qcir_sizes.specs.Pass.{gateStep, lineBegun, variableAdded, constantAdded}
-use borrow.Author.Needs.{needs}
-use mathlib.Core.Path.{_≡_, refl, sym, _∙_, ap}
 
 is-definition-requires : tie.Need-is-definition-requires
 is-definition-requires c κs = search needs

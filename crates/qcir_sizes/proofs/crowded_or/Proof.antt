@@ -1,10 +1,10 @@
 -- `qcir_sizes::crowded_or` meets its contract: by the test of the limit.
 -- Assumes nothing.
-use Rattle.lists.specs.Choice.{pick, pick-yes, pick-no}
+use mathlib.Core.Path.{sym}
+use borrow.Author.Tests.{lt-ltb, le-ltb}
+use Rattle.lists.specs.Choice.{pick-yes, pick-no}
 use Rattle.qcir_sizes.proofs.crowded_or.Statement.{statement}
 use Rattle.qcir_sizes.proofs.crowded_or.Tie as tie
-use borrow.Author.Tests.{lt-ltb, le-ltb, eq-eqb, ne-eqb, le-leb, lt-leb, not-true, not-false}
-use mathlib.Core.Path.{_≡_, refl, sym, _∙_, ap}
 
 returns : tie.Need-returns
 returns c = sym (pick-yes _ _ _ (lt-ltb _ _ (c .if1 .taken)))

@@ -1,10 +1,9 @@
 -- `qcir_sizes::gate_of` meets its contract: an element of 16 bits is an index of the array.
 -- Assumes nothing.
+use native.Mathlib.Omega.{arith}
+use borrow.Author.Needs.{needs}
 use Rattle.qcir_sizes.proofs.gate_of.Statement.{statement}
 use Rattle.qcir_sizes.proofs.gate_of.Tie as tie
-use borrow.Author.Needs.{needs}
-use mathlib.Core.Path.{_≡_, refl, sym, _∙_, ap}
-use native.Mathlib.Omega.{arith}
 
 mul-x : tie.Need-mul-x
 mul-x c = search needs

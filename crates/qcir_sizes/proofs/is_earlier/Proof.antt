@@ -1,9 +1,9 @@
 -- `qcir_sizes::is_earlier` meets its contract.
 -- Assumes nothing.
+use mathlib.Core.Path.{refl}
+use Rattle.qcir_sizes.specs.Pass.{isEarlier}
 use Rattle.qcir_sizes.proofs.is_earlier.Statement.{statement}
 use Rattle.qcir_sizes.proofs.is_earlier.Tie as tie
-use Rattle.qcir_sizes.specs.Pass.{isEarlier}
-use mathlib.Core.Path.{_≡_, refl, sym, _∙_, ap}
 
 returns : tie.Need-returns
 unfolding isEarlier

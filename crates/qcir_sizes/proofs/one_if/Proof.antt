@@ -1,10 +1,10 @@
 -- `qcir_sizes::one_if` meets its contract: by the test.
 -- Assumes nothing.
-use Rattle.lists.specs.Choice.{pick, pick-yes, pick-no}
+use mathlib.Core.Path.{sym}
+use native.Mathlib.Omega.{arith}
+use Rattle.lists.specs.Choice.{pick-yes, pick-no}
 use Rattle.qcir_sizes.proofs.one_if.Statement.{statement}
 use Rattle.qcir_sizes.proofs.one_if.Tie as tie
-use mathlib.Core.Path.{_≡_, refl, sym, _∙_, ap}
-use native.Mathlib.Omega.{arith}
 
 returns : tie.Need-returns
 returns c = (sym (pick-yes _ _ _ (c .if1 .taken)), omega arith)

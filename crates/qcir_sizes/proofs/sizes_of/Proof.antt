@@ -1,9 +1,9 @@
 -- `qcir_sizes::sizes_of` meets its contract: by their parts.
 -- Assumes nothing.
+use borrow.Author.Needs.{needs}
 use Rattle.qcir_sizes.proofs.Passes.{sizes-are}
 use Rattle.qcir_sizes.proofs.sizes_of.Statement.{statement}
 use Rattle.qcir_sizes.proofs.sizes_of.Tie as tie
-use borrow.Author.Needs.{needs}
 
 crowded-or-requires : tie.Need-crowded-or-requires
 crowded-or-requires c κs = search needs

@@ -1,33 +1,40 @@
+-- `qcir_sizes::table_sizes` meets its contract: the passes count what the file's table has.
+-- Assumes nothing.
+use mathlib.Core.List.{List, []}
+use mathlib.Core.Path.{_∙_, ap, subst}
 use native.Mathlib.Omega.{arith}
 use borrow.Author.Needs.{needs}
+use Rattle.qcir_tokens.specs.Held.{Definitions}
+use Rattle.qcir_tokens.specs.Tokens.{Token}
+use Rattle.qcir_sizes.specs.Pass.{outerPass, filePass, sizesOf}
+use Rattle.qcir_sizes.proofs.Files.{sizes-of-file}
+use Rattle.qcir_sizes.proofs.Passes.{outer-whole}
 use Rattle.qcir_sizes.proofs.table_sizes.Statement.{statement}
 use Rattle.qcir_sizes.proofs.table_sizes.Tie as tie
-use Rattle.qcir_sizes.proofs.table_sizes.Reads as reads
-use Rattle.qcir_sizes.proofs.table_sizes.Lts as lts
-use Rattle.qcir_sizes.proofs.inner_pass.Reads as inner-pass-reads
-use Rattle.qcir_sizes.proofs.outer_end.Reads as outer-end-reads
-use Rattle.qcir_sizes.proofs.outer_pass.Reads as outer-pass-reads
-use Rattle.qcir_sizes.proofs.sizes_of.Reads as sizes-of-reads
 
--- src/lib.rt:63:9
 outer-end-requires : tie.Need-outer-end-requires
 outer-end-requires c κs = search needs
 
--- src/lib.rt:64:9
 inner-pass-requires : tie.Need-inner-pass-requires
-inner-pass-requires c κs = ?
+inner-pass-requires c κs =
+    let start = c .before .before .before .before in
+    let end = c .outer-end .ensures in
+    (start .pre .0, ((start .pre .1 [] .wide, end .0), end .2))
 
--- src/lib.rt:65:9
 outer-pass-requires : tie.Need-outer-pass-requires
-outer-pass-requires c κs = search needs
+outer-pass-requires c κs =
+    let end = c .before .outer-end .ensures in
+    (omega arith, omega arith, c .inner-pass .ensures .0)
 
--- src/lib.rt:66:5
 sizes-of-requires : tie.Need-sizes-of-requires
 sizes-of-requires c κs = search needs
 
--- src/lib.rt:58:1
 returns : tie.Need-returns
-returns c = ?
+returns c f ps e =
+    let start = c .before .before .before .before .before .before .before in
+    let a = start .args in
+    let end = c .before .before .before .outer-end in
+    sizes-of-file f (a .gates .now) (subst (λ (ts : List Token). Definitions (a .gates .now) ts) e (start .pre .1 ps)) _ (c .sizes-of .ensures ∙ ap sizesOf (c .before .outer-pass .ensures ∙ ap (outerPass (a .roles .now) (end .result)) (c .before .before .inner-pass .ensures .1 ps) ∙ outer-whole (a .roles .now) (a .numbers .now) (a .count) (a .gates .now) ps (end .result) (end .result) (end .ensures .0) (end .ensures .1) (omega arith) ∙ ap (filePass (a .gates .now) 0) e))
 
 pub table-sizes-spec : {M : Type 1} → statement M
 table-sizes-spec =
