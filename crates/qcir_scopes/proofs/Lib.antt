@@ -1,1 +1,4 @@
 pub mod Within
+pub mod Run
+pub mod Roles
+pub mod Lines
