@@ -2,3 +2,5 @@ pub mod Within
 pub mod Run
 pub mod Roles
 pub mod Lines
+pub mod Gates
+pub mod Steps
