@@ -30,7 +30,7 @@ pick-empty true x e = let z : _≡_ {A = ℕ} 1 0 = ap length e in absurd (omega
 pick-empty false x e = refl
 
 -- no definition among these tokens
-skip-definitions : (ks ls : List Token) → Each (λ k. isDefinition (k .role) ≡ false) ks → (p x : ℕ) → definitionFrom p (ks ++ ls) x ≡ definitionFrom (p + length ks) ls x
+pub skip-definitions : (ks ls : List Token) → Each (λ k. isDefinition (k .role) ≡ false) ks → (p x : ℕ) → definitionFrom p (ks ++ ls) x ≡ definitionFrom (p + length ks) ls x
 unfolding definitionFrom
 skip-definitions [] ls each-none p x = let e : p ≡ p + 0 = omega arith in ap (λ i. definitionFrom i ls x) e
 skip-definitions (k ∷ ks) ls (each-more h hs) p x =

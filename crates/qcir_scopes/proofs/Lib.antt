@@ -3,4 +3,5 @@ pub mod Run
 pub mod Roles
 pub mod Lines
 pub mod Gates
-pub mod Steps
+pub mod Linear
+pub mod Files

@@ -176,7 +176,7 @@ total n [] = 0
 total n (x ∷ xs) = n x + total n xs
 
 module _ (t : Tokens) (q : ℕ) where
-  use-run : (xs : List ℕ) (n i : ℕ) → isUse (t .role i) ≡ true → Good t q xs n (t .number i) → (w : Walk) (m s : ℕ → Bool) (c : ℕ → ℕ)
+  pub use-run : (xs : List ℕ) (n i : ℕ) → isUse (t .role i) ≡ true → Good t q xs n (t .number i) → (w : Walk) (m s : ℕ → Bool) (c : ℕ → ℕ)
       → Done t q (suc n) (stand (moved i false w) m s c) (past (t .role i) i (listed m xs w)) m
   unfolding run
   use-run xs n i u (good-variable g e z) w m s c =

@@ -1,0 +1,273 @@
+-- The whole walk: it stays within the arrays that hold a file's tokens, and finds the file's unbound variables.
+-- Assumes nothing.
+use mathlib.Core.Path.{_≡_, refl, sym, _∙_, ap, subst, fun-ext}
+use mathlib.Core.Bool.{Bool, true, false, not, _&&_, _||_, or-false}
+use mathlib.Core.List.{List, [], _∷_, _++_, append-nil, append-assoc, append-eq-nil-iff}
+use Prim.Native.Nat.{ℕ, zero, suc, _+_, _*_, _-_, _≤_, _<_, min}
+use native.Mathlib.Omega.{arith}
+use lib.Dec.{eqb}
+use lib.ListN.{length, getD, replicate, length-append, length-replicate}
+use borrow.Author.Tests.{eq-eqb, ne-eqb}
+use Rattle.lists.specs.Choice.{pick, pick-yes, pick-no, Is, is-true, is-false, look, clash, and-off-left}
+use Rattle.lists.specs.Members.{mem}
+use Rattle.lists.proofs.Members.{mem-nil}
+use Rattle.lists.proofs.Stores.{getD-filled}
+use Rattle.qcir.specs.File.{Literal, Name, Gate, gateName, gateVariables, gateInputs, File, numbersOf, prefixVariables}
+use Rattle.qcir.specs.Refusals.{keep, least, gateNames, outerNames, quantifiedNames, repeated, repeatedInGates, gatesListed, earlyUses, misplaced, notUsedOnce, openNames, unbound}
+use Rattle.qcir_tokens.specs.declared.Found.{Found}
+use Rattle.qcir_tokens.specs.Tokens.{Token, token, isUse, isDefinition, outputToken, outputRole, freeTokens, prefixTokens, inputsTokens, anyInputsTokens, gateTokens, gatesTokens, fileTokens, definitionFrom, definition}
+use Rattle.qcir_tokens.specs.Held.{tokenAt, tokensFrom, numberCount, Definitions, foundOf}
+use Rattle.qcir_scopes.specs.declared.Walk.{Walk}
+use Rattle.qcir_scopes.specs.Judged.{Judged, tokenLimit}
+use Rattle.qcir_scopes.specs.Steps.{Tokens, tokensOf, State, stateOf, isEnd, isAbove, moved, past, noted, step, run, first, Within, Walking}
+use Rattle.qcir_scopes.proofs.Run.{stand, run-add, run-two, run-still, step-above, notedAll, listed, keep-cong}
+use Rattle.qcir_scopes.proofs.Roles.{Tests, definitionRole, input-tests, empty-tests, output-tests, Each, each-none, each-more, each-append, each-map, OuterEntry, free-each, prefix-each, boundTokens, gate-line, tokenNumbers, numbers-append, free-numbers, prefix-numbers, names-append, Held, held-none, held-more, held-left, held-right}
+use Rattle.qcir_scopes.proofs.Lines.{past-end, marked, marked-is, savedAll, entries-run, Done, Good, use-run}
+use Rattle.qcir_scopes.proofs.Gates.{weights, skip-definitions, Passed, passed-all}
+use Rattle.qcir_scopes.proofs.Linear.{output-le}
+
+-- What is noted is what is found.
+found-more : (xs : List ℕ) (w : Walk) → w .found ≡ true → (notedAll xs w .found ≡ true) × (notedAll xs w .lowest ≡ least (w .lowest ∷ xs))
+unfolding notedAll noted least
+found-more [] w e = (e, refl)
+found-more (x ∷ []) w e = (refl, pick-yes _ _ _ e)
+found-more (x ∷ y ∷ ys) w e =
+    let r = found-more (y ∷ ys) (noted x w) refl in
+    (r .0, omega (arith, r .1, pick-yes {A = ℕ} (w .found) (min (w .lowest) x) x e))
+
+pub found-all : (xs : List ℕ) (w : Walk) → w .found ≡ false → w .lowest ≡ 0 → _≡_ {A = Found} (record { found = notedAll xs w .found; lowest = notedAll xs w .lowest }) (foundOf xs)
+unfolding notedAll noted foundOf least
+found-all [] w e z = λ i. record { found = e i; lowest = z i }
+found-all (x ∷ xs) w e z =
+    let r = found-more xs (noted x w) refl in
+    let a : notedAll xs (noted x w) .found ≡ not (eqb (suc (length xs)) 0) = r .0 ∙ sym (ap not (ne-eqb (suc (length xs)) 0 (λ q. omega arith))) in
+    let b : notedAll xs (noted x w) .lowest ≡ least (x ∷ xs) = r .1 ∙ ap (λ y. least (y ∷ xs)) (pick-no _ _ _ e) in
+    λ i. record { found = a i; lowest = b i }
+
+module _ (roles numbers : List ℕ) where
+  tokens-length : (ps : List ℕ) (p count : ℕ) → length (tokensFrom roles numbers ps p count) ≡ count
+  unfolding tokensFrom
+  tokens-length ps p zero = refl
+  tokens-length ps p (suc count) = ap suc (tokens-length ps (suc p) count)
+
+  tokens-held : (gates ps : List ℕ) (p count : ℕ) → Held (tokensOf roles numbers gates) p (tokensFrom roles numbers ps p count)
+  unfolding tokensFrom tokenAt tokensOf
+  tokens-held gates ps p zero = held-none
+  tokens-held gates ps p (suc count) = held-more refl refl (tokens-held gates ps (suc p) count)
+
+  -- positions do not matter to definitions
+  definition-same : (ps qs : List ℕ) (i p count x : ℕ) → definitionFrom i (tokensFrom roles numbers ps p count) x ≡ definitionFrom i (tokensFrom roles numbers qs p count) x
+  unfolding tokensFrom tokenAt definitionFrom
+  definition-same ps qs i p zero x = refl
+  definition-same ps qs i p (suc count) x =
+      ap (pick (isDefinition (getD roles p 0) && eqb (getD numbers p 0) x) (suc i)) (definition-same ps qs (suc i) (suc p) count x)
+
+-- The tokens above the gates, but the output.
+unfoldable outerTokens : File → List Token
+outerTokens f = freeTokens (f .free) ++ prefixTokens (f .prefix)
+
+file-tokens : (f : File) → fileTokens f ≡ outerTokens f ++ (outputToken (f .output) ∷ gatesTokens (f .gates))
+unfolding fileTokens outerTokens
+file-tokens f = sym (append-assoc (freeTokens (f .free)) (prefixTokens (f .prefix)) (outputToken (f .output) ∷ gatesTokens (f .gates)))
+
+outer-each : (f : File) → Each OuterEntry (outerTokens f)
+unfolding outerTokens
+outer-each f = each-append (free-each (f .free)) (prefix-each (f .prefix))
+
+outer-numbers : (f : File) → tokenNumbers (outerTokens f) ≡ numbersOf (outerNames f)
+unfolding outerTokens outerNames
+outer-numbers f =
+    numbers-append (freeTokens (f .free)) (prefixTokens (f .prefix))
+    ∙ ap (λ xs. xs ++ tokenNumbers (prefixTokens (f .prefix))) (free-numbers (f .free))
+    ∙ ap (λ xs. numbersOf (f .free) ++ xs) (prefix-numbers (f .prefix))
+    ∙ sym (names-append (f .free) (prefixVariables (f .prefix)))
+
+-- the gates' definitions come after the output
+file-definition : (f : File) (x : ℕ) → definition (fileTokens f) x ≡ definitionFrom (suc (length (outerTokens f))) (gatesTokens (f .gates)) x
+unfolding definitionFrom outputToken token
+file-definition f x =
+    ap (λ ks. definitionFrom 0 ks x) (file-tokens f)
+    ∙ skip-definitions (outerTokens f) (outputToken (f .output) ∷ gatesTokens (f .gates)) (each-map (λ k h. h .definition-is) (outer-each f)) 0 x
+    ∙ ap (λ i. definitionFrom i (outputToken (f .output) ∷ gatesTokens (f .gates)) x) (let e : 0 + length (outerTokens f) ≡ length (outerTokens f) = omega arith in e)
+    ∙ pick-no _ _ _ (and-off-left (isDefinition (outputRole (f .output .minus))) (eqb (f .output .name .number) x) (output-tests (f .output .minus) .definition-is))
+
+definition-le : (ks : List Token) (p x : ℕ) → definitionFrom p ks x ≤ p + length ks
+unfolding definitionFrom
+definition-le [] p x = omega arith
+definition-le (k ∷ ks) p x = go (look (isDefinition (k .role) && eqb (k .name .number) x)) (definition-le ks (suc p) x)
+  where
+    go : Is (isDefinition (k .role) && eqb (k .name .number) x) → definitionFrom (suc p) ks x ≤ suc p + length ks
+        → pick (isDefinition (k .role) && eqb (k .name .number) x) (suc p) (definitionFrom (suc p) ks x) ≤ p + suc (length ks)
+    go (is-true e) r = omega (arith, pick-yes {A = ℕ} _ (suc p) (definitionFrom (suc p) ks x) e)
+    go (is-false e) r = omega (arith, pick-no {A = ℕ} _ (suc p) (definitionFrom (suc p) ks x) e)
+
+-- The last token ends a line.
+data Ended : List Token → Type 0 where
+  ended-last : {k : Token} → isEnd (k .role) ≡ true → Ended (k ∷ [])
+  ended-more : {k : Token} {ks : List Token} → Ended ks → Ended (k ∷ ks)
+
+ended-append : (ks ls : List Token) → Ended ls → Ended (ks ++ ls)
+ended-append [] ls e = e
+ended-append (k ∷ ks) ls e = ended-more (ended-append ks ls e)
+
+ended-inputs : (l : Literal) (ls : List Literal) → Ended (inputsTokens l ls)
+unfolding inputsTokens token
+ended-inputs l [] = ended-last (input-tests (l .minus) true .end-is)
+ended-inputs l (m ∷ ms) = ended-more (ended-inputs m ms)
+
+ended-any : (g : Name) (ls : List Literal) → Ended (anyInputsTokens g ls)
+unfolding anyInputsTokens token
+ended-any g [] = ended-last (empty-tests .end-is)
+ended-any g (l ∷ ls) = ended-inputs l ls
+
+ended-gate : (g : Gate) → Ended (gateTokens g)
+ended-gate g =
+    subst Ended (sym (gate-line g))
+    (ended-more (ended-append (boundTokens (gateVariables g)) (anyInputsTokens (gateName g) (gateInputs g)) (ended-any (gateName g) (gateInputs g))))
+
+ended-gates : (gs : List Gate) (ks : List Token) → Ended ks → Ended (ks ++ gatesTokens gs)
+unfolding gatesTokens
+ended-gates [] ks e = subst Ended (sym (append-nil ks)) e
+ended-gates (g ∷ gs) ks e = ended-append ks (gateTokens g ++ gatesTokens gs) (ended-gates gs (gateTokens g) (ended-gate g))
+
+ended-file : (f : File) → Ended (fileTokens f)
+unfolding outputToken token
+ended-file f =
+    subst Ended (sym (file-tokens f))
+    (ended-append (outerTokens f) (outputToken (f .output) ∷ gatesTokens (f .gates))
+    (ended-gates (f .gates) (outputToken (f .output) ∷ []) (ended-last (output-tests (f .output .minus) .end-is))))
+
+held-ended : (t : Tokens) (ks : List Token) (p i : ℕ) → Ended ks → Held t p ks → suc i ≡ p + length ks → isEnd (t .role i) ≡ true
+held-ended t (k ∷ []) p i (ended-last e) (held-more r n h) l =
+    let q : i ≡ p = omega arith in ap (λ j. isEnd (t .role j)) q ∙ ap isEnd r ∙ e
+held-ended t (k ∷ ks) p i (ended-more e) (held-more r n h) l = held-ended t ks (suc p) i e h (omega arith)
+
+head-above : (t : Tokens) (ks : List Token) (k : Token) (ls : List Token) (p : ℕ) → Each OuterEntry ks → isAbove (k .role) ≡ true → Held t p (ks ++ (k ∷ ls)) → isAbove (t .role p) ≡ true
+head-above t [] k ls p each-none e (held-more r n h) = ap isAbove r ∙ e
+head-above t (l ∷ ks) k ls p (each-more a b) e (held-more r n h) = ap isAbove r ∙ a .above-is
+
+-- The walk stays within the arrays.
+pub within : (roles numbers : List ℕ) (count : ℕ) (gates : List ℕ) → Judged roles numbers count gates → Within roles numbers count gates
+unfolding tokensOf outputToken token
+within roles numbers count gates j =
+    let f : File = j .file in
+    let held : Held (tokensOf roles numbers gates) 0 (fileTokens f) = subst (Held (tokensOf roles numbers gates) 0) (j .tokens) (tokens-held roles numbers gates (j .positions) 0 count) in
+    let long : length (fileTokens f) ≡ count = sym (ap length (j .tokens)) ∙ tokens-length roles numbers (j .positions) 0 count in
+    let parts = ap length (file-tokens f) ∙ length-append (outerTokens f) (outputToken (f .output) ∷ gatesTokens (f .gates)) in
+    record {
+      roles-hold = j .roles-hold;
+      numbers-hold = j .numbers-hold;
+      few = j .few;
+      some = omega arith;
+      gates-wide = j .defined .wide;
+      gates-low = λ x. omega (arith, j .defined .holds x, definition-le (fileTokens f) 0 x);
+      starts-above =
+          head-above (tokensOf roles numbers gates) (outerTokens f) (outputToken (f .output)) (gatesTokens (f .gates)) 0 (outer-each f)
+          (output-tests (f .output .minus) .above-is) (subst (Held (tokensOf roles numbers gates) 0) (file-tokens f) held);
+      stops = λ i h. held-ended (tokensOf roles numbers gates) (fileTokens f) 0 i (ended-file f) held (omega arith);
+    }
+
+-- It starts with new arrays.
+pub walk-starts : (count : ℕ) → 0 < count → Walking count first (replicate numberCount false) (replicate tokenLimit false) (replicate tokenLimit 0)
+walk-starts count h =
+    record {
+      at-low = h;
+      callers-low = λ i. subst (λ v. v < count) (sym (getD-filled tokenLimit i 0)) h;
+      marks-wide = length-replicate {A = Bool} numberCount false;
+      saved-wide = length-replicate {A = Bool} tokenLimit false;
+      callers-wide = length-replicate {A = ℕ} tokenLimit 0;
+    }
+
+-- What holds of a file whose names stand in their places.
+gates-apart : (f : File) → misplaced f ≡ [] → (repeated [] (gateNames (f .gates)) ≡ []) × (earlyUses [] (f .gates) ≡ [])
+unfolding misplaced
+gates-apart f e =
+    let a = append-eq-nil-iff {p = repeated [] (gateNames (f .gates))} .0 e in
+    let b = append-eq-nil-iff {p = gatesListed (gateNames (f .gates)) (outerNames f ++ quantifiedNames (f .gates))} .0 (a .1) in
+    (a .0, append-eq-nil-iff {p = earlyUses [] (f .gates)} .0 (b .1) .0)
+
+-- The walk finds the unbound variables.
+module _ (t : Tokens) (f : File) (held : Held t 0 (fileTokens f)) (defined : (x : ℕ) → t .gate x ≡ definition (fileTokens f) x)
+    (placed : misplaced f ≡ []) (once : notUsedOnce f ≡ []) (s : ℕ → Bool) (c : ℕ → ℕ) where
+  held-output : Held t (length (outerTokens f)) (outputToken (f .output) ∷ gatesTokens (f .gates))
+  held-output =
+      subst (λ p. Held t p (outputToken (f .output) ∷ gatesTokens (f .gates))) (let e : 0 + length (outerTokens f) ≡ length (outerTokens f) = omega arith in e)
+      (held-right t 0 (outerTokens f) (outputToken (f .output) ∷ gatesTokens (f .gates)) (subst (Held t 0) (file-tokens f) held))
+
+  names-good : Held t (suc (length (outerTokens f))) (gatesTokens (f .gates))
+      → (x : ℕ) → Good t (suc (length (outerTokens f)) + length (gatesTokens (f .gates))) (openNames (λ y. y ∷ []) (f .gates) x) (weights (λ y. 0) (f .gates) x) x
+  names-good h =
+      let apart = gates-apart f placed in
+      passed-all t (f .gates) (suc (length (outerTokens f))) [] (λ y. y ∷ []) (λ y. 0) h (apart .0) (apart .1)
+      (record { later = λ x e. defined x ∙ file-definition f x; known = λ x e. clash e (mem-nil x); alone = λ x e. refl; light = λ x e. refl })
+
+  -- the marks where the output stands: what the lines above it bind
+  outer-marks : ℕ → Bool
+  outer-marks = marked (λ x. false) (tokenNumbers (outerTokens f))
+
+  unbound-listed : (xs : List ℕ) → keep (λ y. not (outer-marks y)) xs ≡ keep (λ y. not (mem y (numbersOf (outerNames f)))) xs
+  unfolding outer-marks
+  unbound-listed xs =
+      keep-cong (λ y. not (outer-marks y)) (λ y. not (mem y (numbersOf (outerNames f)))) xs
+      (λ y. ap not (marked-is (λ x. false) (tokenNumbers (outerTokens f)) y ∙ or-false (mem y (tokenNumbers (outerTokens f))) ∙ ap (mem y) (outer-numbers f)))
+
+  ends : Held t (length (outerTokens f)) (outputToken (f .output) ∷ gatesTokens (f .gates))
+      → run t (2 * length (fileTokens f)) (stand (moved 0 false first) (λ x. false) s c) .walk
+      ≡ moved (length (outerTokens f)) true (notedAll (unbound f) first)
+  unfolding outputToken token listed unbound outer-marks
+  ends (held-more r n h) =
+      let i : ℕ = length (outerTokens f) in
+      let y : ℕ = f .output .name .number in
+      let xs : List ℕ = openNames (λ z. z ∷ []) (f .gates) y in
+      let k : ℕ = weights (λ z. 0) (f .gates) y in
+      let q : ℕ = suc i + length (gatesTokens (f .gates)) in
+      let tests = output-tests (f .output .minus) in
+      let good = subst (λ z. Good t q xs k z) (sym n) (names-good h y) in
+      let through = entries-run t (outerTokens f) (outer-each f) 0 (held-left t 0 (outerTokens f) (outputToken (f .output) ∷ gatesTokens (f .gates)) (subst (Held t 0) (file-tokens f) held)) first (λ x. false) s c in
+      let saved = savedAll 0 (λ x. false) s (tokenNumbers (outerTokens f)) in
+      let d = use-run t q xs k i (ap isUse r ∙ tests .use-is) good first outer-marks saved c in
+      let v : Walk = listed outer-marks xs first in
+      let halt = run-still t (2 * length (fileTokens f) - (i + suc k)) (stand (moved i true v) outer-marks (d .saves) (d .calls))
+            (step-above t i v outer-marks (d .saves) (d .calls) (ap isAbove r ∙ tests .above-is)) in
+      let parts = ap length (file-tokens f) ∙ length-append (outerTokens f) (outputToken (f .output) ∷ gatesTokens (f .gates)) in
+      let few = output-le f once in
+      let a : 2 * length (fileTokens f) ≡ i + (suc k + (2 * length (fileTokens f) - (i + suc k))) = omega arith in
+      let e : 0 + i ≡ i = omega arith in
+      ap (λ u. u .walk)
+      (ap (λ j. run t j (stand (moved 0 false first) (λ x. false) s c)) a
+      ∙ run-two t i (suc k + (2 * length (fileTokens f) - (i + suc k))) _ (stand (moved i false first) outer-marks saved c) _
+      (through ∙ ap (λ j. stand (moved j false first) outer-marks saved c) e)
+      (run-two t (suc k) (2 * length (fileTokens f) - (i + suc k)) _ (stand (moved i true v) outer-marks (d .saves) (d .calls)) _
+      (d .runs ∙ ap (λ u. stand u outer-marks (d .saves) (d .calls)) (past-end (t .role i) i v (ap isEnd r ∙ tests .end-is)))
+      halt))
+      ∙ ap (λ zs. moved i true (notedAll zs first)) (unbound-listed xs)
+
+  pub walk-found : (w : Walk) → w ≡ run t (2 * length (fileTokens f)) (stand first (λ x. false) s c) .walk
+      → _≡_ {A = Found} (record { found = w .found; lowest = w .lowest }) (foundOf (unbound f))
+  unfolding moved
+  walk-found w e =
+      ap (λ u. record { found = u .found; lowest = u .lowest }) (e ∙ ends held-output) ∙ found-all (unbound f) first refl refl
+
+-- The same of the arrays.
+pub unbound-found : (roles numbers : List ℕ) (count : ℕ) (gates : List ℕ) → Judged roles numbers count gates
+    → (marks saved : List Bool) (callers : List ℕ) → ((x : ℕ) → getD marks x false ≡ false)
+    → (w : Walk) → w ≡ run (tokensOf roles numbers gates) (2 * count) (stateOf first marks saved callers) .walk
+    → (f : File) (ps : List ℕ) → tokensFrom roles numbers ps 0 count ≡ fileTokens f → misplaced f ≡ [] → notUsedOnce f ≡ []
+    → _≡_ {A = Found} (record { found = w .found; lowest = w .lowest }) (foundOf (unbound f))
+unfolding stateOf tokensOf
+unbound-found roles numbers count gates j marks saved callers clear w e f ps tokens placed once =
+    let t : Tokens = tokensOf roles numbers gates in
+    let long : length (fileTokens f) ≡ count = sym (ap length tokens) ∙ tokens-length roles numbers ps 0 count in
+    walk-found t f (subst (Held t 0) tokens (tokens-held roles numbers gates ps 0 count))
+    gate-at
+    placed once (λ i. getD saved i false) (λ i. getD callers i 0) w
+    (e
+    ∙ ap (λ m. run t (2 * count) (stand first m (λ i. getD saved i false) (λ i. getD callers i 0)) .walk) (fun-ext clear)
+    ∙ ap (λ n. run t (2 * n) (stand first (λ x. false) (λ i. getD saved i false) (λ i. getD callers i 0)) .walk) (sym long))
+  where
+    gate-at : (x : ℕ) → getD gates x 0 ≡ definition (fileTokens f) x
+    gate-at x =
+        j .defined .holds x
+        ∙ ap (λ ks. definition ks x) (sym (j .tokens))
+        ∙ definition-same roles numbers (j .positions) ps 0 0 count x
+        ∙ ap (λ ks. definition ks x) tokens
