@@ -1,0 +1,4 @@
+pub mod Effects
+pub mod Alike
+pub mod Every
+pub mod Rule
