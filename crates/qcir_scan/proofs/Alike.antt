@@ -148,12 +148,24 @@ unfolding alike
 alike-effect x y p t h =
     or-cases _ _ t (λ e. ap (effectAt p) (eqb-true x y e))
     (λ r.
+    let a = not (mem x marks) in
+    let b = not (mem y marks) in
+    let c = agree (isSpace x) (isSpace y) in
+    let d = agree (isDigit x) (isDigit y) in
+    let e = agree (leb 49 x && leb x 57) (leb 49 y && leb y 57) in
+    let r₁ = and-right a (b && (c && (d && e))) r in
+    let r₂ = and-right b (c && (d && e)) r₁ in
+    let r₃ = and-right c (d && e) r₂ in
+    place-alike x y (not-true _ (and-left a _ r)) (not-true _ (and-left b _ r₁)) (agreed _ _ (and-left c _ r₂)) (agreed _ _ (and-left d _ r₃)) (agreed _ _ (and-right d e r₃)) p h)
+
+pub alike-digit : (x y : ℕ) → alike x y ≡ true → isDigit x ≡ isDigit y
+unfolding alike
+alike-digit x y t =
+    or-cases _ _ t (λ e. ap isDigit (eqb-true x y e))
+    (λ r.
       let a = not (mem x marks) in
       let b = not (mem y marks) in
       let c = agree (isSpace x) (isSpace y) in
       let d = agree (isDigit x) (isDigit y) in
       let e = agree (leb 49 x && leb x 57) (leb 49 y && leb y 57) in
-      let r₁ = and-right a (b && (c && (d && e))) r in
-      let r₂ = and-right b (c && (d && e)) r₁ in
-      let r₃ = and-right c (d && e) r₂ in
-      place-alike x y (not-true _ (and-left a _ r)) (not-true _ (and-left b _ r₁)) (agreed _ _ (and-left c _ r₂)) (agreed _ _ (and-left d _ r₃)) (agreed _ _ (and-right d e r₃)) p h)
+      agreed _ _ (and-left d e (and-right c (d && e) (and-right b (c && (d && e)) (and-right a (b && (c && (d && e))) r)))))

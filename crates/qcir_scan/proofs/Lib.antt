@@ -2,3 +2,6 @@ pub mod Effects
 pub mod Alike
 pub mod Every
 pub mod Rule
+pub mod Tokens
+pub mod Runs
+pub mod Steps

@@ -8,15 +8,15 @@ use native.Mathlib.Nat.{div-add-mod, mul-add-mod-self-left, mul-add-div, mod-eq-
 use native.Mathlib.Omega.{arith}
 use lib.Dec.{eqb, leb, ltb}
 use lib.ListN.{length, getD}
-use borrow.Author.Tests.{eqb-true, leb-true, ltb-true}
-use Rattle.lists.specs.Choice.{pick, clash, and-left, and-right}
+use borrow.Author.Tests.{eqb-true, leb-true, ltb-true, lt-leb, not-true}
+use Rattle.lists.specs.Choice.{pick, clash, and-left, and-right, or-cases}
 use Rattle.lists.specs.Members.{mem}
 use Rattle.qcir.specs.Spelling.{isSpace, isDigit}
 use Rattle.qcir_text.specs.Machine.{Place, dead, heading, headed, padded, counted, ready, inside, digits, comment, row, arrow, points, rowAt, arrowOf, someBegins, same, begins, isDead, isDone}
 use Rattle.qcir_scan.specs.Places.{places, placeOf, spares, spare}
 use Rattle.qcir_scan.specs.Tables.{moves, columns, entryAt}
 use Rattle.qcir_scan.proofs.Effects.{Effect, effectAt, wordEffect, endEffect, betweenEffect}
-use Rattle.qcir_scan.proofs.Alike.{marks, agree, agreed, alike, headMarked, alike-effect}
+use Rattle.qcir_scan.proofs.Alike.{marks, agree, agreed, alike, headMarked, alike-effect, alike-digit}
 use Rattle.qcir_scan.proofs.Every.{every, at}
 
 -- A byte of each class.
@@ -104,15 +104,15 @@ unfoldable pub spared : ℕ → ℕ → Bool
 spared i e = ltb (e % 256) 124 && leb (spare (e % 256) + tokenBytes e) (spare i + 1)
 
 unfoldable pub right : ℕ → ℕ → Bool
-right n e = sameEffect (effectAt (placeOf (n % 124)) (getD samples (n / 124) 0)) (effectOf e) && spared (n % 124) e
+right n e = sameEffect (effectAt (placeOf (n % 124)) (getD samples (n / 124) 0)) (effectOf e) && (spared (n % 124) e && (leb (e / 256) 24 || isDigit (getD samples (n / 124) 0)))
 
 all-right : every right 0 moves ≡ true
 unfolding right sameEffect spared tokenBytes effectOf code samples moves places placeOf spares spare effectAt wordEffect endEffect betweenEffect pick isSpace isDigit row arrow points rowAt arrowOf someBegins same begins
 all-right = refl
 
--- A byte is like the sample of its column, which begins where a column does.
+-- A byte is like the sample of its column, which begins where a column does; the value of a digit.
 unfoldable pub rightColumn : ℕ → ℕ → Bool
-rightColumn b x = alike b (getD samples (x / 124) 0) && (eqb (x % 124) 0 && leb x 3968)
+rightColumn b x = alike b (getD samples (x / 124) 0) && (eqb (x % 124) 0 && (leb x 3968 && (not (isDigit b) || eqb (b % 16) (b - 48))))
 
 columns-right : every rightColumn 0 columns ≡ true
 unfolding rightColumn alike agree mem marks samples columns isSpace isDigit
@@ -175,7 +175,7 @@ module _ (i : ℕ) (low : i < 124) where
     unfolding rightColumn
     like = and-left (alike b (getD samples (x / 124) 0)) _ column-right
 
-    begins-column : (eqb (x % 124) 0 && leb x 3968) ≡ true
+    begins-column : (eqb (x % 124) 0 && (leb x 3968 && (not (isDigit b) || eqb (b % 16) (b - 48)))) ≡ true
     unfolding rightColumn
     begins-column = and-right (alike b (getD samples (x / 124) 0)) _ column-right
 
@@ -197,13 +197,13 @@ module _ (i : ℕ) (low : i < 124) where
     pub in-table : getD columns b 0 + i < 4092
     unfolding x
     in-table =
-        let l : x ≤ 3968 = leb-true _ _ (and-right (eqb (x % 124) 0) _ begins-column) in omega arith
+        let l : x ≤ 3968 = leb-true _ _ (and-left (leb x 3968) _ (and-right (eqb (x % 124) 0) _ begins-column)) in omega arith
 
     entry-right : right (x + i) (entryAt i b) ≡ true
     unfolding entryAt x
     entry-right = at right 0 moves all-right (getD columns b 0 + i) (rw moves-length in-table)
 
-    entry-parts : (sameEffect (effectAt (placeOf i) (getD samples (x / 124) 0)) (effectOf (entryAt i b)) && spared i (entryAt i b)) ≡ true
+    entry-parts : (sameEffect (effectAt (placeOf i) (getD samples (x / 124) 0)) (effectOf (entryAt i b)) && (spared i (entryAt i b) && (leb (entryAt i b / 256) 24 || isDigit (getD samples (x / 124) 0)))) ≡ true
     unfolding right
     entry-parts = rw (in-column, of-column) at entry-right
 
@@ -213,8 +213,11 @@ module _ (i : ℕ) (low : i < 124) where
         alike-effect b (getD samples (x / 124) 0) (placeOf i) like head-marked
         ∙ same-effects _ _ (and-left (sameEffect (effectAt (placeOf i) (getD samples (x / 124) 0)) (effectOf (entryAt i b))) _ entry-parts)
 
+    entry-rest : (spared i (entryAt i b) && (leb (entryAt i b / 256) 24 || isDigit (getD samples (x / 124) 0))) ≡ true
+    entry-rest = and-right (sameEffect (effectAt (placeOf i) (getD samples (x / 124) 0)) (effectOf (entryAt i b))) _ entry-parts
+
     entry-spared : spared i (entryAt i b) ≡ true
-    entry-spared = and-right (sameEffect (effectAt (placeOf i) (getD samples (x / 124) 0)) (effectOf (entryAt i b))) _ entry-parts
+    entry-spared = and-left (spared i (entryAt i b)) _ entry-rest
 
     pub next-low : entryAt i b % 256 < 124
     unfolding spared
@@ -223,3 +226,9 @@ module _ (i : ℕ) (low : i < 124) where
     pub next-spare : spare (entryAt i b % 256) + tokenBytes (entryAt i b) ≤ spare i + 1
     unfolding spared
     next-spare = leb-true _ _ (and-right (ltb (entryAt i b % 256) 124) _ entry-spared)
+
+    -- the value of a byte that belongs to a name
+    pub digit-value : 24 < entryAt i b / 256 → b % 16 ≡ b - 48
+    digit-value h =
+        let d : isDigit b ≡ true = or-cases (leb (entryAt i b / 256) 24) (isDigit (getD samples (x / 124) 0)) (and-right (spared i (entryAt i b)) _ entry-rest) (λ t. clash t (lt-leb _ _ h)) (λ t. alike-digit b (getD samples (x / 124) 0) like ∙ t) in
+        or-cases (not (isDigit b)) (eqb (b % 16) (b - 48)) (and-right (leb x 3968) _ (and-right (eqb (x % 124) 0) _ begins-column)) (λ t. clash d (not-true _ t)) (λ t. eqb-true _ _ t)

@@ -45,7 +45,7 @@ points =
     ∷ row [] 5 0 false
     -- 5: free(x
     ∷ row (arrow comma 1 6 ∷ arrow closing 2 8 ∷ []) 0 0 false
-    -- 6: free(.., 
+    -- 6: free(..,
     ∷ row [] 7 0 false
     -- 7: free(.., x
     ∷ row (arrow comma 3 6 ∷ arrow closing 4 8 ∷ []) 0 0 false

@@ -1,0 +1,101 @@
+use borrow.Author.Needs.{needs}
+use native.Mathlib.Omega.{arith}
+use Rattle.qcir_scan.proofs.walk.Statement.{statement}
+use Rattle.qcir_scan.proofs.walk.Tie as tie
+use Rattle.qcir_scan.proofs.walk.Reads as reads
+use Rattle.qcir_scan.proofs.walk.Lts as lts
+use Rattle.qcir_scan.proofs.advance.Reads as advance-reads
+use Rattle.qcir_scan.proofs.is_done.Reads as is-done-reads
+
+abbrev Inv-loop : tie.InvT-loop
+Inv-loop moves columns text at roles₀ numbers₀ positions₀ at₀ q₀ roles numbers positions at' q = ?
+
+abbrev μ-loop : tie.MeasureT-loop
+μ-loop moves columns text at roles₀ numbers₀ positions₀ at₀ q₀ roles numbers positions at' q = ?
+
+-- src/lib.rt:101:5
+loop-holds : tie.Need-loop-holds Inv-loop μ-loop
+loop-holds c = ?
+
+-- src/lib.rt:102:9
+advance-requires : tie.Need-advance-requires Inv-loop μ-loop
+advance-requires c κs = ?
+
+-- src/lib.rt:106:27
+cast-t18 : tie.Need-cast-t18 Inv-loop μ-loop
+cast-t18 c = ?
+
+-- src/lib.rt:104:13
+same-length : tie.Need-same-length Inv-loop μ-loop
+same-length c = ?
+
+-- src/lib.rt:104:13
+same-length-2 : tie.Need-same-length-2 Inv-loop μ-loop
+same-length-2 c = ?
+
+-- src/lib.rt:104:13
+same-length-3 : tie.Need-same-length-3 Inv-loop μ-loop
+same-length-3 c = ?
+
+-- src/lib.rt:104:13
+returns : tie.Need-returns Inv-loop μ-loop
+returns c = ?
+
+-- src/lib.rt:110:9
+add-at : tie.Need-add-at Inv-loop μ-loop
+add-at c = ?
+
+-- src/lib.rt:101:5
+loop-less : tie.Need-loop-less Inv-loop μ-loop
+loop-less c = ?
+
+-- src/lib.rt:101:5
+loop-again : tie.Need-loop-again Inv-loop μ-loop
+loop-again c = ?
+
+-- src/lib.rt:113:18
+is-done-requires : tie.Need-is-done-requires Inv-loop μ-loop
+is-done-requires c κs = ?
+
+-- src/lib.rt:114:19
+cast-t20 : tie.Need-cast-t20 Inv-loop μ-loop
+cast-t20 c = ?
+
+-- src/lib.rt:79:1
+same-length-4 : tie.Need-same-length-4 Inv-loop μ-loop
+same-length-4 c = ?
+
+-- src/lib.rt:79:1
+same-length-5 : tie.Need-same-length-5 Inv-loop μ-loop
+same-length-5 c = ?
+
+-- src/lib.rt:79:1
+same-length-6 : tie.Need-same-length-6 Inv-loop μ-loop
+same-length-6 c = ?
+
+-- src/lib.rt:79:1
+returns-2 : tie.Need-returns-2 Inv-loop μ-loop
+returns-2 c = ?
+
+pub walk-spec : {M : Type 1} → statement M
+walk-spec =
+    tie.close
+    (tie.spec
+    Inv-loop
+    μ-loop
+    loop-holds
+    advance-requires
+    cast-t18
+    same-length
+    same-length-2
+    same-length-3
+    returns
+    add-at
+    loop-less
+    loop-again
+    is-done-requires
+    cast-t20
+    same-length-4
+    same-length-5
+    same-length-6
+    returns-2)

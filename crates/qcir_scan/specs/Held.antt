@@ -1,0 +1,61 @@
+-- What the code's variables and arrays hold of the machine's state.
+-- Assumes nothing.
+use mathlib.Core.Bool.{Bool, true, _||_}
+use mathlib.Core.List.{List}
+use mathlib.Core.Path.{_≡_}
+use Prim.Native.Nat.{ℕ, _+_, _*_, _%_, _/_, _≤_, _<_}
+use lib.Dec.{eqb, leb}
+use lib.ListN.{length, take}
+use Rattle.lists.specs.Choice.{pick}
+use Rattle.qcir_tokens.specs.Held.{tokensFrom}
+use Rattle.qcir_text.specs.Machine.{State, start, run, alive, accepts, tokensOf}
+use Rattle.qcir_scan.specs.declared.Progress.{Progress}
+use Rattle.qcir_scan.specs.declared.Scanned.{Scanned}
+use Rattle.qcir_scan.specs.Places.{placeOf, spare}
+
+-- The highest number of a name.
+abbrev pub highest : ℕ
+highest = 65535
+
+-- The most tokens of a text.
+abbrev pub tokenLimit : ℕ
+tokenLimit = 32768
+
+-- The state after `at` bytes.
+unfoldable pub stateOf : Progress → ℕ → List ℕ → List ℕ → List ℕ → State
+stateOf q at roles numbers positions =
+    record { place = placeOf (q .place); taken = at; pending = record { number = q .number; position = q .begin }; tokens = tokensFrom roles numbers positions 0 (q .count) }
+
+-- The arrays have room for the tokens of any text.
+pub record Wide (roles numbers positions : List ℕ) : Type 0 where
+  pub roles-wide : length roles ≡ tokenLimit
+  pub numbers-wide : length numbers ≡ tokenLimit
+  pub positions-wide : length positions ≡ tokenLimit
+
+-- Variables and arrays hold the state after the first `at` bytes of the text.
+pub record Holds (text roles numbers positions : List ℕ) (at : ℕ) (q : Progress) : Type 0 where
+  pub state : run highest start (take at text) ≡ stateOf q at roles numbers positions
+  pub place-low : q .place < 124
+  pub number-low : q .number ≤ highest
+  pub begin-low : q .begin < 65536
+  pub room : 2 * q .count + spare (q .place) ≤ at
+  pub wide : Wide roles numbers positions
+
+-- The pending number after an entry that does `act`, on a byte with this digit.
+unfoldable pub numberAfter : ℕ → ℕ → ℕ → ℕ
+numberAfter act number digit = pick (leb act 24) number (pick (eqb act 25) digit (10 * number + digit))
+
+-- The position of the pending name.
+unfoldable pub beginAfter : ℕ → ℕ → ℕ → ℕ
+beginAfter act begin at = pick (eqb act 25) at begin
+
+-- How many tokens there are.
+unfoldable pub countAfter : ℕ → ℕ → ℕ
+countAfter act count = pick (eqb act 0 || leb 25 act) count (count + 1)
+
+-- What scanning a text answers, and leaves in the arrays.
+pub record Answers (text roles numbers positions : List ℕ) (r : Scanned) : Type 0 where
+  pub spelled-is : r .spelled ≡ accepts highest text
+  pub position-is : r .position ≡ alive highest start text
+  pub tokens-are : r .spelled ≡ true → tokensFrom roles numbers positions 0 (r .count) ≡ tokensOf highest text
+  pub few : r .count ≤ tokenLimit
