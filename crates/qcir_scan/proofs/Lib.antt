@@ -5,3 +5,4 @@ pub mod Rule
 pub mod Tokens
 pub mod Runs
 pub mod Steps
+pub mod Scans
