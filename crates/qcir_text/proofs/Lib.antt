@@ -5,3 +5,4 @@ pub mod Files
 pub mod Runs
 pub mod Words
 pub mod Complete
+pub mod Few
