@@ -18,6 +18,7 @@ use Rattle.qcir_text.proofs.Rows.{choose}
 use Rattle.qcir_text.proofs.Points.{start-ends, end-starts, name-once, word-within}
 use Rattle.qcir_text.proofs.Signs.{lineEnd, go, after, closes, emitted, after-zero, after-from}
 use Rattle.qcir_text.proofs.Files.{Takes, file-takes}
+use Rattle.qcir_text.proofs.Turns.{Read, whole, part, no-word, Number, within-most, too-high, Ended, line, blank, no-end, Between, by-space, by-end, by-sharp, by-digit, by-word, Turn, from-dead, no-header, in-header, end-header, no-count, first-space, end-headed, no-padding, next-space, first-count, end-padded, next-count, after-count, at-point, in-word, next-digit, after-name, in-comment, end-comment, turn}
 use Rattle.qcir_text.proofs.Runs.{st, run-append}
 use Rattle.qcir_text.proofs.Words.{afterWord, word-ready, word-digits}
 
@@ -326,36 +327,54 @@ starts-24 : point 24 .starts ≡ true
 unfolding points rowAt row
 starts-24 = refl
 
--- The file's end, read as a line's end, ends no token.
-end-tokens : (s : State) (c : ℕ) → endLine s c .tokens ≡ s .tokens
-unfolding endLine move
-end-tokens s c =
-    choose (λ (z : State). z .tokens ≡ s .tokens) (eqb (point c .ended) 0) _ _
-    (λ e. choose (λ (z : State). z .tokens ≡ s .tokens) (point c .starts) _ _ (λ q. refl) (λ q. refl)) (λ e. refl)
+-- The byte that leads to the start of a line ends no token.
+read-kept : {s z : State} {c : ℕ} {w : List ℕ} → Read s c w z → isDone (z .place) ≡ true → z .tokens ≡ s .tokens
+unfolding move emit isDone
+read-kept {c = c} {w = w} (whole n) d =
+    clash starts-24 (subst (λ k. point k .starts ≡ false) (eqb-true _ 24 d) (word-within c w n))
+read-kept (part e q) d = refl
+read-kept no-word d = refl
 
-end-word : (s : State) (c : ℕ) (w : List ℕ) → isDone (readWord s c w .place) ≡ true → readWord s c w .tokens ≡ s .tokens
-unfolding readWord move emit isDone
-end-word s c w =
-    choose (λ (z : State). isDone (z .place) ≡ true → z .tokens ≡ s .tokens) (eqb (arrowOf w (point c .words) .target) 0) _ _
-    (λ e. choose (λ (z : State). isDone (z .place) ≡ true → z .tokens ≡ s .tokens) (someBegins w (point c .words)) _ _ (λ q d. refl) (λ q d. refl))
-    (λ e d.
-    let t : arrowOf w (point c .words) .target ≡ 24 = eqb-true _ 24 d in
-    let q : point (arrowOf w (point c .words) .target) .starts ≡ false = word-within c w (eqb-false _ 0 e) in
-    clash starts-24 (subst (λ k. point k .starts ≡ false) t q))
+number-kept : {most : ℕ} {s z : State} {c n q : ℕ} → Number most s c n q z → z .tokens ≡ s .tokens
+unfolding move moveName
+number-kept (within-most l) = refl
+number-kept too-high = refl
 
-last-tokens : (most : ℕ) (s : State) (place : Place) → isDone (stepAt most s place 10 .place) ≡ true → stepAt most s place 10 .tokens ≡ s .tokens
-unfolding stepAt between isSpace isDigit pick move
-last-tokens most s dead d = refl
-last-tokens most s (heading []) d = refl
-last-tokens most s (heading (h ∷ [])) d = choose (λ (z : State). z .tokens ≡ s .tokens) (eqb 10 h) _ _ (λ e. refl) (λ e. refl)
-last-tokens most s (heading (h ∷ i ∷ hs)) d = choose (λ (z : State). z .tokens ≡ s .tokens) (eqb 10 h) _ _ (λ e. refl) (λ e. refl)
-last-tokens most s headed d = end-tokens s 1
-last-tokens most s padded d = end-tokens s 1
-last-tokens most s counted d = end-tokens s 1
-last-tokens most s (ready c) d = end-tokens s c
-last-tokens most s (inside c w) d = end-word s c (w ++ (10 ∷ [])) d
-last-tokens most s (digits c) d = end-tokens s c
-last-tokens most s (comment c) d = refl
+ended-kept : {s z : State} {c : ℕ} → Ended s c z → z .tokens ≡ s .tokens
+unfolding move
+ended-kept (line n) = refl
+ended-kept (blank e) = refl
+ended-kept no-end = refl
+
+between-kept : {most : ℕ} {s z : State} {c b : ℕ} → Between most s c b z → isDone (z .place) ≡ true → z .tokens ≡ s .tokens
+unfolding move
+between-kept (by-space e) d = refl
+between-kept (by-end e r) d = ended-kept r
+between-kept (by-sharp e q) d = refl
+between-kept (by-digit e n r) d = number-kept r
+between-kept (by-word r) d = read-kept r d
+
+turn-kept : {most : ℕ} {s z : State} {b : ℕ} {place : Place} → Turn most s b place z → isDone (z .place) ≡ true → z .tokens ≡ s .tokens
+unfolding move
+turn-kept from-dead d = refl
+turn-kept no-header d = refl
+turn-kept (in-header e) d = refl
+turn-kept (end-header e) d = refl
+turn-kept no-count d = refl
+turn-kept (first-space e) d = refl
+turn-kept (end-headed e r) d = ended-kept r
+turn-kept no-padding d = refl
+turn-kept (next-space e) d = refl
+turn-kept (first-count e) d = refl
+turn-kept (end-padded e r) d = ended-kept r
+turn-kept (next-count e) d = refl
+turn-kept (after-count r) d = between-kept r d
+turn-kept (at-point r) d = between-kept r d
+turn-kept (in-word r) d = read-kept r d
+turn-kept (next-digit e r) d = number-kept r
+turn-kept (after-name r) d = between-kept r d
+turn-kept (in-comment e) d = refl
+turn-kept (end-comment e) d = refl
 
 -- A machine that stands at point 24 is done.
 stands-done : (place : Place) → Open 24 [] place → isDone place ≡ true
@@ -395,8 +414,8 @@ spells-reach {most} {text} {f} s =
     subst (λ k. Reached k (fileTokens f) (step most (run most start text) 10)) (takes .0) (carry e (takes .1) r)
 
 pub complete : {most : ℕ} {text : List ℕ} {f : File} → Spells most text f → (accepts most text ≡ true) × (tokensOf most text ≡ fileTokens f)
-unfolding accepts tokensOf step
+unfolding accepts tokensOf
 complete {most} {text} {f} s =
     let r = spells-reach s in
     let done = stands-done _ (r .stands) in
-    (done, sym (last-tokens most (run most start text) (run most start text .place) done) ∙ r .collected)
+    (done, sym (turn-kept (turn most (run most start text) 10) done) ∙ r .collected)

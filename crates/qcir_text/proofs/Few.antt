@@ -14,7 +14,7 @@ use Rattle.qcir.specs.Spelling.{isSpace, isDigit}
 use Rattle.qcir_tokens.specs.Tokens.{Token, token}
 use Rattle.qcir_text.specs.Machine.{Arrow, Row, row, rowAt, arrow, arrowOf, point, points, Place, dead, heading, headed, padded, counted, ready, inside, digits, comment, State, start, run, step, stepAt, between, readWord, readDigit, endLine, move, moveName, emit, tokensOf, someBegins}
 use Rattle.qcir_text.proofs.Rows.{choose, every, passes, everyArrow, arrow-passes}
-use Rattle.qcir_text.proofs.Runs.{run-taken}
+use Rattle.qcir_text.proofs.Turns.{Read, whole, part, no-word, Number, within-most, too-high, Ended, line, blank, no-end, Between, by-space, by-end, by-sharp, by-digit, by-word, Turn, from-dead, no-header, in-header, end-header, no-count, first-space, end-headed, no-padding, next-space, first-count, end-padded, next-count, after-count, at-point, in-word, next-digit, after-name, in-comment, end-comment, turn, run-taken}
 
 -- The bytes taken since the last token that its two bytes do not count: at each point, and at each place.
 unfoldable spare : ℕ → ℕ
@@ -84,58 +84,58 @@ unfolding pick
 emit-paid true ts t = omega arith
 emit-paid false ts t = simp length-append (omega arith)
 
-word-step : (s : State) (c : ℕ) (w : List ℕ) → 2 * length (s .tokens) + (spare c + length w) ≤ suc (s .taken) → Paid (readWord s c w)
-unfolding readWord move emit spareAt price
-word-step s c w h =
-    choose Paid (eqb (arrowOf w (point c .words) .target) 0) _ _
-    (λ e. choose Paid (someBegins w (point c .words)) _ _ (λ q. omega arith) (λ q. omega arith))
-    (λ e.
-    omega (arith, word-paid c w (eqb-false _ 0 e), emit-paid (eqb (arrowOf w (point c .words) .role) 0) (s .tokens) (token (arrowOf w (point c .words) .role) (s .pending))))
+read-paid : {s z : State} {c : ℕ} {w : List ℕ} → Read s c w z → 2 * length (s .tokens) + (spare c + length w) ≤ suc (s .taken) → Paid z
+unfolding move emit spareAt price
+read-paid {s} {z} {c} {w} (whole n) h =
+    omega (arith, word-paid c w n, emit-paid (eqb (arrowOf w (point c .words) .role) 0) (s .tokens) (token (arrowOf w (point c .words) .role) (s .pending)))
+read-paid (part e q) h = omega arith
+read-paid no-word h = omega arith
 
-end-step : (s : State) (c : ℕ) → Before s c → Paid (endLine s c)
-unfolding endLine move spareAt
-end-step s c h =
-    choose Paid (eqb (point c .ended) 0) _ _ (λ e. choose Paid (point c .starts) _ _ (λ q. omega arith) (λ q. omega arith))
-    (λ e. omega (arith, end-paid c (eqb-false _ 0 e)))
+number-paid : {most : ℕ} {s z : State} {c n q : ℕ} → Number most s c n q z → 2 * length (s .tokens) + spare c ≤ suc (s .taken) → Paid z
+unfolding move moveName spareAt
+number-paid (within-most l) h = omega arith
+number-paid too-high h = omega arith
 
-digit-step : (most : ℕ) (s : State) (c n q : ℕ) → 2 * length (s .tokens) + spare c ≤ suc (s .taken) → Paid (readDigit most s c n q)
-unfolding readDigit move moveName spareAt
-digit-step most s c n q h = choose Paid (leb n most) _ _ (λ e. omega arith) (λ e. omega arith)
+ended-paid : {s z : State} {c : ℕ} → Ended s c z → Before s c → Paid z
+unfolding move spareAt
+ended-paid {s} {z} {c} (line n) h = omega (arith, end-paid c n)
+ended-paid (blank e) h = omega arith
+ended-paid no-end h = omega arith
 
-between-step : (most : ℕ) (s : State) (c b : ℕ) → Before s c → Paid (between most s c b)
-unfolding between move spareAt
-between-step most s c b h =
-    choose Paid (isSpace b) _ _ (λ e. omega arith)
-    (λ e. choose Paid (eqb b 10) _ _ (λ e. end-step s c h)
-    (λ e. choose Paid (eqb b 35 && point c .starts) _ _ (λ e. omega arith)
-    (λ e. choose Paid (leb 49 b && leb b 57 && not (eqb (point c .named) 0)) _ _
-    (λ e.
-    let n : eqb (point c .named) 0 ≡ false = not-true _ (and-right (leb 49 b && leb b 57) _ e) in
-    digit-step most s (point c .named) (b - 48) (s .taken) (omega (arith, name-paid c (eqb-false _ 0 n))))
-    (λ e. word-step s c (b ∷ []) (omega arith)))))
+between-paid : {most : ℕ} {s z : State} {c b : ℕ} → Between most s c b z → Before s c → Paid z
+unfolding move spareAt
+between-paid (by-space e) h = omega arith
+between-paid (by-end e r) h = ended-paid r h
+between-paid (by-sharp e q) h = omega arith
+between-paid {c = c} (by-digit e n r) h = number-paid r (omega (arith, name-paid c n))
+between-paid (by-word r) h = read-paid r (omega arith)
 
-step-paid : (most : ℕ) (s : State) (place : Place) (b : ℕ) → 2 * length (s .tokens) + spareAt place ≤ s .taken → Paid (stepAt most s place b)
-unfolding stepAt move spareAt spare
-step-paid most s dead b h = omega arith
-step-paid most s (heading []) b h = omega arith
-step-paid most s (heading (i ∷ [])) b h = choose Paid (eqb b i) _ _ (λ e. omega arith) (λ e. omega arith)
-step-paid most s (heading (i ∷ j ∷ hs)) b h = choose Paid (eqb b i) _ _ (λ e. omega arith) (λ e. omega arith)
-step-paid most s headed b h =
-    choose Paid (isSpace b) _ _ (λ e. omega arith) (λ e. choose Paid (eqb b 10) _ _ (λ e. end-step s 1 h) (λ e. omega arith))
-step-paid most s padded b h =
-    choose Paid (isSpace b) _ _ (λ e. omega arith)
-    (λ e. choose Paid (isDigit b) _ _ (λ e. omega arith) (λ e. choose Paid (eqb b 10) _ _ (λ e. end-step s 1 h) (λ e. omega arith)))
-step-paid most s counted b h = choose Paid (isDigit b) _ _ (λ e. omega arith) (λ e. between-step most s 1 b h)
-step-paid most s (ready c) b h = between-step most s c b h
-step-paid most s (inside c w) b h = word-step s c (w ++ (b ∷ [])) (omega (arith, length-append w (b ∷ [])))
-step-paid most s (digits c) b h =
-    choose Paid (isDigit b) _ _ (λ e. digit-step most s c _ _ (omega arith)) (λ e. between-step most s c b h)
-step-paid most s (comment c) b h = choose Paid (eqb b 10) _ _ (λ e. omega arith) (λ e. omega arith)
+turn-paid : {most : ℕ} {s z : State} {b : ℕ} {place : Place} → Turn most s b place z → 2 * length (s .tokens) + spareAt place ≤ s .taken → Paid z
+unfolding move spareAt spare
+turn-paid from-dead h = omega arith
+turn-paid no-header h = omega arith
+turn-paid (in-header e) h = omega arith
+turn-paid (end-header e) h = omega arith
+turn-paid no-count h = omega arith
+turn-paid (first-space e) h = omega arith
+turn-paid (end-headed e r) h = ended-paid r h
+turn-paid no-padding h = omega arith
+turn-paid (next-space e) h = omega arith
+turn-paid (first-count e) h = omega arith
+turn-paid (end-padded e r) h = ended-paid r h
+turn-paid (next-count e) h = omega arith
+turn-paid (after-count r) h = between-paid r h
+turn-paid (at-point r) h = between-paid r h
+turn-paid {b = b} (in-word {w = w} r) h = read-paid r (omega (arith, length-append w (b ∷ [])))
+turn-paid (next-digit e r) h = number-paid r (omega arith)
+turn-paid (after-name r) h = between-paid r h
+turn-paid (in-comment e) h = omega arith
+turn-paid (end-comment e) h = omega arith
 
 run-paid : (most : ℕ) (s : State) (t : List ℕ) → Paid s → Paid (run most s t)
-unfolding run step
+unfolding run
 run-paid most s [] h = h
-run-paid most s (b ∷ t) h = run-paid most (step most s b) t (step-paid most s (s .place) b h)
+run-paid most s (b ∷ t) h = run-paid most (step most s b) t (turn-paid (turn most s b) h)
 
 pub few : (most : ℕ) (text : List ℕ) → 2 * length (tokensOf most text) ≤ length text
 unfolding tokensOf start spareAt

@@ -2,6 +2,7 @@ pub mod Rows
 pub mod Points
 pub mod Signs
 pub mod Files
+pub mod Turns
 pub mod Runs
 pub mod Words
 pub mod Complete

@@ -24,57 +24,6 @@ unfolding run
 run-append most s [] b = refl
 run-append most s (x ∷ a) b = run-append most (step most s x) a b
 
--- Each step takes one byte.
-abbrev Taken : State → State → Type 0
-Taken s z = z .taken ≡ suc (s .taken)
-
-word-taken : (s : State) (c : ℕ) (w : List ℕ) → Taken s (readWord s c w)
-unfolding readWord move emit
-word-taken s c w =
-    choose (Taken s) (eqb (arrowOf w (point c .words) .target) 0) _ _
-    (λ e. choose (Taken s) (someBegins w (point c .words)) _ _ (λ q. refl) (λ q. refl)) (λ e. refl)
-
-end-taken : (s : State) (c : ℕ) → Taken s (endLine s c)
-unfolding endLine move
-end-taken s c =
-    choose (Taken s) (eqb (point c .ended) 0) _ _ (λ e. choose (Taken s) (point c .starts) _ _ (λ q. refl) (λ q. refl)) (λ e. refl)
-
-digit-taken : (most : ℕ) (s : State) (c n q : ℕ) → Taken s (readDigit most s c n q)
-unfolding readDigit move moveName
-digit-taken most s c n q = choose (Taken s) (leb n most) _ _ (λ e. refl) (λ e. refl)
-
-between-taken : (most : ℕ) (s : State) (c b : ℕ) → Taken s (between most s c b)
-unfolding between move
-between-taken most s c b =
-    choose (Taken s) (isSpace b) _ _ (λ e. refl)
-    (λ e. choose (Taken s) (eqb b 10) _ _ (λ e. end-taken s c)
-    (λ e. choose (Taken s) (eqb b 35 && point c .starts) _ _ (λ e. refl)
-    (λ e. choose (Taken s) (leb 49 b && leb b 57 && not (eqb (point c .named) 0)) _ _
-    (λ e. digit-taken most s (point c .named) (b - 48) (s .taken)) (λ e. word-taken s c (b ∷ [])))))
-
-step-taken : (most : ℕ) (s : State) (place : Place) (b : ℕ) → Taken s (stepAt most s place b)
-unfolding stepAt move
-step-taken most s dead b = refl
-step-taken most s (heading []) b = refl
-step-taken most s (heading (i ∷ [])) b = choose (Taken s) (eqb b i) _ _ (λ e. refl) (λ e. refl)
-step-taken most s (heading (i ∷ j ∷ hs)) b = choose (Taken s) (eqb b i) _ _ (λ e. refl) (λ e. refl)
-step-taken most s headed b =
-    choose (Taken s) (isSpace b) _ _ (λ e. refl) (λ e. choose (Taken s) (eqb b 10) _ _ (λ e. end-taken s 1) (λ e. refl))
-step-taken most s padded b =
-    choose (Taken s) (isSpace b) _ _ (λ e. refl)
-    (λ e. choose (Taken s) (isDigit b) _ _ (λ e. refl) (λ e. choose (Taken s) (eqb b 10) _ _ (λ e. end-taken s 1) (λ e. refl)))
-step-taken most s counted b = choose (Taken s) (isDigit b) _ _ (λ e. refl) (λ e. between-taken most s 1 b)
-step-taken most s (ready c) b = between-taken most s c b
-step-taken most s (inside c w) b = word-taken s c (w ++ (b ∷ []))
-step-taken most s (digits c) b =
-    choose (Taken s) (isDigit b) _ _ (λ e. digit-taken most s c _ _) (λ e. between-taken most s c b)
-step-taken most s (comment c) b = choose (Taken s) (eqb b 10) _ _ (λ e. refl) (λ e. refl)
-
-pub run-taken : (most : ℕ) (s : State) (t : List ℕ) → run most s t .taken ≡ s .taken + length t
-unfolding run step
-run-taken most s [] = omega arith
-run-taken most s (b ∷ t) = omega (arith, run-taken most (step most s b) t, step-taken most s (s .place) b)
-
 -- A byte that is no space, no line's end, no comment's sign and no digit belongs to a word.
 unfoldable pub plain : ℕ → Bool
 plain b = not (isSpace b) && (not (eqb b 10) && (not (eqb b 35) && not (isDigit b)))
