@@ -7,3 +7,4 @@ pub mod Runs
 pub mod Words
 pub mod Complete
 pub mod Few
+pub mod Grammar
