@@ -8,3 +8,4 @@ pub mod Words
 pub mod Complete
 pub mod Few
 pub mod Grammar
+pub mod Sound
