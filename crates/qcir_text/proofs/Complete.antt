@@ -377,7 +377,7 @@ turn-kept (in-comment e) d = refl
 turn-kept (end-comment e) d = refl
 
 -- A machine that stands at point 24 is done.
-stands-done : (place : Place) → Open 24 [] place → isDone place ≡ true
+pub stands-done : (place : Place) → Open 24 [] place → isDone place ≡ true
 unfolding isDone lineNext points rowAt row
 stands-done place o-ready = refl
 stands-done place (o-digits d) = absurd (omega (arith, d))

@@ -9,3 +9,4 @@ pub mod Complete
 pub mod Few
 pub mod Grammar
 pub mod Sound
+pub mod Live
