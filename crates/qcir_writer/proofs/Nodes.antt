@@ -198,3 +198,23 @@ module _ (p : Progress) (g x : ℕ) (low : g < 65536) where
   pub small-operand : (role : ℕ) → p .next ≤ limit → addOperand p g role x .progress .next ≤ limit → addOperand p g role x .progress .node < 65535
   unfolding addOperand
   small-operand role m n = small-operand-of (addNode p 1 (emptyConstant (p .kind)) 0 0) (eqb role emptyRole) role (omega arith) n
+
+-- The gate's list starts no later than what is listed so far, still so after a writer.
+pub first-le : {o m : List ℕ} {p q : Progress} {a : Added} → Wrote o p a m q → Follows p a → p .first ≤ p .listed → q .first ≤ q .listed
+first-le {q = q} w f h =
+    let e = ap (λ s. s .first) (w .progress-is) in
+    let d = ap (λ s. s .listed) (w .progress-is) in
+    omega (arith, f .first-kept, f .listed-kept)
+
+-- One more than the node of a gate that is closed can be held in 16 bits.
+pub closed-small : {o m l : List ℕ} {p q r : Progress} (g role x : ℕ) → g < 65536 → Wrote o p (addOperand p g role x) m q → Wrote m q (addBlock q) l r
+    → Room o (addOperand p g role x) → r .node < 65535
+closed-small {p = p} {q = q} {r = r} g role x low u v room =
+    let f = follows-operand p g role x in
+    let n : p .next ≤ limit = omega (arith, room .small) in
+    let e : q .node ≡ addOperand p g role x .progress .node = ap (λ s. s .node) (u .progress-is) in
+    let d : q .next ≡ addOperand p g role x .progress .next = ap (λ s. s .next) (u .progress-is) in
+    let s = small-operand p g x low role n (room .small) in
+    let b = small-block q (omega (arith, room .small)) (omega arith) in
+    let z : r .node ≡ addBlock q .progress .node = ap (λ s. s .node) (v .progress-is) in
+    omega arith

@@ -1,76 +1,84 @@
-use native.Mathlib.Omega.{arith}
+-- `qcir_writer::write_use` meets its contract: what the token adds, and at the last one the gate's block and node.
+-- Assumes nothing.
+use mathlib.Core.Path.{sym, _∙_}
+use borrow.Author.Tests.{not-true, not-false}
+use Rattle.lists.specs.Choice.{pick-yes, pick-no}
+use Rattle.qcir_writer.proofs.Nodes.{follows-operand, follows-end, room-first, room-second, room-yes, wrote-then, wrote-yes, wrote-no, wrote-none, first-le, closed-small}
+use Rattle.qcir_writer.specs.Nodes.{addUse, addEnd}
 use borrow.Author.Needs.{needs}
+use native.Mathlib.Omega.{arith}
 use Rattle.qcir_writer.proofs.write_use.Statement.{statement}
 use Rattle.qcir_writer.proofs.write_use.Tie as tie
-use Rattle.qcir_writer.proofs.write_use.Reads as reads
-use Rattle.qcir_writer.proofs.write_use.Lts as lts
-use Rattle.qcir_tokens.proofs.is_last.Reads as is-last-reads
-use Rattle.qcir_writer.proofs.write_block.Reads as write-block-reads
-use Rattle.qcir_writer.proofs.write_operand.Reads as write-operand-reads
 
--- src/lib.rt:226:16
 mul-gate : tie.Need-mul-gate
 mul-gate c = search needs
 
--- src/lib.rt:226:16
 slice-read-gate : tie.Need-slice-read-gate
 slice-read-gate c = search needs
 
--- src/lib.rt:226:16
 cast-gate : tie.Need-cast-gate
-cast-gate c = ?
+cast-gate c = omega (arith, c .slice-known3 .given (c .before .before .before .args .x))
 
--- src/lib.rt:227:9
 write-operand-requires : tie.Need-write-operand-requires
-write-operand-requires c κs = ?
+unfolding addUse
+write-operand-requires c κs = room-first _ _ _ (follows-end _) (c .before .before .before .before .pre .1 .1)
 
--- src/lib.rt:228:9
 is-last-requires : tie.Need-is-last-requires
 is-last-requires c κs = search needs
 
--- src/lib.rt:229:9
 same-length : tie.Need-same-length
 same-length c = search needs
 
--- src/lib.rt:229:9
 returns : tie.Need-returns
-returns c = ?
+unfolding addUse addEnd
+returns c =
+    let t = sym (c .before .is-last .ensures) ∙ not-true _ (c .if1 .taken) in
+    (wrote-then _ _ _ (follows-end (c .before .before .before .before .before .before .before .before .before .args .role)) (c .before .before .before .before .before .before .before .before .before .pre .1 .1) _ _ _ _ _ (c .before .before .before .before .write-operand .ensures) (wrote-no _ _ _ _ _ _ _ t (wrote-none _ _ _)) (follows-operand _ _ _ _), sym (pick-no _ _ _ t))
 
--- src/lib.rt:231:9
 write-block-requires : tie.Need-write-block-requires
-write-block-requires c κs = ?
+unfolding addUse addEnd
+write-block-requires c κs =
+    let s = c .before .before .before .before .before .before .before .before .before .before in
+    let w = c .before .before .before .before .before .write-operand in
+    let t = sym (c .before .before .is-last .ensures) ∙ not-false _ (c .before .if1 .left) in
+    (first-le (w .ensures) (follows-operand _ _ _ _) (s .pre .0), room-yes _ _ _ _ t (room-second _ _ _ (follows-end (s .args .role)) (s .pre .1 .1) _ _ _ (w .ensures) (w .kept .0)))
 
--- src/lib.rt:232:31
 add-nodes : tie.Need-add-nodes
-add-nodes c = ?
+unfolding addUse
+add-nodes c =
+    let s = c .before .before .before .before .before .before .before .before .before .before .before .before .before .before in
+    let r = room-first _ _ _ (follows-end _) (s .pre .1 .1) in
+    let n = closed-small _ _ _ (omega (arith, c .before .before .before .before .before .before .before .before .before .before .before .slice-known3 .given (s .args .x))) (c .before .before .before .before .before .before .before .before .before .write-operand .ensures) (c .before .before .before .write-block .ensures) r in
+    omega arith
 
--- src/lib.rt:232:30
 cast-nodes : tie.Need-cast-nodes
-cast-nodes c = ?
+unfolding addUse
+cast-nodes c =
+    let s = c .before .before .before .before .before .before .before .before .before .before .before .before .before .before in
+    let r = room-first _ _ _ (follows-end _) (s .pre .1 .1) in
+    let n = closed-small _ _ _ (omega (arith, c .before .before .before .before .before .before .before .before .before .before .before .slice-known3 .given (s .args .x))) (c .before .before .before .before .before .before .before .before .before .write-operand .ensures) (c .before .before .before .write-block .ensures) r in
+    omega arith
 
--- src/lib.rt:232:11
 cast-nodes-2 : tie.Need-cast-nodes-2
 cast-nodes-2 c = search needs
 
--- src/lib.rt:232:5
 mul-nodes : tie.Need-mul-nodes
 mul-nodes c = search needs
 
--- src/lib.rt:232:5
 slice-write-nodes : tie.Need-slice-write-nodes
 slice-write-nodes c = search needs
 
--- src/lib.rt:219:1
 same-length-2 : tie.Need-same-length-2
 same-length-2 c = search needs
 
--- src/lib.rt:219:1
 same-length-3 : tie.Need-same-length-3
 same-length-3 c = search needs
 
--- src/lib.rt:219:1
 returns-2 : tie.Need-returns-2
-returns-2 c = ?
+unfolding addUse addEnd
+returns-2 c =
+    let t = sym (c .before .before .before .before .before .before .before .is-last .ensures) ∙ not-false _ (c .before .before .before .before .before .before .if1 .left) in
+    (wrote-then _ _ _ (follows-end (c .before .before .before .before .before .before .before .before .before .before .before .before .before .before .before .args .role)) (c .before .before .before .before .before .before .before .before .before .before .before .before .before .before .before .pre .1 .1) _ _ _ _ _ (c .before .before .before .before .before .before .before .before .before .before .write-operand .ensures) (wrote-yes _ _ _ _ _ _ _ t (c .before .before .before .before .write-block .ensures)) (follows-operand _ _ _ _), sym (pick-yes _ _ _ t))
 
 pub write-use-spec : {M : Type 1} → statement M
 write-use-spec =
