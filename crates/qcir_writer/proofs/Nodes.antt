@@ -10,7 +10,7 @@ use lib.Dec.{eqb, leb}
 use lib.ListN.{length, length-append}
 use Rattle.lists.specs.Choice.{pick, pick-yes, pick-no}
 use Rattle.lists.specs.Parts.{overwrite}
-use Rattle.lists.proofs.Overwrite.{overwrite-nil, overwrite-append}
+use Rattle.lists.proofs.Overwrite.{overwrite-nil}
 use Rattle.formula.specs.Words.{width}
 use Rattle.table_check.specs.Verdict.{limit}
 use Rattle.qcir_tokens.specs.Tokens.{isMinus, isLast, emptyRole}
@@ -35,6 +35,7 @@ use Rattle.qcir_writer.specs.Nodes.{
   Room,
   Wrote,
 }
+use Rattle.qcir_writer.proofs.Appending.{write-after}
 
 -- The words added are those of the nodes added, and the rest is as it was.
 pub record Follows (p : Progress) (a : Added) : Type 0 where
@@ -149,7 +150,7 @@ module _ (o : List ℕ) (a : Added) (f : Progress → Added) (follows : (q : Pro
       let e : width * a .progress .next ≡ width * p .next + length (a .words) = sym (h .counted) in
       record {
         words-are =
-        v2 .words-are ∙ rw (u .words-are, e) (overwrite-append o (width * p .next) (a .words) (f (a .progress) .words) (omega (arith, room .fits)));
+        write-after o m l (width * p .next) (width * a .progress .next) (a .words) (f (a .progress) .words) (u .words-are) (v2 .words-are) e (omega (arith, room .fits));
         progress-is = v2 .progress-is;
       }
 

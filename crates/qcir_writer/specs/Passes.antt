@@ -14,7 +14,7 @@ use Rattle.qcir.specs.Table.{Draft, emptyDraft}
 use Rattle.qcir_tokens.specs.Tokens.{isOuter, isLast}
 use Rattle.qcir_tokens.specs.Held.{numberCount}
 use Rattle.qcir_writer.specs.declared.Progress.{Progress}
-use Rattle.qcir_writer.specs.Nodes.{Added, moved, lengthened, addToken, tokenEntries}
+use Rattle.qcir_writer.specs.Nodes.{Added, moved, lengthened, addNone, addToken, tokenEntries}
 
 abbrev pub noProgress : Progress
 noProgress = record { next = 0; listed = 0; node = 0; kind = 0; gate = 0; ready = false; first = 0 }
@@ -63,6 +63,10 @@ addLine p role count =
       progress = lengthened (moved p (p .next + 1) (p .next)) count;
     }
 
+-- The same where a line starts, else nothing.
+unfoldable pub addIfLine : Progress → ℕ → ℕ → Added
+addIfLine p role count = pick (startsLine role) (addLine p role count) (addNone p)
+
 -- What the prefix lines add, and the variables passed that belong to the line whose first entry is still to come.
 pub record Lines : Type 0 where
   pub words : List ℕ
@@ -73,10 +77,13 @@ pub record Lines : Type 0 where
 unfoldable pub addOuter : ℕ → ℕ → Lines → Lines
 addOuter role x s =
     let xs = x ∷ s .pending in
-    let a = addLine (s .progress) role (length xs) in
-    pick (startsLine role)
-    (record { words = s .words ++ a .words; entries = s .entries ++ xs; progress = a .progress; pending = [] })
-    (record { words = s .words; entries = s .entries; progress = s .progress; pending = xs })
+    let a = addIfLine (s .progress) role (length xs) in
+    record {
+      words = s .words ++ a .words;
+      entries = s .entries ++ pick (startsLine role) xs [];
+      progress = a .progress;
+      pending = pick (startsLine role) [] xs;
+    }
 
 -- What the n outer tokens from token i on add, the last first.
 unfoldable pub linesWritten : List ℕ → List ℕ → Progress → ℕ → ℕ → Lines

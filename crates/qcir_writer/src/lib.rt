@@ -8,6 +8,7 @@ ghost use lib.ListN.{length, getD, set};
 ghost use lib.Seq.{slice};
 ghost use Rattle.lists.specs.Choice.{pick};
 ghost use Rattle.lists.specs.Parts.{overwrite};
+ghost use Rattle.formula.specs.Words.{width};
 ghost use Rattle.table_check.specs.Verdict.{limit};
 ghost use Rattle.qcir.specs.File.{File};
 ghost use Rattle.qcir.specs.Table.{tableWords, tableList};
@@ -37,6 +38,7 @@ ghost use Rattle.qcir_writer.specs.Passes.{
   startsLine,
   lineBlockKind,
   addLine,
+  addIfLine,
   linesWritten,
   NodesOf,
 };
@@ -365,4 +367,88 @@ fn write_line(
     let mut q = write_node(words, p, line_block_kind(role), p.listed, count, p.node);
     q.listed = p.listed + count;
     q
+}
+
+// Writes the prefix lines as blocks over what was stored last, the last line first. Their tokens are
+// among the outer ones, which are those before `outer`.
+fn write_lines(
+    roles: &[u8],
+    numbers: &[u16],
+    outer: usize,
+    words: &mut [u32],
+    list: &mut [u32],
+    start: Progress,
+)
+    requires { ⌜ (outer ≤ length (now roles)) × (outer ≤ length (now numbers)) ⌝ }
+    requires { ⌜ (width * linesWritten (now roles) (now numbers) start 0 outer .progress .next ≤ length (now words)) × (linesWritten (now roles) (now numbers) start 0 outer .progress .next ≤ limit) ⌝ }
+    requires { ⌜ (linesWritten (now roles) (now numbers) start 0 outer .progress .listed ≤ length (now list)) × (linesWritten (now roles) (now numbers) start 0 outer .progress .listed ≤ limit) ⌝ }
+    ensures { λ r. ⌜ now (words .exit) ≡ overwrite (now (words .entry)) (width * start .next) (linesWritten (now (roles .entry)) (now (numbers .entry)) start 0 outer .words) ⌝ }
+    ensures { λ r. ⌜ now (list .exit) ≡ overwrite (now (list .entry)) (start .listed) (linesWritten (now (roles .entry)) (now (numbers .entry)) start 0 outer .entries) ⌝ }
+{
+    let mut p = start;
+    let mut end = outer;
+    let mut i = outer;
+    while 0 < i {
+        i -= 1;
+        p = write_outer(words, list, p, roles[i], numbers, i, end);
+        end = line_end(roles[i], i, end);
+    }
+}
+
+// Where the line before token i ends: at i if a line starts there, else where the line of i ends.
+fn line_end(role: u8, i: usize, end: usize) -> usize
+    ensures { λ r. ⌜ r ≡ pick (startsLine role) i end ⌝ }
+{
+    if starts_line(role) {
+        return i;
+    }
+    end
+}
+
+// Writes the block of the prefix line that starts with token i and ends before `end`, if one starts
+// there.
+fn write_outer(
+    words: &mut [u32],
+    list: &mut [u32],
+    p: Progress,
+    role: u8,
+    numbers: &[u16],
+    i: usize,
+    end: usize,
+) -> Progress
+    requires { ⌜ (i ≤ end) × (end ≤ length (now numbers)) ⌝ }
+    requires { ⌜ Room (now words) (addIfLine p role (end - i)) ⌝ }
+    requires { ⌜ (addIfLine p role (end - i) .progress .listed ≤ length (now list)) × (addIfLine p role (end - i) .progress .listed ≤ limit) ⌝ }
+    ensures { λ r. ⌜ Wrote (now (words .entry)) p (addIfLine p role (end - i)) (now (words .exit)) r ⌝ }
+    ensures { λ r. ⌜ now (list .exit) ≡ overwrite (now (list .entry)) (p .listed) (pick (startsLine role) (slice i end (now (numbers .entry))) []) ⌝ }
+{
+    if starts_line(role) {
+        return write_line(words, list, p, role, numbers, i, end);
+    }
+    p
+}
+
+// Writes the formula table of the file whose tokens are the first `count`: its nodes to the start of
+// `words`, its list to the start of `list`.
+//
+// The contract rules out a writer that takes inputs from right to left, one that leaves out a not, one
+// by which or() is 1, and one by which the first prefix line is lowest.
+pub fn write_table(roles: &[u8], numbers: &[u16], count: usize, words: &mut [u32], list: &mut [u32])
+    requires { ⌜ Writable (now roles) (now numbers) count (now words) (now list) ⌝ }
+    ensures { λ r. ⌜ ((f : File) (ps : List ℕ) → tokensFrom (now (roles .entry)) (now (numbers .entry)) ps 0 count ≡ fileTokens f → (now (words .exit) ≡ overwrite (now (words .entry)) 0 (tableWords f)) × (now (list .exit) ≡ overwrite (now (list .entry)) 0 (tableList f))) ⌝ }
+{
+    let mut nodes = [0u16; NUMBERS];
+    let output = output_index(roles, count);
+    let p = write_gates(roles, numbers, output + 1, count, words, list, &mut nodes);
+    let q = write_output(roles[output], numbers[output], words, &nodes, p);
+    write_lines(roles, numbers, output, words, list, q);
+}
+
+// Writes the output: the node of its name, and its not.
+fn write_output(role: u8, x: u16, words: &mut [u32], nodes: &[u16], p: Progress) -> Progress
+    requires { ⌜ length (now nodes) ≡ numberCount ⌝ }
+    requires { ⌜ Room (now words) (addLiteral p (getD (now nodes) x 0) x (isMinus role)) ⌝ }
+    ensures { λ r. ⌜ Wrote (now (words .entry)) p (addLiteral p (getD (now (nodes .entry)) x 0) x (isMinus role)) (now (words .exit)) r ⌝ }
+{
+    write_literal(words, p, nodes[x as usize] as u32, x as u32, is_minus(role))
 }

@@ -1,67 +1,66 @@
+-- `qcir_writer::copy_numbers` meets its contract. The loop's invariant: the numbers from i up to k are copied. The measure is how many are left.
+-- Assumes nothing.
+use mathlib.Core.Path.{_≡_, refl, sym, _∙_}
+use Prim.Native.Nat.{_+_, _-_, _≤_}
+use lib.ListN.{length, getD, length-set}
+use lib.Seq.{slice}
+use Rattle.lists.specs.Parts.{overwrite}
+use Rattle.qcir_writer.proofs.Appending.{copy-start, copy-next}
 use borrow.Author.Needs.{needs}
 use native.Mathlib.Omega.{arith}
 use Rattle.qcir_writer.proofs.copy_numbers.Statement.{statement}
 use Rattle.qcir_writer.proofs.copy_numbers.Tie as tie
-use Rattle.qcir_writer.proofs.copy_numbers.Reads as reads
-use Rattle.qcir_writer.proofs.copy_numbers.Lts as lts
 
 abbrev Inv-loop : tie.InvT-loop
-Inv-loop list₀ at numbers i end k₀ list k = ?
+Inv-loop list₀ at numbers i end k₀ list k = (i ≤ k) × (k ≤ end) × (length list ≡ length list₀) × (list ≡ overwrite list₀ at (slice i k numbers))
 
 abbrev μ-loop : tie.MeasureT-loop
-μ-loop list₀ at numbers i end k₀ list k = ?
+μ-loop list₀ at numbers i end k₀ list k = end - k
 
--- src/lib.rt:342:5
 loop-holds : tie.Need-loop-holds Inv-loop μ-loop
-loop-holds c = ?
+loop-holds c = (omega arith, c .pre .0, refl, copy-start (c .args .list .now) (c .args .at) (c .args .i) (c .args .numbers .now))
 
--- src/lib.rt:343:30
 mul-list : tie.Need-mul-list Inv-loop μ-loop
-mul-list c = ?
+mul-list c = search needs
 
--- src/lib.rt:343:30
 shared-slice-read-list : tie.Need-shared-slice-read-list Inv-loop μ-loop
-shared-slice-read-list c = ?
+shared-slice-read-list c = search needs
 
--- src/lib.rt:343:30
 cast-list : tie.Need-cast-list Inv-loop μ-loop
-cast-list c = ?
+cast-list c = omega (arith, c .shared-slice-known .given (c .before .before .loop .k))
 
--- src/lib.rt:343:20
 sub-list : tie.Need-sub-list Inv-loop μ-loop
-sub-list c = ?
+sub-list c = search needs
 
--- src/lib.rt:343:14
 add-list : tie.Need-add-list Inv-loop μ-loop
-add-list c = ?
+add-list c = search needs
 
--- src/lib.rt:343:9
 mul-list-2 : tie.Need-mul-list-2 Inv-loop μ-loop
-mul-list-2 c = ?
+mul-list-2 c = search needs
 
--- src/lib.rt:343:9
 slice-write-list : tie.Need-slice-write-list Inv-loop μ-loop
-slice-write-list c = ?
+slice-write-list c = search needs
 
--- src/lib.rt:344:9
 add-k : tie.Need-add-k Inv-loop μ-loop
-add-k c = ?
+add-k c = search needs
 
--- src/lib.rt:342:5
 loop-less : tie.Need-loop-less Inv-loop μ-loop
-loop-less c = ?
+loop-less c = search needs
 
--- src/lib.rt:342:5
 loop-again : tie.Need-loop-again Inv-loop μ-loop
-loop-again c = ?
+loop-again c =
+    let v = c .before .before .loop in
+    let s = c .before .before .before in
+    (omega arith, omega arith, length-set _ _ _ ∙ v .inv .2, copy-next _ _ _ _ _ _ (v .inv .0) (omega arith) (omega arith) (v .inv .3))
 
--- src/lib.rt:337:1
 same-length : tie.Need-same-length Inv-loop μ-loop
-same-length c = ?
+same-length c = c .before .loop .inv .2
 
--- src/lib.rt:337:1
 returns : tie.Need-returns Inv-loop μ-loop
-returns c = ?
+returns c =
+    let v = c .before .loop in
+    let e : v .k ≡ c .before .before .args .end = omega arith in
+    rw (← e) (v .inv .3)
 
 pub copy-numbers-spec : {M : Type 1} → statement M
 copy-numbers-spec =

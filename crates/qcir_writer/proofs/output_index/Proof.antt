@@ -1,48 +1,54 @@
+-- `qcir_writer::output_index` meets its contract. The loop's invariant: the tokens before token i are outer ones. The measure is how many are left.
+-- Assumes nothing.
+use mathlib.Core.Path.{_≡_, sym, _∙_, ap}
+use mathlib.Core.Bool.{true, false, not}
+use Prim.Native.Nat.{ℕ, _-_, _≤_, _<_}
+use lib.ListN.{getD}
+use borrow.Author.Count.{below-more}
+use Rattle.lists.proofs.Search.{lowest-is, lowest-none}
+use Rattle.qcir_tokens.specs.Tokens.{isOuter}
+use Rattle.qcir_writer.specs.Passes.{outputIndex}
 use borrow.Author.Needs.{needs}
 use native.Mathlib.Omega.{arith}
 use Rattle.qcir_writer.proofs.output_index.Statement.{statement}
 use Rattle.qcir_writer.proofs.output_index.Tie as tie
-use Rattle.qcir_writer.proofs.output_index.Reads as reads
-use Rattle.qcir_writer.proofs.output_index.Lts as lts
-use Rattle.qcir_tokens.proofs.is_outer.Reads as is-outer-reads
 
 abbrev Inv-loop : tie.InvT-loop
-Inv-loop roles count i₀ i = ?
+Inv-loop roles count i₀ i = (i ≤ count) × ((k : ℕ) → k < i → not (isOuter (getD roles k 0)) ≡ false)
 
 abbrev μ-loop : tie.MeasureT-loop
-μ-loop roles count i₀ i = ?
+μ-loop roles count i₀ i = count - i
 
--- src/lib.rt:310:5
 loop-holds : tie.Need-loop-holds Inv-loop μ-loop
-loop-holds c = ?
+loop-holds c = (omega arith, λ k h. absurd (omega arith))
 
--- src/lib.rt:311:22
 shared-slice-read-is-outer : tie.Need-shared-slice-read-is-outer Inv-loop μ-loop
-shared-slice-read-is-outer c = ?
+shared-slice-read-is-outer c = search needs
 
--- src/lib.rt:311:13
 is-outer-requires : tie.Need-is-outer-requires Inv-loop μ-loop
-is-outer-requires c κs = ?
+is-outer-requires c κs = search needs
 
--- src/lib.rt:312:13
 returns : tie.Need-returns Inv-loop μ-loop
-returns c = ?
+unfolding outputIndex
+returns c =
+    let v = c .before .before .before .before .loop in
+    sym (lowest-is _ _ _ (c .before .before .before .loop-test .taken) (sym (ap not (c .before .is-outer .ensures)) ∙ c .if1 .taken) (v .inv .1))
 
--- src/lib.rt:314:9
 add-i : tie.Need-add-i Inv-loop μ-loop
-add-i c = ?
+add-i c = search needs
 
--- src/lib.rt:310:5
 loop-less : tie.Need-loop-less Inv-loop μ-loop
-loop-less c = ?
+loop-less c = search needs
 
--- src/lib.rt:310:5
 loop-again : tie.Need-loop-again Inv-loop μ-loop
-loop-again c = ?
+loop-again c = (search needs, below-more _ _ (c .before .before .before .before .loop .inv .1) (sym (ap not (c .before .is-outer .ensures)) ∙ c .if1 .left))
 
--- src/lib.rt:305:1
 returns-2 : tie.Need-returns-2 Inv-loop μ-loop
-returns-2 c = ?
+unfolding outputIndex
+returns-2 c =
+    let v = c .before .loop in
+    let e : v .i ≡ c .before .before .before .args .count = omega arith in
+    rw e (sym (lowest-none _ _ (rw e at (v .inv .1))))
 
 pub output-index-spec : {M : Type 1} → statement M
 output-index-spec =

@@ -1,64 +1,81 @@
+-- `qcir_writer::write_gates` meets its contract. The loop's invariant: what the tokens before token i add is stored. The measure is how many tokens are left.
+-- Assumes nothing.
+use mathlib.Core.Path.{_≡_, sym, _∙_}
+use Prim.Native.Nat.{suc, _+_, _-_, _≤_}
+use lib.ListN.{length}
+use Rattle.qcir_writer.proofs.Gates.{fits-less, Reached, reached-start, token-room, token-listed, reached-token, from-first}
 use borrow.Author.Needs.{needs}
 use native.Mathlib.Omega.{arith}
 use Rattle.qcir_writer.proofs.write_gates.Statement.{statement}
 use Rattle.qcir_writer.proofs.write_gates.Tie as tie
-use Rattle.qcir_writer.proofs.write_gates.Reads as reads
-use Rattle.qcir_writer.proofs.write_gates.Lts as lts
-use Rattle.qcir_writer.proofs.write_token.Reads as write-token-reads
 
 abbrev Inv-loop : tie.InvT-loop
-Inv-loop roles numbers first count words₀ list₀ nodes₀ p₀ i₀ words list nodes p i = ?
+Inv-loop roles numbers first count words₀ list₀ nodes₀ p₀ i₀ words list nodes p i = (first ≤ i) × (i ≤ count) × Reached roles numbers first (i - first) words₀ list₀ words list nodes p
 
 abbrev μ-loop : tie.MeasureT-loop
-μ-loop roles numbers first count words₀ list₀ nodes₀ p₀ i₀ words list nodes p i = ?
+μ-loop roles numbers first count words₀ list₀ nodes₀ p₀ i₀ words list nodes p i = count - i
 
--- src/lib.rt:297:5
 loop-holds : tie.Need-loop-holds Inv-loop μ-loop
-loop-holds c = ?
+loop-holds c =
+    let s = c .before .before .before .before .before in
+    let e : s .args .first - s .args .first ≡ 0 = omega arith in
+    (omega arith, s .pre .0 .0, rw e (reached-start _ _ _ _ _ _ (s .pre .1 .0)))
 
--- src/lib.rt:298:48
 shared-slice-read-write-token : tie.Need-shared-slice-read-write-token Inv-loop μ-loop
-shared-slice-read-write-token c = ?
+shared-slice-read-write-token c = search needs
 
--- src/lib.rt:298:58
 mul-write-token : tie.Need-mul-write-token Inv-loop μ-loop
-mul-write-token c = ?
+mul-write-token c = search needs
 
--- src/lib.rt:298:58
 shared-slice-read-write-token-2 : tie.Need-shared-slice-read-write-token-2 Inv-loop μ-loop
-shared-slice-read-write-token-2 c = ?
+shared-slice-read-write-token-2 c = search needs
 
--- src/lib.rt:298:9
 write-token-requires : tie.Need-write-token-requires Inv-loop μ-loop
-write-token-requires c κs = ?
+write-token-requires c κs =
+    let s = c .before .before .before .before .before .before .before .before .before .before .before .before in
+    let a = s .args in
+    let v = c .before .before .before .before .before .before .loop in
+    let t = c .before .before .before .before .before .loop-test .taken in
+    let f = fits-less (a .roles .now) (a .numbers .now) (a .first) (suc (v .i - a .first)) (a .count - a .first) _ _ (omega arith) (record { words-fit = s .pre .1 .1 .0 .0; few-words = s .pre .1 .1 .0 .1; list-fits = s .pre .1 .1 .1 .0; few-entries = s .pre .1 .1 .1 .1 }) in
+    let role = from-first (a .roles .now) (a .first) (v .i) (v .inv .0) in
+    let x = from-first (a .numbers .now) (a .first) (v .i) (v .inv .0) in
+    (token-listed _ _ _ _ _ _ _ _ _ _ _ _ (v .inv .2) role x f, (v .inv .2 .nodes-are .wide, token-room _ _ _ _ _ _ _ _ _ _ _ _ (v .inv .2) role x f))
 
--- src/lib.rt:299:9
 add-i : tie.Need-add-i Inv-loop μ-loop
-add-i c = ?
+add-i c = search needs
 
--- src/lib.rt:297:5
 loop-less : tie.Need-loop-less Inv-loop μ-loop
-loop-less c = ?
+loop-less c = search needs
 
--- src/lib.rt:297:5
 loop-again : tie.Need-loop-again Inv-loop μ-loop
-loop-again c = ?
+loop-again c =
+    let s = c .before .before .before .before .before .before .before .before .before .before .before .before .before .before .before .before .before .before .before in
+    let a = s .args in
+    let v = c .before .before .before .before .before .before .before .before .before .before .before .before .before .loop in
+    let t = c .before .before .before .before .before .before .before .before .before .before .before .before .loop-test .taken in
+    let f = fits-less (a .roles .now) (a .numbers .now) (a .first) (suc (v .i - a .first)) (a .count - a .first) _ _ (omega arith) (record { words-fit = s .pre .1 .1 .0 .0; few-words = s .pre .1 .1 .0 .1; list-fits = s .pre .1 .1 .1 .0; few-entries = s .pre .1 .1 .1 .1 }) in
+    let role = from-first (a .roles .now) (a .first) (v .i) (v .inv .0) in
+    let x = from-first (a .numbers .now) (a .first) (v .i) (v .inv .0) in
+    let w = c .before .before .before .before .before .before .write-token in
+    let e : v .i + 1 - a .first ≡ suc (v .i - a .first) = omega arith in
+    let low = c .before .before .before .before .before .before .before .shared-slice-known4 .given (v .i) in
+    (omega arith, omega arith, rw e (reached-token _ _ _ _ _ _ _ _ _ _ _ _ (v .inv .2) role x f _ _ _ _ (omega arith) (w .ensures .0) (w .ensures .1 .0) (w .ensures .1 .1) (w .kept .0) (w .kept .1 .0)))
 
--- src/lib.rt:269:1
 same-length : tie.Need-same-length Inv-loop μ-loop
-same-length c = ?
+same-length c = c .before .loop .inv .2 .words-kept
 
--- src/lib.rt:269:1
 same-length-2 : tie.Need-same-length-2 Inv-loop μ-loop
-same-length-2 c = ?
+same-length-2 c = c .before .loop .inv .2 .list-kept
 
--- src/lib.rt:269:1
 same-length-3 : tie.Need-same-length-3 Inv-loop μ-loop
-same-length-3 c = ?
+same-length-3 c = c .before .loop .inv .2 .nodes-are .wide ∙ sym (c .before .before .before .before .before .before .before .pre .1 .0 .wide)
 
--- src/lib.rt:269:1
 returns : tie.Need-returns Inv-loop μ-loop
-returns c = ?
+returns c =
+    let v = c .before .loop in
+    let e : v .i ≡ c .before .before .before .before .before .before .before .args .count = omega arith in
+    let r = rw e at (v .inv .2) in
+    (r .words-are, (r .list-is, (r .nodes-are, r .progress-is)))
 
 pub write-gates-spec : {M : Type 1} → statement M
 write-gates-spec =
