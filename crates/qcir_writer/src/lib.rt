@@ -390,8 +390,9 @@ fn write_lines(
     let mut i = outer;
     while 0 < i {
         i -= 1;
-        p = write_outer(words, list, p, roles[i], numbers, i, end);
-        end = line_end(roles[i], i, end);
+        let role = roles[i];
+        p = write_outer(words, list, p, role, numbers, i, end);
+        end = line_end(role, i, end);
     }
 }
 

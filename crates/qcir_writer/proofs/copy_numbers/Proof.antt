@@ -51,7 +51,7 @@ loop-again : tie.Need-loop-again Inv-loop μ-loop
 loop-again c =
     let v = c .before .before .loop in
     let s = c .before .before .before in
-    (omega arith, omega arith, length-set _ _ _ ∙ v .inv .2, copy-next _ _ _ _ _ _ (v .inv .0) (omega arith) (omega arith) (v .inv .3))
+    (omega arith, omega arith, simp length-set (v .inv .2), copy-next (s .args .list .now) (v .list) (s .args .at) (s .args .i) (v .k) (s .args .numbers .now) (v .inv .0) (omega arith) (omega arith) (v .inv .3))
 
 same-length : tie.Need-same-length Inv-loop μ-loop
 same-length c = c .before .loop .inv .2
