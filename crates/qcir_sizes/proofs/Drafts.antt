@@ -3,22 +3,21 @@
 use mathlib.Core.Bool.{Bool, true, false, _&&_}
 use mathlib.Core.List.{List, [], _∷_, _++_}
 use mathlib.Core.Path.{_≡_, refl, sym, _∙_, ap}
-use Prim.Native.Nat.{ℕ, suc, _+_, _*_, _/_, _≤_, _<_}
-use native.Mathlib.Numerals.{add-one}
+use Prim.Native.Nat.{ℕ, suc, _+_, _*_, _≤_, _<_}
 use native.Mathlib.Omega.{arith}
 use lib.Dec.{ltb}
 use lib.ListN.{length, getD, length-append, List·getD-append}
 use lib.Seq.{getD-append-add}
-use borrow.Author.Tests.{ltb-true, ltb-false, lt-ltb, le-ltb}
+use borrow.Author.Tests.{ltb-true, lt-ltb, le-ltb}
 use Rattle.lists.specs.Choice.{pick, pick-yes, pick-no, Is, is-true, is-false, look, and-off-left}
 use Rattle.lists.specs.Search.{lowest}
 use Rattle.lists.specs.Parts.{sum}
 use Rattle.lists.proofs.Search.{lowest-cong}
 use Rattle.lists.proofs.Parts.{sum-cong}
-use Rattle.formula.specs.Words.{width, nodeCount, field, isBlockKind}
+use Rattle.formula.specs.Words.{nodeCount, field, isBlockKind}
 use Rattle.table_check.specs.Verdict.{limit, countAt}
 use Rattle.qcir.specs.Reading.{crowded}
-use Rattle.qcir.specs.Table.{Draft, Stored, store, emptyDraft}
+use Rattle.qcir.specs.Table.{Draft, store, emptyDraft}
 
 -- Words of n whole nodes.
 module _ (ws : List ℕ) (n : ℕ) (whole : length ws ≡ 4 * n) where

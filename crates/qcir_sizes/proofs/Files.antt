@@ -1,14 +1,14 @@
 -- The passes over a file's tokens count what the file's table has.
 -- Assumes nothing.
 use mathlib.Core.Bool.{Bool, true, false, not, _&&_}
-use mathlib.Core.List.{List, [], _∷_, _++_, append-assoc}
+use mathlib.Core.List.{List, [], _∷_, _++_}
 use mathlib.Core.Path.{_≡_, refl, sym, _∙_, ap, subst}
-use Prim.Native.Nat.{ℕ, suc, _+_, _-_, _*_, _≤_, _<_}
+use Prim.Native.Nat.{ℕ, suc, _+_, _-_, _≤_, _<_}
 use native.Mathlib.Numerals.{add-one}
 use native.Mathlib.Omega.{arith}
-use lib.Dec.{eqb, leb, ltb}
+use lib.Dec.{eqb, leb}
 use lib.ListN.{length, getD, length-map}
-use borrow.Author.Tests.{eqb-true, not-false, eq-eqb, ne-eqb, le-leb, lt-leb}
+use borrow.Author.Tests.{not-false, eq-eqb, ne-eqb, le-leb, lt-leb}
 use Rattle.lists.specs.Choice.{pick, pick-yes, pick-no, Is, is-true, is-false, look, and-both, and-off-left, and-off-right}
 use Rattle.lists.specs.Search.{lowest}
 use Rattle.formula.specs.Node.{Quantifier, exists, for-all}
@@ -17,10 +17,11 @@ use Rattle.table_check.specs.Verdict.{limit}
 use Rattle.qcir.specs.File.{Name, Literal, Junction, Gate, junction-gate, xor-gate, quantified-gate, gateName, Line, lineVariables, File, numbersOf}
 use Rattle.qcir.specs.Table.{Draft, Stored, store, storeName, storeLiteral, storeInputs, blockKind, storeBlock, junctionTable, emptyValue, storeGate, storeGates, storePrefix, emptyDraft, fileDraft, tableWords, tableList}
 use Rattle.qcir.specs.Reading.{crowded}
-use Rattle.qcir_tokens.specs.Tokens.{Token, token, freeRole, lineRole, laterRole, outputRole, junctionRole, xorRole, quantifierRole, boundRole, inputRole, emptyRole, isOuter, isFree, isDefinition, isBound, isInput, isMinus, listTokens, freeTokens, prefixTokens, outputToken, inputsTokens, anyInputsTokens, gateTokens, gatesTokens, fileTokens, definitionFrom}
+use Rattle.qcir_tokens.specs.Tokens.{Token, token, lineRole, laterRole, outputRole, junctionRole, xorRole, quantifierRole, boundRole, inputRole, emptyRole, isOuter, isFree, isDefinition, isBound, isInput, isMinus, listTokens, freeTokens, prefixTokens, outputToken, inputsTokens, anyInputsTokens, gateTokens, gatesTokens, fileTokens, definitionFrom}
 use Rattle.qcir_tokens.specs.Held.{Definitions}
 use Rattle.qcir_uses.proofs.Passes.{eqb-turn}
-use Rattle.qcir_uses.proofs.Files.{Quiet, none, more, quiet-append, quiet-list, quiet-free, quiet-prefix, front-quiet, output-no-definition, GateTokens, gate-tokens, input-no-definition, bound-no-definition, junction-defines, xor-defines, quantifier-defines}
+use Rattle.qcir_uses.proofs.Roles.{free-all, line-all, later-all, output-all, bound-all, input-all, output-minus, input-minus, output-no-definition, bound-no-definition, input-no-definition, junction-defines, xor-defines, quantifier-defines, Quiet, none, more, quiet-free, quiet-front, front-no-definition, gate-tokens}
+use Rattle.qcir_uses.proofs.Files.{file-parts}
 use Rattle.qcir_sizes.specs.declared.Pass.{Pass}
 use Rattle.qcir_sizes.specs.declared.TableSizes.{TableSizes}
 use Rattle.qcir_sizes.specs.Pass.{isEarlier, start, blockAdded, operandAdded, inputAdded, lineBegun, variableAdded, constantAdded, gateStep, gatesPass, outputAdded, outerStep, filePass, sizesOf}
@@ -85,90 +86,45 @@ module _ (gate : ℕ → ℕ) (d : Draft) (n e k : ℕ) (m : Measured gate d n e
 
 -- What a token's role says.
 input-no-bound : (a b : Bool) → isBound (inputRole a b) ≡ false
-unfolding isBound inputRole
-input-no-bound true true = refl
-input-no-bound true false = refl
-input-no-bound false true = refl
-input-no-bound false false = refl
+unfolding isBound
+input-no-bound = input-all (λ r. isBound r ≡ false) refl refl refl refl
 
 input-is : (a b : Bool) → isInput (inputRole a b) ≡ true
-unfolding isInput inputRole
-input-is true true = refl
-input-is true false = refl
-input-is false true = refl
-input-is false false = refl
-
-input-minus : (a b : Bool) → isMinus (inputRole a b) ≡ a
-unfolding isMinus inputRole
-input-minus true true = refl
-input-minus true false = refl
-input-minus false true = refl
-input-minus false false = refl
+unfolding isInput
+input-is = input-all (λ r. isInput r ≡ true) refl refl refl refl
 
 bound-is : (b : Bool) → isBound (boundRole b) ≡ true
-unfolding isBound boundRole
-bound-is true = refl
-bound-is false = refl
-
-output-minus : (b : Bool) → isMinus (outputRole b) ≡ b
-unfolding isMinus outputRole
-output-minus true = refl
-output-minus false = refl
+unfolding isBound
+bound-is = bound-all (λ r. isBound r ≡ true) refl refl
 
 output-no-outer : (b : Bool) → isOuter (outputRole b) ≡ false
-unfolding isOuter outputRole
-output-no-outer true = refl
-output-no-outer false = refl
+unfolding isOuter
+output-no-outer = output-all (λ r. isOuter r ≡ false) refl refl
 
-free-outer : (a b : Bool) → not (isOuter (freeRole a b)) ≡ false
-unfolding isOuter freeRole
-free-outer true true = refl
-free-outer true false = refl
-free-outer false true = refl
-free-outer false false = refl
+front-outer : (f : File) → Quiet (λ r. not (isOuter r)) (freeTokens (f .free) ++ prefixTokens (f .prefix))
+unfolding isOuter
+front-outer f =
+    quiet-front (λ r. not (isOuter r)) f (free-all (λ r. not (isOuter r) ≡ false) refl refl refl refl)
+    (line-all (λ r. not (isOuter r) ≡ false) refl refl refl refl)
+    (later-all (λ r. not (isOuter r) ≡ false) refl refl)
 
-free-free : (a b : Bool) → not (isFree (freeRole a b)) ≡ false
-unfolding isFree freeRole
-free-free true true = refl
-free-free true false = refl
-free-free false true = refl
-free-free false false = refl
-
-line-outer : (q : Quantifier) (b : Bool) → not (isOuter (lineRole q b)) ≡ false
-unfolding isOuter lineRole
-line-outer exists true = refl
-line-outer exists false = refl
-line-outer for-all true = refl
-line-outer for-all false = refl
+free-is : (xs : List Name) → Quiet (λ r. not (isFree r)) (freeTokens xs)
+unfolding isFree
+free-is xs = quiet-free (λ r. not (isFree r)) xs (free-all (λ r. not (isFree r) ≡ false) refl refl refl refl)
 
 line-no-free : (q : Quantifier) (b : Bool) → isFree (lineRole q b) ≡ false
-unfolding isFree lineRole
-line-no-free exists true = refl
-line-no-free exists false = refl
-line-no-free for-all true = refl
-line-no-free for-all false = refl
+unfolding isFree
+line-no-free = line-all (λ r. isFree r ≡ false) refl refl refl refl
 
 line-first : (q : Quantifier) (b : Bool) → leb (lineRole q b) 8 ≡ true
-unfolding lineRole
-line-first exists true = refl
-line-first exists false = refl
-line-first for-all true = refl
-line-first for-all false = refl
-
-later-outer : (b : Bool) → not (isOuter (laterRole b)) ≡ false
-unfolding isOuter laterRole
-later-outer true = refl
-later-outer false = refl
+line-first = line-all (λ r. leb r 8 ≡ true) refl refl refl refl
 
 later-no-free : (b : Bool) → isFree (laterRole b) ≡ false
-unfolding isFree laterRole
-later-no-free true = refl
-later-no-free false = refl
+unfolding isFree
+later-no-free = later-all (λ r. isFree r ≡ false) refl refl
 
 later-not-first : (b : Bool) → leb (laterRole b) 8 ≡ false
-unfolding laterRole
-later-not-first true = refl
-later-not-first false = refl
+later-not-first = later-all (λ r. leb r 8 ≡ false) refl refl
 
 -- The steps by the roles.
 module _ (gate i : ℕ) (s : Pass) where
@@ -492,10 +448,6 @@ prefix-counts gate (l ∷ ls) st s m =
       no-list = refl;
     })
 
-quiet-outer : (f : File) → Quiet (λ r. not (isOuter r)) (freeTokens (f .free) ++ prefixTokens (f .prefix))
-quiet-outer f =
-    quiet-append (quiet-free (λ r. not (isOuter r)) (f .free) free-outer) (quiet-prefix (λ r. not (isOuter r)) (f .prefix) line-outer later-outer)
-
 -- The output, after the gates.
 output-counts : (gates : List ℕ) (d : Draft) (s : Pass) (l : Literal) → Done gates d s → Between (d .gate) (storeLiteral d l .draft) (outputAdded (outputRole (l .minus)) (getD gates (l .name .number) 0) s)
 unfolding outputAdded
@@ -509,11 +461,6 @@ output-counts gates d s l m =
       no-list = refl;
     }
 
--- A file's tokens: those before the output, the output and the gates.
-file-parts : (f : File) → fileTokens f ≡ (freeTokens (f .free) ++ prefixTokens (f .prefix)) ++ (outputToken (f .output) ∷ gatesTokens (f .gates))
-unfolding fileTokens
-file-parts f = sym (append-assoc (freeTokens (f .free)) (prefixTokens (f .prefix)) (outputToken (f .output) ∷ gatesTokens (f .gates)))
-
 -- The first definitions of a file are those among its gates' tokens.
 file-definition : (f : File) (x : ℕ) → definitionFrom 0 (fileTokens f) x ≡ definitionFrom (suc (length (freeTokens (f .free) ++ prefixTokens (f .prefix)))) (gatesTokens (f .gates)) x
 unfolding definitionFrom outputToken token
@@ -521,7 +468,7 @@ file-definition f x =
     let front : List Token = freeTokens (f .free) ++ prefixTokens (f .prefix) in
     let e : 0 + length front ≡ length front = omega arith in
     ap (λ (ts : List Token). definitionFrom 0 ts x) (file-parts f)
-    ∙ definition-quiet 0 (outputToken (f .output) ∷ gatesTokens (f .gates)) x (front-quiet f)
+    ∙ definition-quiet 0 (outputToken (f .output) ∷ gatesTokens (f .gates)) x (front-no-definition f)
     ∙ ap (λ (k : ℕ). definitionFrom k (outputToken (f .output) ∷ gatesTokens (f .gates)) x) e
     ∙ pick-no _ _ _ (and-off-left _ _ (output-no-definition (f .output .minus)))
 
@@ -541,11 +488,11 @@ whole-counts f gates h =
     subst (λ (p : Pass). Counts (d .gate) (fileDraft f) p)
     (sym
     (ap (filePass gates 0) (file-parts f)
-    ∙ file-outer gates 0 rest (quiet-outer f)
+    ∙ file-outer gates 0 rest (front-outer f)
     ∙ ap (λ (k : ℕ). outerTokens front (filePass gates k rest)) e
     ∙ ap (outerTokens front) (pick-no _ _ _ (output-no-outer (f .output .minus)))
     ∙ outer-append (freeTokens (f .free)) (prefixTokens (f .prefix)) o
-    ∙ free-pass (outerTokens (prefixTokens (f .prefix)) o) (quiet-free (λ r. not (isFree r)) (f .free) free-free)))
+    ∙ free-pass (outerTokens (prefixTokens (f .prefix)) o) (free-is (f .free))))
     (b .counts)
 
 -- The sizes are those of the file's table.

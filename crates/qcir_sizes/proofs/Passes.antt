@@ -1,9 +1,9 @@
 -- Passes over held tokens: what is left of a pass, and how large the counts are.
 -- Assumes nothing.
 use mathlib.Core.Bool.{Bool, true, false, not}
-use mathlib.Core.List.{List, [], _∷_}
+use mathlib.Core.List.{List}
 use mathlib.Core.Path.{_≡_, refl, sym, _∙_, ap}
-use Prim.Native.Nat.{ℕ, zero, suc, _+_, _-_, _*_, _≤_, _<_}
+use Prim.Native.Nat.{ℕ, zero, suc, _+_, _-_, _≤_, _<_}
 use native.Mathlib.Numerals.{add-one}
 use native.Mathlib.Omega.{arith}
 use lib.Dec.{eqb, leb, ltb}
@@ -11,11 +11,10 @@ use lib.ListN.{getD}
 use Rattle.lists.specs.Choice.{pick, pick-yes, pick-no}
 use Rattle.lists.proofs.Parts.{pick-le}
 use Rattle.table_check.specs.Verdict.{limit}
-use Rattle.qcir.specs.File.{Name}
 use Rattle.qcir_tokens.specs.Tokens.{Token, isOuter, isFree, isDefinition, isBound, isInput, isMinus}
 use Rattle.qcir_tokens.specs.Held.{tokenAt, tokensFrom}
+use Rattle.qcir_uses.proofs.Tokens.{tokens-end, tokens-next}
 use Rattle.qcir_sizes.specs.declared.Pass.{Pass}
-use Rattle.qcir_sizes.specs.declared.TableSizes.{TableSizes}
 use Rattle.qcir_sizes.specs.Pass.{Small, Room, isEarlier, start, blockAdded, operandAdded, inputAdded, lineBegun, variableAdded, constantAdded, gateStep, gatesPass, outputAdded, outerStep, outerPass, filePass, sizesOf}
 
 -- what holds of both holds of the one picked
@@ -147,18 +146,6 @@ sizes-are s k p = λ i. record { nodes = s .nodes; entries = s .entries; crowded
 
 -- A pass over `count` tokens.
 module _ (roles numbers : List ℕ) (count : ℕ) (gates : List ℕ) where
-  -- the token at i, and those after it
-  tokens-next : (ps : List ℕ) (i : ℕ) → i < count → tokensFrom roles numbers ps i (count - i) ≡ tokenAt roles numbers ps i ∷ tokensFrom roles numbers ps (suc i) (count - suc i)
-  unfolding tokensFrom
-  tokens-next ps i h =
-      let e : count - i ≡ suc (count - suc i) = omega arith in ap (tokensFrom roles numbers ps i) e
-
-  -- none
-  tokens-end : (ps : List ℕ) (i : ℕ) → count ≤ i → tokensFrom roles numbers ps i (count - i) ≡ []
-  unfolding tokensFrom
-  tokens-end ps i h =
-      let e : count - i ≡ 0 = omega arith in ap (tokensFrom roles numbers ps i) e
-
   -- What is left to do from token i on, with the counts s, gives the whole pass from token `from` on.
   pub record Left (from i : ℕ) (s : Pass) : Type 0 where
     pub small : Small i s
@@ -173,22 +160,22 @@ module _ (roles numbers : List ℕ) (count : ℕ) (gates : List ℕ) where
       rw (add-one i)
       (record {
         small = small-gate i s (l .small) (getD roles i 0) (getD gates (getD numbers i 0) 0) i;
-        leads = λ ps. sym (ap (λ (ts : List Token). gatesPass gates i ts s) (tokens-next ps i h)) ∙ l .leads ps;
+        leads = λ ps. sym (ap (λ (ts : List Token). gatesPass gates i ts s) (tokens-next roles numbers ps count i h)) ∙ l .leads ps;
       })
 
   pub left-none : (from i : ℕ) (s : Pass) → count ≤ i → Left from i s → (ps : List ℕ) → s ≡ gatesPass gates from (tokensFrom roles numbers ps from (count - from)) start
   unfolding gatesPass
-  left-none from i s h l ps = sym (ap (λ (ts : List Token). gatesPass gates i ts s) (tokens-end ps i h)) ∙ l .leads ps
+  left-none from i s h l ps = sym (ap (λ (ts : List Token). gatesPass gates i ts s) (tokens-end roles numbers ps count i h)) ∙ l .leads ps
 
   pub file-none : (ps : List ℕ) (i : ℕ) → count ≤ i → start ≡ filePass gates i (tokensFrom roles numbers ps i (count - i))
   unfolding filePass
-  file-none ps i h = sym (ap (filePass gates i) (tokens-end ps i h))
+  file-none ps i h = sym (ap (filePass gates i) (tokens-end roles numbers ps count i h))
 
   pub file-output : (ps : List ℕ) (i : ℕ) (s : Pass) → i < count → isOuter (getD roles i 0) ≡ false → s ≡ gatesPass gates (i + 1) (tokensFrom roles numbers ps (i + 1) (count - (i + 1))) start → outputAdded (getD roles i 0) (getD gates (getD numbers i 0) 0) s ≡ filePass gates i (tokensFrom roles numbers ps i (count - i))
   unfolding filePass tokenAt
   file-output ps i s h o e =
       ap (outputAdded (getD roles i 0) (getD gates (getD numbers i 0) 0)) (e ∙ ap (λ (k : ℕ). gatesPass gates k (tokensFrom roles numbers ps k (count - k)) start) (add-one i))
-      ∙ sym (ap (filePass gates i) (tokens-next ps i h) ∙ pick-no _ _ _ o)
+      ∙ sym (ap (filePass gates i) (tokens-next roles numbers ps count i h) ∙ pick-no _ _ _ o)
 
   -- The tokens below `end` are entries of the free line and the prefix lines.
   pub outer-whole : (ps : List ℕ) (end i : ℕ) → end ≤ count → ((j : ℕ) → j < end → isOuter (getD roles j 0) ≡ true) → i ≤ end → outerPass roles i (filePass gates i (tokensFrom roles numbers ps i (count - i))) ≡ filePass gates 0 (tokensFrom roles numbers ps 0 count)
@@ -196,7 +183,7 @@ module _ (roles numbers : List ℕ) (count : ℕ) (gates : List ℕ) where
   outer-whole ps end zero h o l =
       let e : count - 0 ≡ count = omega arith in ap (λ (k : ℕ). filePass gates 0 (tokensFrom roles numbers ps 0 k)) e
   outer-whole ps end (suc i) h o l =
-      ap (outerPass roles i) (sym (ap (filePass gates i) (tokens-next ps i (omega arith)) ∙ pick-yes _ _ _ (o i (omega arith))))
+      ap (outerPass roles i) (sym (ap (filePass gates i) (tokens-next roles numbers ps count i (omega arith)) ∙ pick-yes _ _ _ (o i (omega arith))))
       ∙ outer-whole ps end i h o (omega arith)
 
 -- What is left of the pass over the tokens below `end`, from token i - 1 down.

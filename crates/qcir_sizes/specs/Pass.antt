@@ -7,7 +7,6 @@ use lib.Dec.{eqb, leb, ltb}
 use lib.ListN.{getD}
 use Rattle.lists.specs.Choice.{pick}
 use Rattle.table_check.specs.Verdict.{limit}
-use Rattle.qcir.specs.File.{Name}
 use Rattle.qcir_tokens.specs.Tokens.{Token, isOuter, isFree, isDefinition, isBound, isInput, isMinus}
 use Rattle.qcir_sizes.specs.declared.Pass.{Pass}
 use Rattle.qcir_sizes.specs.declared.TableSizes.{TableSizes}

@@ -9,37 +9,13 @@ use lib.Dec.{eqb}
 use borrow.Author.Tests.{eqb-true, eq-eqb}
 use Rattle.lists.specs.Choice.{pick, pick-yes, pick-no, same-test, and-off-left}
 use Rattle.lists.specs.Members.{times}
-use Rattle.formula.specs.Node.{Quantifier, exists, for-all}
-use Rattle.qcir.specs.File.{Name, Literal, Junction, conjunction, disjunction, Gate, junction-gate, xor-gate, quantified-gate, gateName, gateInputs, Line, File, numbersOf, namesOf}
+use Rattle.formula.specs.Node.{Quantifier}
+use Rattle.qcir.specs.File.{Name, Literal, Junction, Gate, junction-gate, xor-gate, quantified-gate, gateName, gateInputs, File, numbersOf, namesOf}
 use Rattle.qcir.specs.Refusals.{keep, gateNames, inputNumbers, usedNumbers, notUsedOnce}
-use Rattle.qcir_tokens.specs.Tokens.{Token, token, freeRole, lineRole, laterRole, outputRole, junctionRole, xorRole, quantifierRole, boundRole, inputRole, emptyRole, isOutput, isDefinition, isInput, isUse, listTokens, freeTokens, prefixTokens, outputToken, inputsTokens, anyInputsTokens, gateTokens, gatesTokens, fileTokens}
+use Rattle.qcir_tokens.specs.Tokens.{Token, token, outputRole, junctionRole, xorRole, quantifierRole, boundRole, inputRole, isOutput, isDefinition, isInput, isUse, listTokens, freeTokens, prefixTokens, outputToken, inputsTokens, anyInputsTokens, gateTokens, gatesTokens, fileTokens}
 use Rattle.qcir_uses.specs.Uses.{usesIn, definedIn, misusedIn}
+use Rattle.qcir_uses.proofs.Roles.{free-all, line-all, later-all, output-all, junction-all, quantifier-all, bound-all, input-all, output-no-definition, Quiet, none, more, quiet-list, quiet-front, front-no-definition, gate-tokens}
 use Rattle.qcir_uses.proofs.Passes.{eqb-turn}
-
--- no token's role passes the test
-pub data Quiet (p : ℕ → Bool) : List Token → Type 0 where
-  none : Quiet p []
-  more : {t : Token} {ts : List Token} → p (t .role) ≡ false → Quiet p ts → Quiet p (t ∷ ts)
-
-pub quiet-append : {p : ℕ → Bool} {ts us : List Token} → Quiet p ts → Quiet p us → Quiet p (ts ++ us)
-quiet-append none r = r
-quiet-append (more h q) r = more h (quiet-append q r)
-
--- where that of no role in a list does
-pub quiet-list : (p : ℕ → Bool) (first others : Bool → ℕ) (x : Name) (xs : List Name) → ((b : Bool) → p (first b) ≡ false) → ((b : Bool) → p (others b) ≡ false) → Quiet p (listTokens first others x xs)
-unfolding listTokens token
-quiet-list p first others x [] f o = more (f true) none
-quiet-list p first others x (y ∷ ys) f o = more (f false) (quiet-list p others others y ys o o)
-
-pub quiet-free : (p : ℕ → Bool) (xs : List Name) → ((a b : Bool) → p (freeRole a b) ≡ false) → Quiet p (freeTokens xs)
-unfolding freeTokens
-quiet-free p [] h = none
-quiet-free p (x ∷ xs) h = quiet-list p (freeRole true) (freeRole false) x xs (h true) (h false)
-
-pub quiet-prefix : (p : ℕ → Bool) (ls : List Line) → ((q : Quantifier) (b : Bool) → p (lineRole q b) ≡ false) → ((b : Bool) → p (laterRole b) ≡ false) → Quiet p (prefixTokens ls)
-unfolding prefixTokens
-quiet-prefix p [] h k = none
-quiet-prefix p (l ∷ ls) h k = quiet-append (quiet-list p (lineRole (l .quantifier)) laterRole (l .first) (l .others) (h (l .quantifier)) k) (quiet-prefix p ls h k)
 
 uses-quiet : {ts : List Token} (us : List Token) (x : ℕ) → Quiet isUse ts → usesIn (ts ++ us) x ≡ usesIn us x
 unfolding usesIn
@@ -52,146 +28,36 @@ unfolding definedIn
 defined-quiet us none = refl
 defined-quiet us (more h q) = pick-no _ _ _ h ∙ defined-quiet us q
 
--- The roles that are no uses, and those that are no definitions.
-free-no-use : (a b : Bool) → isUse (freeRole a b) ≡ false
-unfolding isUse isInput isOutput freeRole
-free-no-use true true = refl
-free-no-use true false = refl
-free-no-use false true = refl
-free-no-use false false = refl
-
-line-no-use : (q : Quantifier) (b : Bool) → isUse (lineRole q b) ≡ false
-unfolding isUse isInput isOutput lineRole
-line-no-use exists true = refl
-line-no-use exists false = refl
-line-no-use for-all true = refl
-line-no-use for-all false = refl
-
-later-no-use : (b : Bool) → isUse (laterRole b) ≡ false
-unfolding isUse isInput isOutput laterRole
-later-no-use true = refl
-later-no-use false = refl
-
-bound-no-use : (b : Bool) → isUse (boundRole b) ≡ false
-unfolding isUse isInput isOutput boundRole
-bound-no-use true = refl
-bound-no-use false = refl
-
-free-no-definition : (a b : Bool) → isDefinition (freeRole a b) ≡ false
-unfolding isDefinition freeRole
-free-no-definition true true = refl
-free-no-definition true false = refl
-free-no-definition false true = refl
-free-no-definition false false = refl
-
-line-no-definition : (q : Quantifier) (b : Bool) → isDefinition (lineRole q b) ≡ false
-unfolding isDefinition lineRole
-line-no-definition exists true = refl
-line-no-definition exists false = refl
-line-no-definition for-all true = refl
-line-no-definition for-all false = refl
-
-later-no-definition : (b : Bool) → isDefinition (laterRole b) ≡ false
-unfolding isDefinition laterRole
-later-no-definition true = refl
-later-no-definition false = refl
-
-pub bound-no-definition : (b : Bool) → isDefinition (boundRole b) ≡ false
-unfolding isDefinition boundRole
-bound-no-definition true = refl
-bound-no-definition false = refl
-
-pub output-no-definition : (b : Bool) → isDefinition (outputRole b) ≡ false
-unfolding isDefinition outputRole
-output-no-definition true = refl
-output-no-definition false = refl
-
-pub input-no-definition : (a b : Bool) → isDefinition (inputRole a b) ≡ false
-unfolding isDefinition inputRole
-input-no-definition true true = refl
-input-no-definition true false = refl
-input-no-definition false true = refl
-input-no-definition false false = refl
-
+-- Which roles are uses.
 output-use : (b : Bool) → isUse (outputRole b) ≡ true
-unfolding isUse isInput isOutput outputRole
-output-use true = refl
-output-use false = refl
+unfolding isUse isInput isOutput
+output-use = output-all (λ r. isUse r ≡ true) refl refl
 
 input-use : (a b : Bool) → isUse (inputRole a b) ≡ true
-unfolding isUse isInput isOutput inputRole
-input-use true true = refl
-input-use true false = refl
-input-use false true = refl
-input-use false false = refl
-
--- The tokens before the output, and those of a gate's inputs, define nothing.
-pub front-quiet : (f : File) → Quiet isDefinition (freeTokens (f .free) ++ prefixTokens (f .prefix))
-front-quiet f =
-    quiet-append (quiet-free isDefinition (f .free) free-no-definition) (quiet-prefix isDefinition (f .prefix) line-no-definition later-no-definition)
-
-inputs-quiet : (l : Literal) (ls : List Literal) → Quiet isDefinition (inputsTokens l ls)
-unfolding inputsTokens token
-inputs-quiet l [] = more (input-no-definition (l .minus) true) none
-inputs-quiet l (m ∷ ms) = more (input-no-definition (l .minus) false) (inputs-quiet m ms)
-
--- A gate's tokens: the definition, and others that define nothing.
-pub record GateTokens (g : Gate) : Type 0 where
-  pub role : ℕ
-  pub others : List Token
-  pub defines : isDefinition role ≡ true
-  pub no-use : isUse role ≡ false
-  pub quiet : Quiet isDefinition others
-  pub are : gateTokens g ≡ token role (gateName g) ∷ others
-
-any-quiet : (g : Name) (ls : List Literal) → Quiet isDefinition (anyInputsTokens g ls)
-unfolding anyInputsTokens token isDefinition
-any-quiet g [] = more refl none
-any-quiet g (l ∷ ls) = inputs-quiet l ls
-
-pub junction-defines : (j : Junction) → isDefinition (junctionRole j) ≡ true
-unfolding isDefinition junctionRole
-junction-defines conjunction = refl
-junction-defines disjunction = refl
+unfolding isUse isInput isOutput
+input-use = input-all (λ r. isUse r ≡ true) refl refl refl refl
 
 junction-no-use : (j : Junction) → isUse (junctionRole j) ≡ false
-unfolding isUse isInput isOutput junctionRole
-junction-no-use conjunction = refl
-junction-no-use disjunction = refl
-
-pub quantifier-defines : (q : Quantifier) → isDefinition (quantifierRole q) ≡ true
-unfolding isDefinition quantifierRole
-quantifier-defines exists = refl
-quantifier-defines for-all = refl
-
-quantifier-no-use : (q : Quantifier) → isUse (quantifierRole q) ≡ false
-unfolding isUse isInput isOutput quantifierRole
-quantifier-no-use exists = refl
-quantifier-no-use for-all = refl
-
-pub xor-defines : isDefinition xorRole ≡ true
-unfolding isDefinition
-xor-defines = refl
+unfolding isUse isInput isOutput
+junction-no-use = junction-all (λ r. isUse r ≡ false) refl refl
 
 xor-no-use : isUse xorRole ≡ false
 unfolding isUse isInput isOutput
 xor-no-use = refl
 
-pub gate-tokens : (g : Gate) → GateTokens g
-unfolding gateTokens gateName isUse isInput isOutput isDefinition
-gate-tokens (junction-gate j g ls) =
-    record { role = junctionRole j; others = anyInputsTokens g ls; defines = junction-defines j; no-use = junction-no-use j; quiet = any-quiet g ls; are = refl }
-gate-tokens (xor-gate g l r) =
-    record { role = xorRole; others = inputsTokens l (r ∷ []); defines = refl; no-use = refl; quiet = inputs-quiet l (r ∷ []); are = refl }
-gate-tokens (quantified-gate q g x xs l) =
-    record {
-      role = quantifierRole q;
-      others = listTokens boundRole boundRole x xs ++ inputsTokens l [];
-      defines = quantifier-defines q;
-      no-use = quantifier-no-use q;
-      quiet = quiet-append (quiet-list isDefinition boundRole boundRole x xs bound-no-definition bound-no-definition) (inputs-quiet l []);
-      are = refl;
-    }
+quantifier-no-use : (q : Quantifier) → isUse (quantifierRole q) ≡ false
+unfolding isUse isInput isOutput
+quantifier-no-use = quantifier-all (λ r. isUse r ≡ false) refl refl
+
+bound-no-use : (b : Bool) → isUse (boundRole b) ≡ false
+unfolding isUse isInput isOutput
+bound-no-use = bound-all (λ r. isUse r ≡ false) refl refl
+
+front-no-use : (f : File) → Quiet isUse (freeTokens (f .free) ++ prefixTokens (f .prefix))
+unfolding isUse isInput isOutput
+front-no-use f =
+    quiet-front isUse f (free-all (λ r. isUse r ≡ false) refl refl refl refl) (line-all (λ r. isUse r ≡ false) refl refl refl refl)
+    (later-all (λ r. isUse r ≡ false) refl refl)
 
 -- The gates that the tokens define.
 defined-gates : (gs : List Gate) → definedIn (gatesTokens gs) ≡ numbersOf (gateNames gs)
@@ -244,20 +110,24 @@ uses-gates (g ∷ gs) x =
     uses-gate g (gatesTokens gs) x
     ∙ omega (arith, uses-gates gs x, times-append x (numbersOf (namesOf (gateInputs g))) (inputNumbers gs))
 
--- The laws of a file.
-pub file-defined : (f : File) → definedIn (fileTokens f) ≡ numbersOf (gateNames (f .gates))
-unfolding fileTokens outputToken token definedIn
+-- The laws of a file: its tokens are those before the output, the output and the gates.
+pub file-parts : (f : File) → fileTokens f ≡ (freeTokens (f .free) ++ prefixTokens (f .prefix)) ++ (outputToken (f .output) ∷ gatesTokens (f .gates))
+unfolding fileTokens
+file-parts f = sym (append-assoc (freeTokens (f .free)) (prefixTokens (f .prefix)) (outputToken (f .output) ∷ gatesTokens (f .gates)))
+
+file-defined : (f : File) → definedIn (fileTokens f) ≡ numbersOf (gateNames (f .gates))
+unfolding outputToken token definedIn
 file-defined f =
-    defined-quiet (prefixTokens (f .prefix) ++ (outputToken (f .output) ∷ gatesTokens (f .gates))) (quiet-free isDefinition (f .free) free-no-definition)
-    ∙ defined-quiet (outputToken (f .output) ∷ gatesTokens (f .gates)) (quiet-prefix isDefinition (f .prefix) line-no-definition later-no-definition)
+    ap definedIn (file-parts f)
+    ∙ defined-quiet (outputToken (f .output) ∷ gatesTokens (f .gates)) (front-no-definition f)
     ∙ pick-no _ _ _ (output-no-definition (f .output .minus))
     ∙ defined-gates (f .gates)
 
-pub file-uses : (f : File) (x : ℕ) → usesIn (fileTokens f) x ≡ times x (usedNumbers f)
-unfolding fileTokens outputToken token usesIn usedNumbers times
+file-uses : (f : File) (x : ℕ) → usesIn (fileTokens f) x ≡ times x (usedNumbers f)
+unfolding outputToken token usesIn usedNumbers times
 file-uses f x =
-    uses-quiet (prefixTokens (f .prefix) ++ (outputToken (f .output) ∷ gatesTokens (f .gates))) x (quiet-free isUse (f .free) free-no-use)
-    ∙ uses-quiet (outputToken (f .output) ∷ gatesTokens (f .gates)) x (quiet-prefix isUse (f .prefix) line-no-use later-no-use)
+    ap (λ (ts : List Token). usesIn ts x) (file-parts f)
+    ∙ uses-quiet (outputToken (f .output) ∷ gatesTokens (f .gates)) x (front-no-use f)
     ∙ omega (arith, use-one (outputRole (f .output .minus)) (f .output .name .number) x (output-use (f .output .minus)), uses-gates (f .gates) x)
 
 -- Two uses at most are enough to see whether there is one.

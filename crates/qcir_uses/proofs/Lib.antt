@@ -1,2 +1,4 @@
+pub mod Tokens
+pub mod Roles
 pub mod Passes
 pub mod Files

@@ -3,7 +3,7 @@
 use mathlib.Core.Bool.{Bool, true, false, not, _&&_}
 use mathlib.Core.List.{List, [], _∷_}
 use mathlib.Core.Path.{_≡_, refl, sym, _∙_, ap}
-use Prim.Native.Nat.{ℕ, zero, suc, _+_, _-_, _≤_, _<_, min}
+use Prim.Native.Nat.{ℕ, suc, _+_, _-_, _≤_, _<_, min}
 use native.Mathlib.Numerals.{add-one}
 use native.Mathlib.Omega.{arith}
 use lib.Dec.{eqb, ltb}
@@ -11,32 +11,12 @@ use lib.ListN.{length, getD, set}
 use borrow.Author.Tests.{eqb-true, eqb-false, eq-eqb, ne-eqb, ltb-false}
 use Rattle.lists.specs.Choice.{pick, pick-yes, pick-no, Is, is-true, is-false, look, clash, and-off-left, and-right, same-test}
 use Rattle.lists.proofs.Stores.{getD-set}
-use Rattle.qcir.specs.File.{Name}
 use Rattle.qcir.specs.Refusals.{keep, least}
 use Rattle.qcir_tokens.specs.Tokens.{Token, isDefinition, isUse, definitionFrom}
 use Rattle.qcir_tokens.specs.Held.{tokenAt, tokensFrom, numberCount, Definitions, foundOf}
 use Rattle.qcir_tokens.specs.declared.Found.{Found}
 use Rattle.qcir_uses.specs.Uses.{usesIn, definedIn, misusedIn}
-
--- no tokens are left at the end
-pub tokens-none : (roles numbers ps : List ℕ) (count : ℕ) → tokensFrom roles numbers ps count (count - count) ≡ []
-unfolding tokensFrom
-tokens-none roles numbers ps count =
-    let e : count - count ≡ 0 = omega arith in ap (tokensFrom roles numbers ps count) e
-
--- from token 0 on there are all of them
-pub tokens-all : (roles numbers ps : List ℕ) (count i : ℕ) → i ≡ 0 → tokensFrom roles numbers ps i (count - i) ≡ tokensFrom roles numbers ps 0 count
-tokens-all roles numbers ps count i e =
-    let n : count - i ≡ count = omega arith in rw (n, e)
-
--- one token before those from token i on
-pub tokens-back : (roles numbers ps : List ℕ) (count i : ℕ) → 0 < i → i ≤ count → tokensFrom roles numbers ps (i - 1) (count - (i - 1)) ≡ tokenAt roles numbers ps (i - 1) ∷ tokensFrom roles numbers ps i (count - i)
-unfolding tokensFrom
-tokens-back roles numbers ps count i h l =
-    let a : count - (i - 1) ≡ suc (count - i) = omega arith in
-    let b : suc (i - 1) ≡ i = omega arith in
-    ap (tokensFrom roles numbers ps (i - 1)) a
-    ∙ ap (λ (k : ℕ). tokenAt roles numbers ps (i - 1) ∷ tokensFrom roles numbers ps k (count - i)) b
+use Rattle.qcir_uses.proofs.Tokens.{tokens-end, tokens-back, tokens-all}
 
 -- the first definitions among the tokens from token i on
 pub record Marked (roles numbers : List ℕ) (count : ℕ) (gates : List ℕ) (i : ℕ) : Type 0 where
@@ -67,7 +47,7 @@ module _ (roles numbers : List ℕ) (count : ℕ) where
   marked-none gates w h =
       record {
         wide = w;
-        holds = λ ps x. h x ∙ ap (λ (ts : List Token). definitionFrom count ts x) (sym (tokens-none roles numbers ps count));
+        holds = λ ps x. h x ∙ ap (λ (ts : List Token). definitionFrom count ts x) (sym (tokens-end roles numbers ps count count (omega arith)));
       }
 
   pub marked-more : (gates after : List ℕ) (i : ℕ) → 0 < i → i ≤ count → Marked roles numbers count gates i → length after ≡ length gates → ((x : ℕ) → getD after x 0 ≡ pick (isDefinition (getD roles (i - 1) 0) && eqb (getD numbers (i - 1) 0) x) (i - 1 + 1) (getD gates x 0)) → Marked roles numbers count after (i - 1)
@@ -100,7 +80,7 @@ module _ (roles numbers : List ℕ) (count : ℕ) where
   counted-none uses w h =
       record {
         wide = w;
-        holds = λ ps x. h x ∙ ap (λ (ts : List Token). min 2 (usesIn ts x)) (sym (tokens-none roles numbers ps count));
+        holds = λ ps x. h x ∙ ap (λ (ts : List Token). min 2 (usesIn ts x)) (sym (tokens-end roles numbers ps count count (omega arith)));
       }
 
   pub counted-more : (uses after : List ℕ) (i : ℕ) → 0 < i → i ≤ count → Counted roles numbers count uses i → length after ≡ length uses → ((x : ℕ) → getD after x 0 ≡ pick (isUse (getD roles (i - 1) 0) && eqb (getD numbers (i - 1) 0) x) (pick (eqb (getD uses x 0) 0) 1 2) (getD uses x 0)) → Counted roles numbers count after (i - 1)
@@ -123,7 +103,7 @@ module _ (roles numbers : List ℕ) (count : ℕ) where
 
   pub misused-none : (uses : List ℕ) → Misused uses (record { found = false; lowest = 0 }) count
   unfolding misusedIn definedIn keep foundOf least
-  misused-none uses ps = ap (λ (ts : List Token). foundOf (misusedIn (λ x. getD uses x 0) ts)) (sym (tokens-none roles numbers ps count))
+  misused-none uses ps = ap (λ (ts : List Token). foundOf (misusedIn (λ x. getD uses x 0) ts)) (sym (tokens-end roles numbers ps count count (omega arith)))
 
   pub misused-more : (uses : List ℕ) (found after : Found) (i : ℕ) → 0 < i → i ≤ count → Misused uses found i → ((xs : List ℕ) → found ≡ foundOf xs → after ≡ foundOf (pick (isDefinition (getD roles (i - 1) 0) && not (eqb (getD uses (getD numbers (i - 1) 0) 0) 1)) (getD numbers (i - 1) 0 ∷ xs) xs)) → Misused uses after (i - 1)
   unfolding misusedIn definedIn keep tokenAt
