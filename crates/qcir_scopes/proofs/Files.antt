@@ -1,29 +1,29 @@
 -- The whole walk: it stays within the arrays that hold a file's tokens, and finds the file's unbound variables.
 -- Assumes nothing.
 use mathlib.Core.Path.{_≡_, refl, sym, _∙_, ap, subst, fun-ext}
-use mathlib.Core.Bool.{Bool, true, false, not, _&&_, _||_, or-false}
+use mathlib.Core.Bool.{Bool, true, false, not, _&&_, or-false}
 use mathlib.Core.List.{List, [], _∷_, _++_, append-nil, append-assoc, append-eq-nil-iff}
 use Prim.Native.Nat.{ℕ, zero, suc, _+_, _*_, _-_, _≤_, _<_, min}
 use native.Mathlib.Omega.{arith}
 use lib.Dec.{eqb}
 use lib.ListN.{length, getD, replicate, length-append, length-replicate}
-use borrow.Author.Tests.{eq-eqb, ne-eqb}
+use borrow.Author.Tests.{ne-eqb}
 use Rattle.lists.specs.Choice.{pick, pick-yes, pick-no, Is, is-true, is-false, look, clash, and-off-left}
 use Rattle.lists.specs.Members.{mem}
 use Rattle.lists.proofs.Members.{mem-nil}
 use Rattle.lists.proofs.Stores.{getD-filled}
 use Rattle.qcir.specs.File.{Literal, Name, Gate, gateName, gateVariables, gateInputs, File, numbersOf, prefixVariables}
-use Rattle.qcir.specs.Refusals.{keep, least, gateNames, outerNames, quantifiedNames, repeated, repeatedInGates, gatesListed, earlyUses, misplaced, notUsedOnce, openNames, unbound}
+use Rattle.qcir.specs.Refusals.{keep, least, gateNames, outerNames, quantifiedNames, repeated, gatesListed, earlyUses, misplaced, notUsedOnce, openNames, unbound}
 use Rattle.qcir_tokens.specs.declared.Found.{Found}
 use Rattle.qcir_tokens.specs.Tokens.{Token, token, isUse, isDefinition, outputToken, outputRole, freeTokens, prefixTokens, inputsTokens, anyInputsTokens, gateTokens, gatesTokens, fileTokens, definitionFrom, definition}
-use Rattle.qcir_tokens.specs.Held.{tokenAt, tokensFrom, numberCount, Definitions, foundOf}
+use Rattle.qcir_tokens.specs.Held.{tokenAt, tokensFrom, numberCount, foundOf}
 use Rattle.qcir_scopes.specs.declared.Walk.{Walk}
 use Rattle.qcir_scopes.specs.Judged.{Judged, tokenLimit}
-use Rattle.qcir_scopes.specs.Steps.{Tokens, tokensOf, State, stateOf, isEnd, isAbove, moved, past, noted, step, run, first, Within, Walking}
-use Rattle.qcir_scopes.proofs.Run.{stand, run-add, run-two, run-still, step-above, notedAll, listed, keep-cong}
-use Rattle.qcir_scopes.proofs.Roles.{Tests, definitionRole, input-tests, empty-tests, output-tests, Each, each-none, each-more, each-append, each-map, OuterEntry, free-each, prefix-each, boundTokens, gate-line, tokenNumbers, numbers-append, free-numbers, prefix-numbers, names-append, Held, held-none, held-more, held-left, held-right}
-use Rattle.qcir_scopes.proofs.Lines.{past-end, marked, marked-is, savedAll, entries-run, Done, Good, use-run}
-use Rattle.qcir_scopes.proofs.Gates.{weights, skip-definitions, Passed, passed-all}
+use Rattle.qcir_scopes.specs.Steps.{Tokens, tokensOf, stateOf, isEnd, isAbove, moved, noted, run, first, Within, Walking}
+use Rattle.qcir_scopes.proofs.Run.{stand, run-two, run-still, step-above, notedAll, listed, keep-cong}
+use Rattle.qcir_scopes.proofs.Roles.{input-tests, empty-tests, output-tests, Each, each-none, each-more, each-append, each-map, OuterEntry, free-each, prefix-each, boundTokens, gate-line, tokenNumbers, numbers-append, free-numbers, prefix-numbers, names-append, Held, held-none, held-more, held-left, held-right}
+use Rattle.qcir_scopes.proofs.Lines.{past-end, marked, marked-is, savedAll, entries-run, Good, use-run}
+use Rattle.qcir_scopes.proofs.Gates.{weights, skip-definitions, passed-all}
 use Rattle.qcir_scopes.proofs.Linear.{output-le}
 
 -- What is noted is what is found.
@@ -228,7 +228,7 @@ module _ (t : Tokens) (f : File) (held : Held t 0 (fileTokens f)) (defined : (x 
       let d = use-run t q xs k i (ap isUse r ∙ tests .use-is) good first outer-marks saved c in
       let v : Walk = listed outer-marks xs first in
       let halt = run-still t (2 * length (fileTokens f) - (i + suc k)) (stand (moved i true v) outer-marks (d .saves) (d .calls))
-            (step-above t i v outer-marks (d .saves) (d .calls) (ap isAbove r ∙ tests .above-is)) in
+      (step-above t i v outer-marks (d .saves) (d .calls) (ap isAbove r ∙ tests .above-is)) in
       let parts = ap length (file-tokens f) ∙ length-append (outerTokens f) (outputToken (f .output) ∷ gatesTokens (f .gates)) in
       let few = output-le f once in
       let a : 2 * length (fileTokens f) ≡ i + (suc k + (2 * length (fileTokens f) - (i + suc k))) = omega arith in

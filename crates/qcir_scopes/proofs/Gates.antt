@@ -3,20 +3,20 @@
 use mathlib.Core.Path.{_≡_, refl, sym, _∙_, ap, subst}
 use mathlib.Core.Bool.{Bool, true, false, not, _&&_, _||_}
 use mathlib.Core.List.{List, [], _∷_, _++_, append-eq-nil-iff}
-use Prim.Native.Nat.{ℕ, zero, suc, _+_, _*_, _≤_, _<_}
+use Prim.Native.Nat.{ℕ, suc, _+_, _*_, _≤_, _<_}
 use native.Mathlib.Omega.{arith}
 use lib.Dec.{eqb}
 use lib.ListN.{length, length-append}
 use borrow.Author.Tests.{eqb-true, eqb-false, eq-eqb, ne-eqb}
-use Rattle.lists.specs.Choice.{pick, pick-yes, pick-no, Is, is-true, is-false, look, clash, or-left, or-right, or-neither-left, or-neither-right, and-off-left}
+use Rattle.lists.specs.Choice.{pick, pick-yes, pick-no, Is, is-true, is-false, look, clash, or-neither-left, or-neither-right, and-off-left}
 use Rattle.lists.specs.Members.{mem}
 use Rattle.lists.proofs.Members.{mem-nil}
-use Rattle.qcir.specs.File.{Name, Literal, Gate, gateName, gateVariables, gateInputs, numbersOf, namesOf}
+use Rattle.qcir.specs.File.{Name, Gate, gateName, gateVariables, gateInputs, numbersOf, namesOf}
 use Rattle.qcir.specs.Refusals.{keep, gateNames, repeated, namingGates, without, earlyUses, Open, openInputs, openNames}
 use Rattle.qcir_tokens.specs.Tokens.{Token, token, isDefinition, gateTokens, gatesTokens, definitionFrom, anyInputsTokens}
 use Rattle.qcir_scopes.specs.Steps.{Tokens}
-use Rattle.qcir_scopes.proofs.Roles.{Tests, definitionRole, definition-tests, Each, each-none, each-more, each-append, each-map, GateEntry, Plain, boundTokens, bound-each, any-each, gate-line, Held, held-left, held-right}
-use Rattle.qcir_scopes.proofs.Lines.{Done, Runs, Good, good-variable, good-gate, total, line-run}
+use Rattle.qcir_scopes.proofs.Roles.{definition-tests, Each, each-none, each-more, each-append, each-map, boundTokens, bound-each, any-each, gate-line, Held, held-left, held-right}
+use Rattle.qcir_scopes.proofs.Lines.{Done, Good, good-variable, good-gate, total, line-run}
 
 -- The steps that the walk takes through what each name stands for: two for each token of a gate's line, and those of its inputs.
 unfoldable pub weights : (ℕ → ℕ) → List Gate → ℕ → ℕ
@@ -178,10 +178,10 @@ module _ (t : Tokens) where
       let first = append-eq-nil-iff {p = pick (mem (gateName g .number) before) (gateName g .position ∷ []) []} .0 rep in
       let inputs = append-eq-nil-iff {p = namingGates (numbersOf (gateNames (g ∷ gs))) (without before (namesOf (gateInputs g)))} .0 early in
       let rest =
-            passed-all gs (p + length (gateTokens g)) (gateName g .number ∷ before) _ _
-            (held-right t p (gateTokens g) (gatesTokens gs) held)
-            (first .1)
-            (inputs .1)
-            (passed-line g gs p before o n (held-left t p (gateTokens g) (gatesTokens gs) held)
-            (pick-empty (mem (gateName g .number) before) (gateName g .position) (first .0)) (inputs .0) a) x in
+      passed-all gs (p + length (gateTokens g)) (gateName g .number ∷ before) _ _
+      (held-right t p (gateTokens g) (gatesTokens gs) held)
+      (first .1)
+      (inputs .1)
+      (passed-line g gs p before o n (held-left t p (gateTokens g) (gatesTokens gs) held)
+      (pick-empty (mem (gateName g .number) before) (gateName g .position) (first .0)) (inputs .0) a) x in
       good-more (omega arith) rest

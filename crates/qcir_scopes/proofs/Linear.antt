@@ -1,14 +1,14 @@
 -- Where each gate is used at most once, the walk takes at most two steps for each token of a gate line.
 -- Assumes nothing.
 use mathlib.Core.Path.{_≡_, refl, sym, _∙_, ap, subst}
-use mathlib.Core.Bool.{Bool, true, false, not, _||_}
+use mathlib.Core.Bool.{Bool, true, false, not}
 use mathlib.Core.List.{List, [], _∷_, _++_}
-use Prim.Native.Nat.{ℕ, zero, suc, _+_, _*_, _≤_, _<_}
+use Prim.Native.Nat.{ℕ, suc, _+_, _*_, _≤_}
 use native.Mathlib.Omega.{arith}
 use lib.Dec.{eqb}
 use lib.ListN.{length, length-append}
 use borrow.Author.Tests.{eqb-true, eqb-false, eq-eqb, ne-eqb, not-false}
-use Rattle.lists.specs.Choice.{pick, pick-yes, pick-no, Is, is-true, is-false, look, clash, or-left, or-right}
+use Rattle.lists.specs.Choice.{pick, pick-yes, pick-no, Is, is-true, is-false, look, clash}
 use Rattle.lists.specs.Members.{mem, times}
 use Rattle.lists.proofs.Members.{mem-nil, mem-head, mem-tail}
 use Rattle.qcir.specs.File.{Gate, gateName, gateInputs, File, numbersOf, namesOf}
@@ -74,7 +74,7 @@ weights-le (g ∷ gs) n us h =
     let rest : List ℕ = inputNumbers gs in
     let k : ℕ = 2 * length (gateTokens g) + total n is in
     let fewer : (x : ℕ) → times x (us ++ rest) ≤ times x (us ++ (is ++ rest))
-          = λ x. omega (arith, times-append x us rest, times-append x us (is ++ rest), times-append x is rest) in
+    = λ x. omega (arith, times-append x us rest, times-append x us (is ++ rest), times-append x is rest) in
     let r = weights-le gs (with-at n own k) us (λ x m. let a = h x (mem-tail x own (numbersOf (gateNames gs)) m) in let b = fewer x in omega arith) in
     let o = h own (mem-head own (numbersOf (gateNames gs))) in
     let f = fewer own in
@@ -103,7 +103,7 @@ unfolding notUsedOnce usedNumbers total
 output-le f e =
     let y : ℕ = f .output .name .number in
     let once : (x : ℕ) → mem x (numbersOf (gateNames (f .gates))) ≡ true → times x (y ∷ inputNumbers (f .gates)) ≡ 1
-          = λ x m. eqb-true (times x (y ∷ inputNumbers (f .gates))) 1
-          (not-false (eqb (times x (y ∷ inputNumbers (f .gates))) 1) (keep-none (λ z. not (eqb (times z (y ∷ inputNumbers (f .gates))) 1)) (numbersOf (gateNames (f .gates))) e x m)) in
+    = λ x m. eqb-true (times x (y ∷ inputNumbers (f .gates))) 1
+    (not-false (eqb (times x (y ∷ inputNumbers (f .gates))) 1) (keep-none (λ z. not (eqb (times z (y ∷ inputNumbers (f .gates))) 1)) (numbersOf (gateNames (f .gates))) e x m)) in
     let r = weights-le (f .gates) (λ x. 0) (y ∷ []) (λ x m. let o = once x m in omega arith) in
     omega (arith, none-weighs (inputNumbers (f .gates)))

@@ -1,23 +1,22 @@
 -- The walk through lists of entries, through inputs, and through a gate line and back.
 -- Assumes nothing.
-use mathlib.Core.Path.{_≡_, refl, sym, _∙_, ap, subst, fun-ext}
-use mathlib.Core.Bool.{Bool, true, false, not, _&&_, _||_}
+use mathlib.Core.Path.{_≡_, refl, sym, _∙_, ap, subst}
+use mathlib.Core.Bool.{Bool, true, false, not, _||_}
 use mathlib.Core.List.{List, [], _∷_, _++_}
-use Prim.Native.Nat.{ℕ, zero, suc, _+_, _*_, _-_, _≤_, _<_}
+use Prim.Native.Nat.{ℕ, suc, _+_, _*_, _-_, _≤_, _<_}
 use native.Mathlib.Omega.{arith}
 use lib.Dec.{eqb}
 use lib.ListN.{length, length-append}
-use borrow.Author.Tests.{eqb-true, eqb-false, eq-eqb, ne-eqb}
-use Rattle.lists.specs.Choice.{pick, pick-yes, pick-no, Is, is-true, is-false, look}
+use Rattle.lists.specs.Choice.{pick-yes, pick-no, Is, is-true, is-false, look}
 use Rattle.lists.specs.Members.{mem}
 use Rattle.lists.proofs.Members.{mem-head, mem-tail}
 use Rattle.qcir.specs.File.{Name, Literal, Gate, gateName, gateVariables, gateInputs, numbersOf, namesOf}
 use Rattle.qcir.specs.Refusals.{keep, Open, openInputs}
-use Rattle.qcir_tokens.specs.Tokens.{Token, token, inputRole, emptyRole, isUse, isBound, isDefinition, inputsTokens, anyInputsTokens, gateTokens}
+use Rattle.qcir_tokens.specs.Tokens.{Token, token, isUse, isBound, isDefinition, inputsTokens, anyInputsTokens, gateTokens}
 use Rattle.qcir_scopes.specs.declared.Walk.{Walk}
-use Rattle.qcir_scopes.specs.Steps.{Tokens, State, put, isEntry, isEnd, isAbove, moved, past, judged, step, run}
+use Rattle.qcir_scopes.specs.Steps.{Tokens, State, put, isEntry, isEnd, isAbove, moved, past, run}
 use Rattle.qcir_scopes.proofs.Within.{state-same}
-use Rattle.qcir_scopes.proofs.Run.{stand, put-same, put-other, put-back, run-add, run-two, run-one, step-plain, step-entry, step-variable, step-call, step-return, step-free, step-back, listed, notedAll, listed-append, listed-none, keep-cong, keep-two, judged-one, past-judged}
+use Rattle.qcir_scopes.proofs.Run.{stand, put-same, put-other, put-back, run-two, run-one, step-plain, step-entry, step-variable, step-call, step-return, step-free, step-back, listed, notedAll, listed-append, listed-none, keep-cong, keep-two, judged-one, past-judged}
 use Rattle.qcir_scopes.proofs.Roles.{Tests, definitionRole, definition-tests, input-tests, empty-tests, Each, each-none, each-more, GateEntry, Plain, boundTokens, bound-each, any-each, gate-line, tokenNumbers, bound-numbers, Held, held-none, held-more, held-left, held-right}
 
 pub past-on : (r i : ℕ) (w : Walk) → isEnd r ≡ false → past r i w ≡ moved (suc i) false w
@@ -228,8 +227,8 @@ module _ (t : Tokens) (q : ℕ) where
         let h = input-tests (l .minus) false in
         let g = subst (λ y. Good t q (o x) (n x) y) (sym e) (good x (mem-head x (numbersOf (namesOf (k ∷ ks))))) in
         let first =
-              done-as refl (past-on (t .role p) p (listed m (o x) w) (ap isEnd r ∙ h .end-is))
-              (use-run (o x) (n x) p (ap isUse r ∙ h .use-is) g w m s c) in
+        done-as refl (past-on (t .role p) p (listed m (o x) w) (ap isEnd r ∙ h .end-is))
+        (use-run (o x) (n x) p (ap isUse r ∙ h .use-is) g w m s c) in
         let rest = inputs-run k ks (suc p) held (λ y z. good y (mem-tail y x (numbersOf (namesOf (k ∷ ks))) z)) (listed m (o x) w) m (first .saves) (first .calls) in
         let a : suc (n x) + (suc (length ks) + total n (numbersOf (namesOf (k ∷ ks)))) ≡ suc (suc (length ks)) + (n x + total n (numbersOf (namesOf (k ∷ ks)))) = omega arith in
         let b : suc p + length ks ≡ p + suc (length ks) = omega arith in
@@ -298,18 +297,18 @@ module _ (t : Tokens) (o : Open) (n : ℕ → ℕ) (r : ℕ) (tests : Tests r fa
       let each-es = subst (Each Plain) (sym es-are) (any-each g ls) in
       let tot : ℕ = total n (numbersOf (namesOf ls)) in
       let d : Done t p (length es + tot) (stand (moved (suc p + length vs) false w) mm ss c) (moved (suc p + length vs + length es - 1) true v) mm
-            = subst (λ z. Done t p (length z + tot) (stand (moved (suc p + length vs) false w) mm ss c) (moved (suc p + length vs + length z - 1) true v) mm) (sym es-are)
-            (end-run t p o n g ls (suc p + length vs) (subst (Held t (suc p + length vs)) es-are held-es) good w mm ss c) in
+      = subst (λ z. Done t p (length z + tot) (stand (moved (suc p + length vs) false w) mm ss c) (moved (suc p + length vs + length z - 1) true v) mm) (sym es-are)
+      (end-run t p o n g ls (suc p + length vs) (subst (Held t (suc p + length vs)) es-are held-es) good w mm ss c) in
       let saves = saves-kept ss (d .saves) ys (suc p) m (λ i l. d .saved-kept i (omega arith)) (saved-saves ys (suc p) m s) in
       let b : suc p - 1 ≡ p = omega arith in
       let a : 1 + (length vs + ((length es + tot) + (length es + (length vs + 1)))) ≡ 2 * suc (length (vs ++ es)) + tot
-            = omega (arith, length-append vs es) in
+      = omega (arith, length-append vs es) in
       let into : run t 1 (stand (moved p false w) m s c) ≡ stand (moved (suc p) false w) m s c
-            = run-one t _ _ (step-plain t p w m s c (ap isUse role ∙ tests .use-is) (ap isEntry role ∙ tests .entry-is)
-            ∙ ap (λ u. stand u m s c) (past-on (t .role p) p w (ap isEnd role ∙ tests .end-is))) in
+      = run-one t _ _ (step-plain t p w m s c (ap isUse role ∙ tests .use-is) (ap isEntry role ∙ tests .entry-is)
+      ∙ ap (λ u. stand u m s c) (past-on (t .role p) p w (ap isEnd role ∙ tests .end-is))) in
       let out : run t 1 (stand (moved p true v) m (d .saves) (d .calls)) ≡ stand (past (t .role (c p)) (c p) v) m (d .saves) (d .calls)
-            = run-one t _ _ (step-return t p v m (d .saves) (d .calls) (ap isAbove role ∙ tests .above-is) (ap isDefinition role ∙ tests .definition-is)
-            ∙ ap (λ j. stand (past (t .role j) j v) m (d .saves) (d .calls)) (d .callers-kept p (omega arith))) in
+      = run-one t _ _ (step-return t p v m (d .saves) (d .calls) (ap isAbove role ∙ tests .above-is) (ap isDefinition role ∙ tests .definition-is)
+      ∙ ap (λ j. stand (past (t .role j) j v) m (d .saves) (d .calls)) (d .callers-kept p (omega arith))) in
       record {
         saves = d .saves;
         calls = d .calls;
@@ -337,8 +336,10 @@ line-run t o n g p held good = go (subst (Held t p) (gate-line g) held)
   where
     vs : List Token
     vs = boundTokens (gateVariables g)
+
     es : List Token
     es = anyInputsTokens (gateName g) (gateInputs g)
+
     go : Held t p (token (definitionRole g) (gateName g) ∷ (vs ++ es))
         → Runs t (p + length (gateTokens g)) p (2 * length (gateTokens g) + total n (numbersOf (namesOf (gateInputs g))))
         (keep (λ y. not (mem y (numbersOf (gateVariables g)))) (openInputs o (gateInputs g)))

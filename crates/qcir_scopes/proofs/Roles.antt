@@ -1,13 +1,13 @@
 -- What the walk asks of each role, and tokens held in arrays.
 -- Assumes nothing.
 use mathlib.Core.Path.{_≡_, refl, sym, _∙_, ap, subst}
-use mathlib.Core.Bool.{Bool, true, false, _&&_, _||_}
+use mathlib.Core.Bool.{Bool, true, false}
 use mathlib.Core.List.{List, [], _∷_, _++_}
-use Prim.Native.Nat.{ℕ, zero, suc, _+_}
+use Prim.Native.Nat.{ℕ, suc, _+_}
 use native.Mathlib.Omega.{arith}
-use lib.ListN.{length, length-append}
+use lib.ListN.{length}
 use Rattle.formula.specs.Node.{Quantifier, exists, for-all}
-use Rattle.qcir.specs.File.{Name, Literal, Junction, conjunction, disjunction, Gate, junction-gate, xor-gate, quantified-gate, gateName, gateVariables, gateInputs, Line, numbersOf, prefixVariables, lineVariables}
+use Rattle.qcir.specs.File.{Name, Literal, conjunction, disjunction, Gate, junction-gate, xor-gate, quantified-gate, gateName, gateVariables, gateInputs, Line, numbersOf, prefixVariables, lineVariables}
 use Rattle.qcir_tokens.specs.Tokens.{Token, token, freeRole, lineRole, laterRole, outputRole, junctionRole, xorRole, quantifierRole, boundRole, inputRole, emptyRole, isOuter, isOutput, isDefinition, isBound, isInput, isUse, isLast, listTokens, freeTokens, prefixTokens, inputsTokens, anyInputsTokens, gateTokens}
 use Rattle.qcir_scopes.specs.Steps.{Tokens, isEntry, isEnd, isAbove}
 

@@ -1,17 +1,17 @@
 -- Runs of the walk: one after the other, and single steps.
 -- Assumes nothing.
-use mathlib.Core.Path.{_≡_, refl, sym, _∙_, ap, subst, fun-ext}
+use mathlib.Core.Path.{_≡_, refl, sym, _∙_, ap, fun-ext}
 use mathlib.Core.Bool.{Bool, true, false, not, _||_}
 use mathlib.Core.List.{List, [], _∷_, _++_}
-use Prim.Native.Nat.{ℕ, zero, suc, _+_, _-_, _≤_, _<_}
+use Prim.Native.Nat.{ℕ, zero, suc, _+_, _-_}
 use native.Mathlib.Omega.{arith}
 use lib.Dec.{eqb}
-use borrow.Author.Tests.{eqb-true, eqb-false, eq-eqb, ne-eqb}
+use borrow.Author.Tests.{eqb-true, eq-eqb, ne-eqb}
 use Rattle.lists.specs.Choice.{pick, pick-yes, pick-no, Is, is-true, is-false, look}
 use Rattle.qcir.specs.Refusals.{keep}
 use Rattle.qcir_tokens.specs.Tokens.{isUse, isBound, isDefinition}
 use Rattle.qcir_scopes.specs.declared.Walk.{Walk}
-use Rattle.qcir_scopes.specs.Steps.{Tokens, State, put, isEntry, isEnd, isAbove, moved, past, noted, judged, bound, used, onward, freed, back, step, run}
+use Rattle.qcir_scopes.specs.Steps.{Tokens, State, put, isEntry, isAbove, moved, past, noted, judged, bound, used, onward, freed, back, step, run}
 
 abbrev pub stand : Walk → (ℕ → Bool) → (ℕ → Bool) → (ℕ → ℕ) → State
 stand w m s c = record { walk = w; marks = m; saved = s; callers = c }

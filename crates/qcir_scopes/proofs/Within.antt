@@ -1,13 +1,13 @@
 -- Each step of the code is a step of the walk, and stays within the arrays.
 -- Assumes nothing.
 use mathlib.Core.Path.{_≡_, refl, sym, _∙_, ap, subst, fun-ext}
-use mathlib.Core.Bool.{Bool, true, false, _&&_, _||_}
+use mathlib.Core.Bool.{Bool, true, false, _&&_}
 use mathlib.Core.List.{List}
-use Prim.Native.Nat.{ℕ, zero, suc, _+_, _-_, _≤_, _<_, min}
+use Prim.Native.Nat.{ℕ, zero, suc, _-_, _≤_, _<_, min}
 use native.Mathlib.Omega.{arith}
-use lib.Dec.{eqb, leb, ltb}
+use lib.Dec.{eqb, ltb}
 use lib.ListN.{length, getD, set, length-set}
-use borrow.Author.Tests.{eqb-true, eqb-false, eq-eqb, ne-eqb, leb-false, le-leb, lt-leb, ltb-true, ltb-false}
+use borrow.Author.Tests.{eqb-true, eqb-false, eq-eqb, ne-eqb, ltb-true, ltb-false}
 use Rattle.lists.specs.Choice.{pick, pick-yes, pick-no, Is, is-true, is-false, look, clash, and-left, and-right}
 use Rattle.lists.proofs.Stores.{getD-set, set-all}
 use Rattle.qcir_tokens.specs.Tokens.{isUse, isBound, isDefinition}
@@ -47,7 +47,7 @@ unfolding run
 run-none t zero s z l e = e
 run-none t (suc n) s z l e = absurd (omega arith)
 
-module _ (roles numbers gates : List ℕ) (count : ℕ) (h : Within roles numbers count gates) where
+module _ {roles numbers gates : List ℕ} {count : ℕ} (h : Within roles numbers count gates) where
   past-low : (w : Walk) (i : ℕ) → i < count → past (getD roles i 0) i w .at < count
   unfolding past moved
   past-low w i l = go (look (isEnd (getD roles i 0)))
@@ -61,12 +61,11 @@ module _ (roles numbers gates : List ℕ) (count : ℕ) (h : Within roles number
           below (is-false q) = let d = eqb-false (suc i) count q in omega arith
 
   -- a token that is no first one has one before it
-  pub before-low : (i : ℕ) → leb (getD roles i 0) 12 ≡ false → 0 < i
-  unfolding isAbove
+  pub before-low : (i : ℕ) → isAbove (getD roles i 0) ≡ false → 0 < i
   before-low zero e = clash (h .starts-above) e
   before-low (suc i) e = omega arith
 
-  module _ (w : Walk) (marks saved : List Bool) (callers : List ℕ) (s : Walking count w marks saved callers) where
+  module _ {w : Walk} {marks saved : List Bool} {callers : List ℕ} (s : Walking count w marks saved callers) where
     at-limit : w .at < tokenLimit
     at-limit = let a = s .at-low in let b = h .few in omega arith
 
@@ -186,24 +185,24 @@ module _ (roles numbers gates : List ℕ) (count : ℕ) (h : Within roles number
     unfolding onward tokensOf stateOf
     onward-past r n t e = sym (pick-no _ _ _ n ∙ pick-no _ _ _ t ∙ state-same (sym e) refl refl refl)
 
-    pub back-above : leb (getD roles (w .at) 0) 12 ≡ true
+    pub back-above : isAbove (getD roles (w .at) 0) ≡ true
         → stateOf w marks saved callers ≡ back (tokensOf roles numbers gates) (w .at) (stateOf w marks saved callers)
-    unfolding back tokensOf isAbove
+    unfolding back tokensOf
     back-above t = sym (pick-yes _ _ _ t)
 
-    module _ (r : Walk) (n : leb (getD roles (w .at) 0) 12 ≡ false) where
+    module _ (r : Walk) (n : isAbove (getD roles (w .at) 0) ≡ false) where
       pub back-returned : isDefinition (getD roles (w .at) 0) ≡ true → r ≡ past (getD roles (getD callers (w .at) 0) 0) (getD callers (w .at) 0) w
           → stateOf r marks saved callers ≡ back (tokensOf roles numbers gates) (w .at) (stateOf w marks saved callers)
-      unfolding back tokensOf stateOf isAbove
+      unfolding back tokensOf stateOf
       back-returned t e = sym (pick-no _ _ _ n ∙ pick-yes _ _ _ t ∙ state-same (sym e) refl refl refl)
 
       pub back-freed : isDefinition (getD roles (w .at) 0) ≡ false → isBound (getD roles (w .at) 0) ≡ true → getD numbers (w .at) 0 < numberCount
           → r ≡ moved (w .at - 1) true w
           → stateOf r (set marks (getD numbers (w .at) 0) (getD saved (w .at) false)) saved callers ≡ back (tokensOf roles numbers gates) (w .at) (stateOf w marks saved callers)
-      unfolding back tokensOf isAbove
+      unfolding back tokensOf
       back-freed d t l e = freed-is r (getD numbers (w .at) 0) l e ∙ sym (pick-no _ _ _ n ∙ pick-no _ _ _ d ∙ pick-yes _ _ _ t)
 
       pub back-on : isDefinition (getD roles (w .at) 0) ≡ false → isBound (getD roles (w .at) 0) ≡ false → r ≡ moved (w .at - 1) true w
           → stateOf r marks saved callers ≡ back (tokensOf roles numbers gates) (w .at) (stateOf w marks saved callers)
-      unfolding back tokensOf stateOf isAbove
+      unfolding back tokensOf stateOf
       back-on d t e = sym (pick-no _ _ _ n ∙ pick-no _ _ _ d ∙ pick-no _ _ _ t ∙ state-same (sym e) refl refl refl)

@@ -5,7 +5,7 @@ use mathlib.Core.Bool.{Bool, true, false, _||_}
 use mathlib.Core.List.{List}
 use mathlib.Core.Path.{_≡_}
 use Prim.Native.Nat.{ℕ, zero, suc, _-_, _≤_, _<_, min}
-use lib.Dec.{eqb, leb}
+use lib.Dec.{eqb}
 use lib.ListN.{length, getD}
 use Rattle.lists.specs.Choice.{pick}
 use Rattle.qcir_tokens.specs.Tokens.{isOuter, isOutput, isDefinition, isBound, isUse, isLast}
@@ -48,7 +48,7 @@ isEnd r = isLast r || isOutput r
 
 -- Not of a gate line.
 unfoldable pub isAbove : ℕ → Bool
-isAbove r = leb r 12
+isAbove r = isOuter r || isOutput r
 
 unfoldable pub moved : ℕ → Bool → Walk → Walk
 moved i leaving w = record { at = i; leaving = leaving; found = w .found; lowest = w .lowest }

@@ -4,44 +4,20 @@
 // a gate through the gate's line and back to the use. An entry marks its number as bound, and on the way back through the
 // line the mark is again what it was before; so a variable's mark says, at each use, whether a block above binds it.
 // Each token of a gate line is come by twice and every other once: the walk ends within two steps a token.
-ghost use mathlib.Core.Bool.{true, false};
 ghost use mathlib.Core.List.{List, []};
 ghost use mathlib.Core.Path.{_≡_};
-ghost use Prim.Native.Nat.{ℕ, suc, _+_, _*_, _-_, _≤_, _<_, min};
-ghost use lib.ListN.{length, getD};
+ghost use Prim.Native.Nat.{ℕ, _*_, _<_, min};
+ghost use lib.ListN.{getD};
 ghost use Rattle.lists.specs.Choice.{pick};
 ghost use Rattle.qcir.specs.File.{File};
 ghost use Rattle.qcir.specs.Refusals.{misplaced, notUsedOnce, unbound};
-ghost use Rattle.qcir_tokens.specs.Tokens.{fileTokens, isUse, isBound, isDefinition};
-ghost use Rattle.qcir_tokens.specs.Held.{tokensFrom, foundOf, numberCount};
+ghost use Rattle.qcir_tokens.specs.Tokens.{fileTokens};
+ghost use Rattle.qcir_tokens.specs.Held.{tokensFrom, foundOf};
 ghost use Rattle.qcir_scopes.specs.Judged.{Judged, tokenLimit};
-ghost use Rattle.qcir_scopes.specs.Steps.{
-  tokensOf,
-  stateOf,
-  isEntry,
-  isEnd,
-  isAbove,
-  moved,
-  past,
-  noted,
-  judged,
-  bound,
-  used,
-  onward,
-  freed,
-  back,
-  step,
-  run,
-  first,
-  Within,
-  Walking,
-};
+ghost use Rattle.qcir_scopes.specs.Steps.{tokensOf, stateOf, isEntry, isEnd, isAbove, moved, past, noted, judged, bound, used, onward, back, step, run, first, Within, Walking};
 use qcir_tokens::Found;
 use qcir_tokens::NUMBERS;
 use qcir_tokens::TOKENS;
-
-// The last role of a token that is not of a gate line.
-const LAST_ABOVE: u8 = 12;
 
 // The token at which the walk stands, on its way onward or back through a gate line; whether an unbound variable was found,
 // and the lowest.
@@ -52,6 +28,9 @@ pub struct Walk {
     pub lowest: u32,
 }
 
+// Whether a file that refusals 11 and 13 leave has an unbound variable, and the lowest.
+//
+// The contract rules out a walk that takes a name as bound once some gate has bound it, and one that stops early.
 pub fn lowest_unbound(roles: &[u8], numbers: &[u16], count: usize, gates: &[u16]) -> Found
     requires { ⌜ Judged (now roles) (now numbers) count (now gates) ⌝ }
     ensures { λ r. ⌜ ((f : File) (ps : List ℕ) → tokensFrom (now (roles .entry)) (now (numbers .entry)) ps 0 count ≡ fileTokens f → misplaced f ≡ [] → notUsedOnce f ≡ [] → r ≡ foundOf (unbound f)) ⌝ }
@@ -217,7 +196,7 @@ fn go_back(
 {
     let i = walk.at;
     let role = roles[i];
-    if role <= LAST_ABOVE {
+    if is_above(role) {
         return walk;
     }
     if qcir_tokens::is_definition(role) {
@@ -236,14 +215,21 @@ fn go_back(
 fn is_entry(role: u8) -> bool
     ensures { λ r. ⌜ r ≡ isEntry role ⌝ }
 {
-    (role <= 10) | ((role == 18) | (role == 19))
+    qcir_tokens::is_outer(role) | qcir_tokens::is_bound(role)
+}
+
+// Not of a gate line.
+fn is_above(role: u8) -> bool
+    ensures { λ r. ⌜ r ≡ isAbove role ⌝ }
+{
+    qcir_tokens::is_outer(role) | qcir_tokens::is_output(role)
 }
 
 // The last token of a gate line, or the output.
 fn is_end(role: u8) -> bool
     ensures { λ r. ⌜ r ≡ isEnd role ⌝ }
 {
-    (22 <= role) | ((role == 11) | (role == 12))
+    qcir_tokens::is_last(role) | qcir_tokens::is_output(role)
 }
 
 // The walk past token i.

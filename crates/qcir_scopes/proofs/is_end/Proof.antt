@@ -1,19 +1,21 @@
 -- `qcir_scopes::is_end` meets its contract.
 -- Assumes nothing.
-use Rattle.qcir_scopes.specs.Steps.{isEnd}
-use Rattle.qcir_tokens.specs.Tokens.{isLast, isOutput}
-use mathlib.Core.Path.{refl}
+use mathlib.Core.Bool.{_||_}
+use mathlib.Core.Path.{ap₂}
 use borrow.Author.Needs.{needs}
-use native.Mathlib.Omega.{arith}
+use Rattle.qcir_scopes.specs.Steps.{isEnd}
 use Rattle.qcir_scopes.proofs.is_end.Statement.{statement}
 use Rattle.qcir_scopes.proofs.is_end.Tie as tie
-use Rattle.qcir_scopes.proofs.is_end.Reads as reads
-use Rattle.qcir_scopes.proofs.is_end.Lts as lts
 
--- src/lib.rt:251:1
+is-last-requires : tie.Need-is-last-requires
+is-last-requires c κs = search needs
+
+is-output-requires : tie.Need-is-output-requires
+is-output-requires c κs = search needs
+
 returns : tie.Need-returns
-unfolding isEnd isLast isOutput
-returns c = refl
+unfolding isEnd
+returns c = ap₂ _||_ (c .before .is-last .ensures) (c .is-output .ensures)
 
 pub is-end-spec : {M : Type 1} → statement M
-is-end-spec = tie.close (tie.spec returns)
+is-end-spec = tie.close (tie.spec is-last-requires is-output-requires returns)

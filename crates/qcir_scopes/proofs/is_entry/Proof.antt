@@ -1,19 +1,21 @@
 -- `qcir_scopes::is_entry` meets its contract.
 -- Assumes nothing.
-use Rattle.qcir_scopes.specs.Steps.{isEntry}
-use Rattle.qcir_tokens.specs.Tokens.{isOuter, isBound}
-use mathlib.Core.Path.{refl}
+use mathlib.Core.Bool.{_||_}
+use mathlib.Core.Path.{ap₂}
 use borrow.Author.Needs.{needs}
-use native.Mathlib.Omega.{arith}
+use Rattle.qcir_scopes.specs.Steps.{isEntry}
 use Rattle.qcir_scopes.proofs.is_entry.Statement.{statement}
 use Rattle.qcir_scopes.proofs.is_entry.Tie as tie
-use Rattle.qcir_scopes.proofs.is_entry.Reads as reads
-use Rattle.qcir_scopes.proofs.is_entry.Lts as lts
 
--- src/lib.rt:244:1
+is-outer-requires : tie.Need-is-outer-requires
+is-outer-requires c κs = search needs
+
+is-bound-requires : tie.Need-is-bound-requires
+is-bound-requires c κs = search needs
+
 returns : tie.Need-returns
-unfolding isEntry isOuter isBound
-returns c = refl
+unfolding isEntry
+returns c = ap₂ _||_ (c .before .is-outer .ensures) (c .is-bound .ensures)
 
 pub is-entry-spec : {M : Type 1} → statement M
-is-entry-spec = tie.close (tie.spec returns)
+is-entry-spec = tie.close (tie.spec is-outer-requires is-bound-requires returns)

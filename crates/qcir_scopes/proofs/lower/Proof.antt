@@ -1,20 +1,12 @@
 -- `qcir_scopes::lower` meets its contract.
 -- Assumes nothing.
 use Rattle.qcir_scopes.proofs.Within.{lower-first, lower-second}
-use Rattle.lists.specs.Choice.{pick-yes, pick-no}
-use mathlib.Core.Path.{sym, _∙_, ap}
-use borrow.Author.Needs.{needs}
-use native.Mathlib.Omega.{arith}
 use Rattle.qcir_scopes.proofs.lower.Statement.{statement}
 use Rattle.qcir_scopes.proofs.lower.Tie as tie
-use Rattle.qcir_scopes.proofs.lower.Reads as reads
-use Rattle.qcir_scopes.proofs.lower.Lts as lts
 
--- src/lib.rt:306:9
 returns : tie.Need-returns
 returns c = lower-first _ _ _ (c .if1 .taken)
 
--- src/lib.rt:302:1
 returns-2 : tie.Need-returns-2
 returns-2 c = lower-second _ _ _ (c .if1 .left)
 

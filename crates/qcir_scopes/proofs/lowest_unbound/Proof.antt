@@ -1,38 +1,34 @@
 -- `qcir_scopes::lowest_unbound` meets its contract: the walk, with new arrays, finds the file's unbound variables.
 -- Assumes nothing.
-use Rattle.qcir_scopes.proofs.Files.{within, walk-starts, unbound-found}
-use Rattle.qcir_scopes.specs.Judged.{tokenLimit}
-use Rattle.qcir_tokens.specs.Held.{numberCount}
-use Rattle.lists.proofs.Stores.{getD-filled}
-use lib.ListN.{replicate}
 use mathlib.Core.Bool.{false}
-use native.Mathlib.Omega.{arith}
+use lib.ListN.{replicate}
 use borrow.Author.Needs.{needs}
+use Rattle.lists.proofs.Stores.{getD-filled}
+use Rattle.qcir_tokens.specs.Held.{numberCount}
+use Rattle.qcir_scopes.specs.Judged.{tokenLimit}
+use Rattle.qcir_scopes.proofs.Files.{within, walk-starts, unbound-found}
 use Rattle.qcir_scopes.proofs.lowest_unbound.Statement.{statement}
 use Rattle.qcir_scopes.proofs.lowest_unbound.Tie as tie
-use Rattle.qcir_scopes.proofs.lowest_unbound.Reads as reads
-use Rattle.qcir_scopes.proofs.lowest_unbound.Lts as lts
-use Rattle.qcir_scopes.proofs.walk_tokens.Reads as walk-tokens-reads
 
--- src/lib.rt:67:9
 slice-aggregate-walk-tokens : tie.Need-slice-aggregate-walk-tokens
 slice-aggregate-walk-tokens c = search needs
 
--- src/lib.rt:68:9
 slice-aggregate-walk-tokens-2 : tie.Need-slice-aggregate-walk-tokens-2
 slice-aggregate-walk-tokens-2 c = search needs
 
--- src/lib.rt:69:9
 slice-aggregate-walk-tokens-3 : tie.Need-slice-aggregate-walk-tokens-3
 slice-aggregate-walk-tokens-3 c = search needs
 
--- src/lib.rt:62:9
 walk-tokens-requires : tie.Need-walk-tokens-requires
-walk-tokens-requires c κs = let s = c .before .before .before .before .before .before in let h = within (s .args .roles .now) (s .args .numbers .now) (s .args .count) (s .args .gates .now) (s .pre) in (h, walk-starts (s .args .count) (h .some))
+walk-tokens-requires c κs =
+    let s = c .before .before .before .before .before .before in
+    let h = within (s .args .roles .now) (s .args .numbers .now) (s .args .count) (s .args .gates .now) (s .pre) in
+    (h, walk-starts (s .args .count) (h .some))
 
--- src/lib.rt:55:1
 returns : tie.Need-returns
-returns c = let s = c .before .before .before .before .before .before .before .before .before .before in unbound-found (s .args .roles .now) (s .args .numbers .now) (s .args .count) (s .args .gates .now) (s .pre) (replicate numberCount false) (replicate tokenLimit false) (replicate tokenLimit 0) (λ x. getD-filled numberCount x false) (c .before .before .before .walk-tokens .result) (c .before .before .before .walk-tokens .ensures)
+returns c =
+    let s = c .before .before .before .before .before .before .before .before .before .before in
+    unbound-found (s .args .roles .now) (s .args .numbers .now) (s .args .count) (s .args .gates .now) (s .pre) (replicate numberCount false) (replicate tokenLimit false) (replicate tokenLimit 0) (λ x. getD-filled numberCount x false) (c .before .before .before .walk-tokens .result) (c .before .before .before .walk-tokens .ensures)
 
 pub lowest-unbound-spec : {M : Type 1} → statement M
 lowest-unbound-spec =

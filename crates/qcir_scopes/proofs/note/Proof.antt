@@ -1,20 +1,14 @@
 -- `qcir_scopes::note` meets its contract.
 -- Assumes nothing.
-use Rattle.qcir_scopes.specs.Steps.{noted}
 use mathlib.Core.Bool.{true}
-use native.Mathlib.Omega.{arith}
 use borrow.Author.Needs.{needs}
+use Rattle.qcir_scopes.specs.Steps.{noted}
 use Rattle.qcir_scopes.proofs.note.Statement.{statement}
 use Rattle.qcir_scopes.proofs.note.Tie as tie
-use Rattle.qcir_scopes.proofs.note.Reads as reads
-use Rattle.qcir_scopes.proofs.note.Lts as lts
-use Rattle.qcir_scopes.proofs.lower.Reads as lower-reads
 
--- src/lib.rt:297:17
 lower-requires : tie.Need-lower-requires
 lower-requires c κs = search needs
 
--- src/lib.rt:290:1
 returns : tie.Need-returns
 unfolding noted
 returns c = λ i. record { at = c .before .args .walk .at; leaving = c .before .args .walk .leaving; found = true; lowest = c .lower .ensures i }

@@ -1,96 +1,106 @@
 -- `qcir_scopes::use_number` meets its contract.
 -- Assumes nothing.
-use lib.ListN.{getD}
-use Rattle.qcir_scopes.proofs.Within.{past-walks, judged-is, called-walks, called-is}
 use native.Mathlib.Omega.{arith}
+use lib.ListN.{getD}
 use borrow.Author.Needs.{needs}
+use Rattle.qcir_scopes.proofs.Within.{past-walks, judged-is, called-walks, called-is}
 use Rattle.qcir_scopes.proofs.use_number.Statement.{statement}
 use Rattle.qcir_scopes.proofs.use_number.Tie as tie
-use Rattle.qcir_scopes.proofs.use_number.Reads as reads
-use Rattle.qcir_scopes.proofs.use_number.Lts as lts
-use Rattle.qcir_scopes.proofs.judge.Reads as judge-reads
-use Rattle.qcir_scopes.proofs.move_to.Reads as move-to-reads
-use Rattle.qcir_scopes.proofs.pass.Reads as pass-reads
 
--- src/lib.rt:178:13
 mul-x : tie.Need-mul-x
 mul-x c = search needs
 
--- src/lib.rt:178:13
 shared-slice-read-x : tie.Need-shared-slice-read-x
 shared-slice-read-x c = search needs
 
--- src/lib.rt:179:22
 cast-gate : tie.Need-cast-gate
 cast-gate c = omega (arith, c .shared-slice-known4 .given (c .before .before .before .before .before .before .before .args .walk .at))
 
--- src/lib.rt:179:16
 mul-gate : tie.Need-mul-gate
 mul-gate c = omega (arith, c .shared-slice-known4 .given (c .before .before .before .before .before .before .before .args .walk .at))
 
--- src/lib.rt:179:16
 shared-slice-read-gate : tie.Need-shared-slice-read-gate
-shared-slice-read-gate c = let s = c .before .before .before .before .before .before .before .before in let h = s .pre .0 in let w = s .pre .1 in let a = s .args .walk .at in omega (arith, c .before .shared-slice-known4 .given a, h .gates-wide)
+shared-slice-read-gate c =
+    let s = c .before .before .before .before .before .before .before .before in
+    let h = s .pre .0 in
+    let a = s .args .walk .at in
+    omega (arith, c .before .shared-slice-known4 .given a, h .gates-wide)
 
--- src/lib.rt:179:16
 cast-gate-2 : tie.Need-cast-gate-2
-cast-gate-2 c = let s = c .before .before .before .before .before .before .before .before in let h = s .pre .0 in let w = s .pre .1 in let a = s .args .walk .at in omega (arith, c .shared-slice-known5 .given (getD (s .args .numbers .now) a 0))
+cast-gate-2 c =
+    let s = c .before .before .before .before .before .before .before .before in
+    let a = s .args .walk .at in
+    omega (arith, c .shared-slice-known5 .given (getD (s .args .numbers .now) a 0))
 
--- src/lib.rt:181:21
 shared-slice-read-pass : tie.Need-shared-slice-read-pass
 shared-slice-read-pass c = search needs
 
--- src/lib.rt:181:46
 cast-judge : tie.Need-cast-judge
-cast-judge c = let s = c .before .before .before .before .before .before .before .before .before .before in let h = s .pre .0 in let w = s .pre .1 in let a = s .args .walk .at in omega (arith, c .before .before .before .shared-slice-known4 .given a)
+cast-judge c =
+    let s = c .before .before .before .before .before .before .before .before .before .before in
+    let a = s .args .walk .at in
+    omega (arith, c .before .before .before .shared-slice-known4 .given a)
 
--- src/lib.rt:181:40
 slice-read-judge : tie.Need-slice-read-judge
-slice-read-judge c = let s = c .before .before .before .before .before .before .before .before .before .before .before in let h = s .pre .0 in let w = s .pre .1 in let a = s .args .walk .at in omega (arith, c .before .before .before .before .shared-slice-known4 .given a, w .marks-wide)
+slice-read-judge c =
+    let s = c .before .before .before .before .before .before .before .before .before .before .before in
+    let w = s .pre .1 in
+    let a = s .args .walk .at in
+    omega (arith, c .before .before .before .before .shared-slice-known4 .given a, w .marks-wide)
 
--- src/lib.rt:181:34
 judge-requires : tie.Need-judge-requires
 judge-requires c κs = search needs
 
--- src/lib.rt:181:9
 pass-requires : tie.Need-pass-requires
 pass-requires c κs = search needs
 
--- src/lib.rt:181:9
 returns : tie.Need-returns
-returns c = let s = c .before .before .before .before .before .before .before .before .before .before .before .before .before in let h = s .pre .0 in let w = s .pre .1 in let a = s .args .walk .at in (past-walks (s .args .roles .now) (s .args .numbers .now) (s .args .gates .now) (s .args .count) h (s .args .walk) (s .args .marks .now) (s .args .saved .now) (s .args .callers .now) w _ _ _ (w .at-low) (c .pass .ensures), judged-is (s .args .roles .now) (s .args .numbers .now) (s .args .gates .now) (s .args .count) h (s .args .walk) (s .args .marks .now) (s .args .saved .now) (s .args .callers .now) w _ _ _ _ (c .before .before .before .before .if1 .taken) (c .before .judge .ensures) (c .pass .ensures))
+returns c =
+    let s = c .before .before .before .before .before .before .before .before .before .before .before .before .before in
+    let h = s .pre .0 in
+    let w = s .pre .1 in (
+      past-walks h w _ _ _ (w .at-low) (c .pass .ensures),
+      judged-is h w _ _ _ _ (c .before .before .before .before .if1 .taken) (c .before .judge .ensures) (c .pass .ensures),
+    )
 
--- src/lib.rt:183:25
 cast-callers : tie.Need-cast-callers
 cast-callers c = search needs
 
--- src/lib.rt:183:13
 sub-callers : tie.Need-sub-callers
 sub-callers c = search needs
 
--- src/lib.rt:183:5
 mul-callers : tie.Need-mul-callers
-mul-callers c = let s = c .before .before .before .before .before .before .before .before .before in let h = s .pre .0 in let w = s .pre .1 in let a = s .args .walk .at in omega (arith, h .gates-low (getD (s .args .numbers .now) a 0), h .few)
+mul-callers c =
+    let s = c .before .before .before .before .before .before .before .before .before in
+    let h = s .pre .0 in
+    let a = s .args .walk .at in
+    omega (arith, h .gates-low (getD (s .args .numbers .now) a 0), h .few)
 
--- src/lib.rt:183:5
 slice-write-callers : tie.Need-slice-write-callers
-slice-write-callers c = let s = c .before .before .before .before .before .before .before .before .before in let h = s .pre .0 in let w = s .pre .1 in let a = s .args .walk .at in omega (arith, h .gates-low (getD (s .args .numbers .now) a 0), h .few, w .callers-wide)
+slice-write-callers c =
+    let s = c .before .before .before .before .before .before .before .before .before in
+    let h = s .pre .0 in
+    let w = s .pre .1 in
+    let a = s .args .walk .at in
+    omega (arith, h .gates-low (getD (s .args .numbers .now) a 0), h .few, w .callers-wide)
 
--- src/lib.rt:184:13
 sub-move-to : tie.Need-sub-move-to
 sub-move-to c = search needs
 
--- src/lib.rt:184:5
 move-to-requires : tie.Need-move-to-requires
 move-to-requires c κs = search needs
 
--- src/lib.rt:162:1
 same-length : tie.Need-same-length
 same-length c = search needs
 
--- src/lib.rt:162:1
 returns-2 : tie.Need-returns-2
-returns-2 c = let s = c .before .before .before .before .before .before .before .before .before .before in let h = s .pre .0 in let w = s .pre .1 in let a = s .args .walk .at in (called-walks (s .args .roles .now) (s .args .numbers .now) (s .args .gates .now) (s .args .count) h (s .args .walk) (s .args .marks .now) (s .args .saved .now) (s .args .callers .now) w _ _ (c .before .if1 .left) (c .move-to .ensures), called-is (s .args .roles .now) (s .args .numbers .now) (s .args .gates .now) (s .args .count) h (s .args .walk) (s .args .marks .now) (s .args .saved .now) (s .args .callers .now) w _ _ (c .before .if1 .left) (c .move-to .ensures))
+returns-2 c =
+    let s = c .before .before .before .before .before .before .before .before .before .before in
+    let h = s .pre .0 in
+    let w = s .pre .1 in (
+      called-walks h w _ _ (c .before .if1 .left) (c .move-to .ensures),
+      called-is h w _ _ (c .before .if1 .left) (c .move-to .ensures),
+    )
 
 pub use-number-spec : {M : Type 1} → statement M
 use-number-spec =
