@@ -35,7 +35,7 @@ found-more (x ∷ y ∷ ys) w e =
     let r = found-more (y ∷ ys) (noted x w) refl in
     (r .0, omega (arith, r .1, pick-yes {A = ℕ} (w .found) (min (w .lowest) x) x e))
 
-pub found-all : (xs : List ℕ) (w : Walk) → w .found ≡ false → w .lowest ≡ 0 → _≡_ {A = Found} (record { found = notedAll xs w .found; lowest = notedAll xs w .lowest }) (foundOf xs)
+found-all : (xs : List ℕ) (w : Walk) → w .found ≡ false → w .lowest ≡ 0 → _≡_ {A = Found} (record { found = notedAll xs w .found; lowest = notedAll xs w .lowest }) (foundOf xs)
 unfolding notedAll noted foundOf least
 found-all [] w e z = λ i. record { found = e i; lowest = z i }
 found-all (x ∷ xs) w e z =
@@ -242,7 +242,7 @@ module _ (t : Tokens) (f : File) (held : Held t 0 (fileTokens f)) (defined : (x 
       halt))
       ∙ ap (λ zs. moved i true (notedAll zs first)) (unbound-listed xs)
 
-  pub walk-found : (w : Walk) → w ≡ run t (2 * length (fileTokens f)) (stand first (λ x. false) s c) .walk
+  walk-found : (w : Walk) → w ≡ run t (2 * length (fileTokens f)) (stand first (λ x. false) s c) .walk
       → _≡_ {A = Found} (record { found = w .found; lowest = w .lowest }) (foundOf (unbound f))
   unfolding moved
   walk-found w e =

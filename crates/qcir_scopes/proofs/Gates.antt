@@ -111,7 +111,7 @@ good-more l (good-gate d g k r) = good-gate d g (omega arith) (λ w m s c. done-
 
 module _ (t : Tokens) where
   -- a name that no gate line from here on defines, unless an earlier one does
-  pub name-good : {p : ℕ} {before : List ℕ} {gs : List Gate} {o : Open} {n : ℕ → ℕ} → Passed t p before gs o n
+  name-good : {p : ℕ} {before : List ℕ} {gs : List Gate} {o : Open} {n : ℕ → ℕ} → Passed t p before gs o n
       → (x : ℕ) → (mem x before ≡ false → mem x (numbersOf (gateNames gs)) ≡ false) → Good t p (o x) (n x) x
   name-good {p} {before} {gs} {o} {n} a x h = go (look (mem x before))
     where
@@ -142,7 +142,7 @@ module _ (t : Tokens) where
         (line-run t o n g p held
         (λ x i. name-good a x (λ b. not-early (numbersOf (gateNames (g ∷ gs))) before (namesOf (gateInputs g)) early x i b)))
 
-    pub passed-line : Passed t (p + length (gateTokens g)) (gateName g .number ∷ before) gs
+    passed-line : Passed t (p + length (gateTokens g)) (gateName g .number ∷ before) gs
         (λ x. pick (eqb x (gateName g .number)) (keep (λ y. not (mem y (numbersOf (gateVariables g)))) (openInputs o (gateInputs g))) (o x))
         (λ x. pick (eqb x (gateName g .number)) (2 * length (gateTokens g) + total n (numbersOf (namesOf (gateInputs g)))) (n x))
     unfolding own opened steps gatesTokens mem

@@ -63,7 +63,7 @@ module _ (n : ℕ → ℕ) (a v : ℕ) where
           let b = r (omega arith) in
           let c = pick-no {A = ℕ} (eqb y a) v (n y) e in omega arith
 
-pub weights-le : (gs : List Gate) (n : ℕ → ℕ) (us : List ℕ)
+weights-le : (gs : List Gate) (n : ℕ → ℕ) (us : List ℕ)
     → ((x : ℕ) → mem x (numbersOf (gateNames gs)) ≡ true → times x (us ++ inputNumbers gs) ≤ 1)
     → total (weights n gs) us ≤ 2 * length (gatesTokens gs) + total n (us ++ inputNumbers gs)
 unfolding weights inputNumbers gatesTokens gateNames numbersOf with-at

@@ -19,7 +19,7 @@ use Rattle.qcir_scopes.proofs.Within.{state-same}
 use Rattle.qcir_scopes.proofs.Run.{stand, put-same, put-other, put-back, run-two, run-one, step-plain, step-entry, step-variable, step-call, step-return, step-free, step-back, listed, notedAll, listed-append, listed-none, keep-cong, keep-two, judged-one, past-judged}
 use Rattle.qcir_scopes.proofs.Roles.{Tests, definitionRole, definition-tests, input-tests, empty-tests, Each, each-none, each-more, GateEntry, Plain, boundTokens, bound-each, any-each, gate-line, tokenNumbers, bound-numbers, Held, held-none, held-more, held-left, held-right}
 
-pub past-on : (r i : ℕ) (w : Walk) → isEnd r ≡ false → past r i w ≡ moved (suc i) false w
+past-on : (r i : ℕ) (w : Walk) → isEnd r ≡ false → past r i w ≡ moved (suc i) false w
 unfolding past
 past-on r i w e = pick-no _ _ _ e
 
@@ -96,7 +96,7 @@ module _ (t : Tokens) where
       ∙ ap (λ i. stand (moved i false w) (marked (put m x true) (tokenNumbers ks)) (savedAll (suc p) (put m x true) (put s p (m x)) (tokenNumbers ks)) c) e
 
   -- back through a gate's entries
-  pub undo-run : (ks : List Token) → Each GateEntry ks → (p : ℕ) → Held t p ks → (w : Walk) (m s : ℕ → Bool) (c : ℕ → ℕ) → Saves s p m (tokenNumbers ks)
+  undo-run : (ks : List Token) → Each GateEntry ks → (p : ℕ) → Held t p ks → (w : Walk) (m s : ℕ → Bool) (c : ℕ → ℕ) → Saves s p m (tokenNumbers ks)
       → run t (length ks) (stand (moved (p + length ks - 1) true w) (marked m (tokenNumbers ks)) s c) ≡ stand (moved (p - 1) true w) m s c
   unfolding run marked tokenNumbers
   undo-run [] each-none p held-none w m s c saves-none =
@@ -115,7 +115,7 @@ module _ (t : Tokens) where
       ∙ state-same refl (ap (λ y. put (put m x true) y (s p)) n ∙ put-back m x true (s p) e) refl refl)
 
   -- back through the tokens after them
-  pub back-run : (ks : List Token) → Each Plain ks → (p : ℕ) → Held t p ks → (w : Walk) (m s : ℕ → Bool) (c : ℕ → ℕ)
+  back-run : (ks : List Token) → Each Plain ks → (p : ℕ) → Held t p ks → (w : Walk) (m s : ℕ → Bool) (c : ℕ → ℕ)
       → run t (length ks) (stand (moved (p + length ks - 1) true w) m s c) ≡ stand (moved (p - 1) true w) m s c
   unfolding run
   back-run [] each-none p held-none w m s c =
@@ -140,7 +140,7 @@ pub record Done (t : Tokens) (q n : ℕ) (s : State) (w : Walk) (m : ℕ → Boo
   pub callers-kept : (i : ℕ) → q ≤ i → calls i ≡ s .callers i
 
 module _ {t : Tokens} {q : ℕ} where
-  pub done-then : {a b : ℕ} {s : State} {w v : Walk} {m l : ℕ → Bool} (d : Done t q a s w m) → Done t q b (stand w m (d .saves) (d .calls)) v l → Done t q (a + b) s v l
+  done-then : {a b : ℕ} {s : State} {w v : Walk} {m l : ℕ → Bool} (d : Done t q a s w m) → Done t q b (stand w m (d .saves) (d .calls)) v l → Done t q (a + b) s v l
   done-then {a} {b} {s} {w} {v} {m} {l} d e =
       record {
         saves = e .saves;
@@ -150,7 +150,7 @@ module _ {t : Tokens} {q : ℕ} where
         callers-kept = λ i h. e .callers-kept i h ∙ d .callers-kept i h;
       }
 
-  pub done-as : {a b : ℕ} {s : State} {w v : Walk} {m : ℕ → Bool} → a ≡ b → w ≡ v → Done t q a s w m → Done t q b s v m
+  done-as : {a b : ℕ} {s : State} {w v : Walk} {m : ℕ → Bool} → a ≡ b → w ≡ v → Done t q a s w m → Done t q b s v m
   done-as {a} {b} {s} {w} {v} {m} e f d =
       record {
         saves = d .saves;
@@ -243,7 +243,7 @@ module _ (t : Tokens) (q : ℕ) where
     inputs-length l (k ∷ ks) = ap suc (inputs-length k ks)
 
     -- onward through the inputs, or past the end of none
-    pub end-run : (g : Name) (ls : List Literal) (p : ℕ) → Held t p (anyInputsTokens g ls)
+    end-run : (g : Name) (ls : List Literal) (p : ℕ) → Held t p (anyInputsTokens g ls)
         → ((x : ℕ) → mem x (numbersOf (namesOf ls)) ≡ true → Good t q (o x) (n x) x)
         → (w : Walk) (m s : ℕ → Bool) (c : ℕ → ℕ)
         → Done t q (length (anyInputsTokens g ls) + total n (numbersOf (namesOf ls))) (stand (moved p false w) m s c)

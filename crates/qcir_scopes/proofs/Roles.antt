@@ -33,7 +33,7 @@ definition-tests (xor-gate g l r) = record { use-is = refl; entry-is = refl; end
 definition-tests (quantified-gate exists g x xs l) = record { use-is = refl; entry-is = refl; end-is = refl; above-is = refl; definition-is = refl; bound-is = refl }
 definition-tests (quantified-gate for-all g x xs l) = record { use-is = refl; entry-is = refl; end-is = refl; above-is = refl; definition-is = refl; bound-is = refl }
 
-pub bound-tests : (last : Bool) → Tests (boundRole last) false true false false false true
+bound-tests : (last : Bool) → Tests (boundRole last) false true false false false true
 unfolding boundRole isUse isInput isOutput isEntry isOuter isBound isEnd isLast isAbove isDefinition
 bound-tests false = record { use-is = refl; entry-is = refl; end-is = refl; above-is = refl; definition-is = refl; bound-is = refl }
 bound-tests true = record { use-is = refl; entry-is = refl; end-is = refl; above-is = refl; definition-is = refl; bound-is = refl }
@@ -99,7 +99,7 @@ pub record Plain (k : Token) : Type 0 where
   pub definition-is : isDefinition (k .role) ≡ false
   pub bound-is : isBound (k .role) ≡ false
 
-pub list-each : (P : Token → Type 0) (a b : Bool → ℕ) → ((l : Bool) (x : Name) → P (token (a l) x)) → ((l : Bool) (x : Name) → P (token (b l) x))
+list-each : (P : Token → Type 0) (a b : Bool → ℕ) → ((l : Bool) (x : Name) → P (token (a l) x)) → ((l : Bool) (x : Name) → P (token (b l) x))
     → (x : Name) (xs : List Name) → Each P (listTokens a b x xs)
 unfolding listTokens
 list-each P a b f g x [] = each-more (f true x) each-none

@@ -34,7 +34,7 @@ put-back f i v u e = fun-ext (λ j. go j (look (eqb j i)))
     go j (is-false q) = pick-no _ _ _ q ∙ pick-no _ _ _ q
 
 module _ (t : Tokens) where
-  pub run-add : (a b : ℕ) (s : State) → run t (a + b) s ≡ run t b (run t a s)
+  run-add : (a b : ℕ) (s : State) → run t (a + b) s ≡ run t b (run t a s)
   unfolding run
   run-add zero b s = let e : 0 + b ≡ b = omega arith in ap (λ n. run t n s) e
   run-add (suc a) b s = let e : suc a + b ≡ suc (a + b) = omega arith in ap (λ n. run t n s) e ∙ run-add a b (step t s)
@@ -113,7 +113,7 @@ unfolding keep
 keep-step p x xs ys (is-true e) r = pick-yes _ _ _ e ∙ ap (λ l. x ∷ l) r ∙ sym (ap (λ l. l ++ keep p ys) (pick-yes _ _ _ e))
 keep-step p x xs ys (is-false e) r = pick-no _ _ _ e ∙ r ∙ sym (ap (λ l. l ++ keep p ys) (pick-no _ _ _ e))
 
-pub keep-append : (p : ℕ → Bool) (xs ys : List ℕ) → keep p (xs ++ ys) ≡ keep p xs ++ keep p ys
+keep-append : (p : ℕ → Bool) (xs ys : List ℕ) → keep p (xs ++ ys) ≡ keep p xs ++ keep p ys
 unfolding keep
 keep-append p [] ys = refl
 keep-append p (x ∷ xs) ys = keep-step p x xs ys (look (p x)) (keep-append p xs ys)
