@@ -163,9 +163,9 @@ unfolding alike
 alike-digit x y t =
     or-cases _ _ t (λ e. ap isDigit (eqb-true x y e))
     (λ r.
-      let a = not (mem x marks) in
-      let b = not (mem y marks) in
-      let c = agree (isSpace x) (isSpace y) in
-      let d = agree (isDigit x) (isDigit y) in
-      let e = agree (leb 49 x && leb x 57) (leb 49 y && leb y 57) in
-      agreed _ _ (and-left d e (and-right c (d && e) (and-right b (c && (d && e)) (and-right a (b && (c && (d && e))) r)))))
+    let a = not (mem x marks) in
+    let b = not (mem y marks) in
+    let c = agree (isSpace x) (isSpace y) in
+    let d = agree (isDigit x) (isDigit y) in
+    let e = agree (leb 49 x && leb x 57) (leb 49 y && leb y 57) in
+    agreed _ _ (and-left d e (and-right c (d && e) (and-right b (c && (d && e)) (and-right a (b && (c && (d && e))) r)))))

@@ -9,12 +9,13 @@ use native.Mathlib.Omega.{arith}
 use lib.Dec.{eqb, leb, ltb}
 use lib.ListN.{length, getD}
 use borrow.Author.Tests.{eqb-true, leb-true, ltb-true, lt-leb, not-true}
-use Rattle.lists.specs.Choice.{pick, clash, and-left, and-right, or-cases}
+use Rattle.lists.specs.Choice.{pick, pick-yes, pick-no, Is, is-true, is-false, look, clash, and-left, and-right, or-cases}
 use Rattle.lists.specs.Members.{mem}
 use Rattle.qcir.specs.Spelling.{isSpace, isDigit}
 use Rattle.qcir_text.specs.Machine.{Place, dead, heading, headed, padded, counted, ready, inside, digits, comment, row, arrow, points, rowAt, arrowOf, someBegins, same, begins, isDead, isDone}
 use Rattle.qcir_scan.specs.Places.{places, placeOf, spares, spare}
-use Rattle.qcir_scan.specs.Tables.{moves, columns, entryAt}
+use Rattle.qcir_scan.specs.Tables.{moves, columns, weights, entryAt}
+use Rattle.qcir_scan.specs.Held.{numberAfter}
 use Rattle.qcir_scan.proofs.Effects.{Effect, effectAt, wordEffect, endEffect, betweenEffect}
 use Rattle.qcir_scan.proofs.Alike.{marks, agree, agreed, alike, headMarked, alike-effect, alike-digit}
 use Rattle.qcir_scan.proofs.Every.{every, at}
@@ -99,9 +100,10 @@ same-effects f g h =
 unfoldable pub tokenBytes : ℕ → ℕ
 tokenBytes e = pick (eqb (e / 256) 0 || leb 25 (e / 256)) 0 2
 
--- The next place has a number, and what a run to it takes besides the bytes of tokens is not more than one byte more.
+-- The next place has a number, and what a run to it takes besides the bytes of tokens is not more than one byte more; what is done
+-- has a weight.
 unfoldable pub spared : ℕ → ℕ → Bool
-spared i e = ltb (e % 256) 124 && leb (spare (e % 256) + tokenBytes e) (spare i + 1)
+spared i e = ltb (e % 256) 124 && (leb (spare (e % 256) + tokenBytes e) (spare i + 1) && ltb (e / 256) 27)
 
 unfoldable pub right : ℕ → ℕ → Bool
 right n e = sameEffect (effectAt (placeOf (n % 124)) (getD samples (n / 124) 0)) (effectOf e) && (spared (n % 124) e && (leb (e / 256) 24 || isDigit (getD samples (n / 124) 0)))
@@ -125,6 +127,57 @@ rightPlace i p = headMarked p && (agree (isDead p) (eqb i 0) && (agree (isDone p
 places-right : every rightPlace 0 places ≡ true
 unfolding rightPlace headMarked agree isDead isDone entryAt moves columns places mem marks
 places-right = refl
+
+-- A weight gives the number after a digit.
+unfoldable pub rightWeight : ℕ → ℕ → Bool
+rightWeight act w = eqb (w / 2) (pick (leb act 24) 1 (pick (eqb act 25) 0 10)) && (eqb (w % 2) (pick (leb act 24) 0 1) && leb w 21)
+
+weights-right : every rightWeight 0 weights ≡ true
+unfolding rightWeight weights pick
+weights-right = refl
+
+weights-length : length weights ≡ 27
+unfolding weights
+weights-length = refl
+
+module _ (act : ℕ) (low : act < 27) where
+  weight : rightWeight act (getD weights act 0) ≡ true
+  weight = at rightWeight 0 weights weights-right act (rw weights-length low)
+
+  pub factor : getD weights act 0 / 2 ≡ pick (leb act 24) 1 (pick (eqb act 25) 0 10)
+  unfolding rightWeight
+  factor = eqb-true _ _ (and-left (eqb (getD weights act 0 / 2) (pick (leb act 24) 1 (pick (eqb act 25) 0 10))) _ weight)
+
+  pub addend : getD weights act 0 % 2 ≡ pick (leb act 24) 0 1
+  unfolding rightWeight
+  addend = eqb-true _ _ (and-left (eqb (getD weights act 0 % 2) (pick (leb act 24) 0 1)) _ (and-right (eqb (getD weights act 0 / 2) (pick (leb act 24) 1 (pick (eqb act 25) 0 10))) _ weight))
+
+  pub weight-low : getD weights act 0 ≤ 21
+  unfolding rightWeight
+  weight-low = leb-true _ _ (and-right (eqb (getD weights act 0 % 2) (pick (leb act 24) 0 1)) _ (and-right (eqb (getD weights act 0 / 2) (pick (leb act 24) 1 (pick (eqb act 25) 0 10))) _ weight))
+
+  module _ (number digit : ℕ) where
+    -- both parts of the pending number by the weight
+    weigh : Is (leb act 24) → Is (eqb act 25) → (number * (getD weights act 0 / 2) ≤ 10 * number) × (digit * (getD weights act 0 % 2) ≤ digit) × (number * (getD weights act 0 / 2) + digit * (getD weights act 0 % 2) ≡ numberAfter act number digit)
+    unfolding numberAfter
+    weigh (is-true t) s =
+        let f : getD weights act 0 / 2 ≡ 1 = factor ∙ pick-yes _ _ _ t in
+        let g : getD weights act 0 % 2 ≡ 0 = addend ∙ pick-yes _ _ _ t in
+        let n : numberAfter act number digit ≡ number = pick-yes _ _ _ t in
+        rw (f, g, n) (omega arith, omega arith, omega arith)
+    weigh (is-false t) (is-true s) =
+        let f : getD weights act 0 / 2 ≡ 0 = factor ∙ pick-no _ _ _ t ∙ pick-yes _ _ _ s in
+        let g : getD weights act 0 % 2 ≡ 1 = addend ∙ pick-no _ _ _ t in
+        let n : numberAfter act number digit ≡ digit = pick-no _ _ _ t ∙ pick-yes _ _ _ s in
+        rw (f, g, n) (omega arith, omega arith, omega arith)
+    weigh (is-false t) (is-false s) =
+        let f : getD weights act 0 / 2 ≡ 10 = factor ∙ pick-no _ _ _ t ∙ pick-no _ _ _ s in
+        let g : getD weights act 0 % 2 ≡ 1 = addend ∙ pick-no _ _ _ t in
+        let n : numberAfter act number digit ≡ 10 * number + digit = pick-no _ _ _ t ∙ pick-no _ _ _ s in
+        rw (f, g, n) (omega arith, omega arith, omega arith)
+
+    pub weighed : (number * (getD weights act 0 / 2) ≤ 10 * number) × (digit * (getD weights act 0 % 2) ≤ digit) × (number * (getD weights act 0 / 2) + digit * (getD weights act 0 % 2) ≡ numberAfter act number digit)
+    weighed = weigh (look (leb act 24)) (look (eqb act 25))
 
 moves-length : length moves ≡ 4092
 unfolding moves
@@ -225,7 +278,13 @@ module _ (i : ℕ) (low : i < 124) where
 
     pub next-spare : spare (entryAt i b % 256) + tokenBytes (entryAt i b) ≤ spare i + 1
     unfolding spared
-    next-spare = leb-true _ _ (and-right (ltb (entryAt i b % 256) 124) _ entry-spared)
+    next-spare =
+        leb-true _ _ (and-left (leb (spare (entryAt i b % 256) + tokenBytes (entryAt i b)) (spare i + 1)) _ (and-right (ltb (entryAt i b % 256) 124) _ entry-spared))
+
+    pub act-low : entryAt i b / 256 < 27
+    unfolding spared
+    act-low =
+        ltb-true _ _ (and-right (leb (spare (entryAt i b % 256) + tokenBytes (entryAt i b)) (spare i + 1)) _ (and-right (ltb (entryAt i b % 256) 124) _ entry-spared))
 
     -- the value of a byte that belongs to a name
     pub digit-value : 24 < entryAt i b / 256 → b % 16 ≡ b - 48

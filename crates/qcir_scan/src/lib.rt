@@ -3,7 +3,7 @@ ghost use mathlib.Core.Path.{_≡_};
 ghost use Prim.Native.Nat.{ℕ, _+_, _%_, _≤_, _<_};
 ghost use lib.Dec.{eqb};
 ghost use lib.ListN.{length, getD, set};
-ghost use Rattle.qcir_scan.specs.Tables.{Tables, entryAt};
+ghost use Rattle.qcir_scan.specs.Tables.{Tables, Weights, entryAt};
 ghost use Rattle.qcir_scan.specs.Held.{
   Holds,
   Wide,
@@ -17,6 +17,7 @@ mod table;
 
 use table::COLUMNS;
 use table::MOVES;
+use table::WEIGHTS;
 
 // The place's number where no file goes on, at the start, and where a file may end.
 const DEAD: usize = 0;
@@ -25,9 +26,7 @@ const START: usize = 1;
 
 const DONE: usize = 36;
 
-// What an entry of the table does: up to 24, it ends the pending name in this role (0: it ends none); a name begins.
-const ROLES: u8 = 24;
-
+// What an entry of the table does: a name begins. Lower ones end the pending name in this role (0: they end none).
 const NAME: u8 = 25;
 
 // The highest number of a name.
@@ -72,13 +71,23 @@ pub fn scan_from(
     requires { ⌜ Wide (now roles) (now numbers) (now positions) ⌝ }
     ensures { λ r. ⌜ Answers (now (text .entry)) (now (roles .exit)) (now (numbers .exit)) (now (positions .exit)) r ⌝ }
 {
-    walk(&MOVES, &COLUMNS, text, at, roles, numbers, positions)
+    walk(
+        &MOVES,
+        &COLUMNS,
+        &WEIGHTS,
+        text,
+        at,
+        roles,
+        numbers,
+        positions,
+    )
 }
 
 // Takes the bytes one after the other, up to the first where no file goes on.
 fn walk(
     moves: &[u16; 4092],
     columns: &[u16; 256],
+    weights: &[u8; 27],
     text: &[u8],
     at: usize,
     roles: &mut [u8],
@@ -86,6 +95,7 @@ fn walk(
     positions: &mut [u16],
 ) -> Scanned
     requires { ⌜ Tables (now moves) (now columns) ⌝ }
+    requires { ⌜ Weights (now weights) ⌝ }
     requires { ⌜ length (now text) ≤ 65536 ⌝ }
     requires { ⌜ at ≡ 0 ⌝ }
     requires { ⌜ Wide (now roles) (now numbers) (now positions) ⌝ }
@@ -99,19 +109,32 @@ fn walk(
         count: 0,
     };
     while at < text.len() {
-        q = advance(moves, columns, text, at, q, roles, numbers, positions);
+        q = advance(
+            moves,
+            columns,
+            weights,
+            text,
+            at,
+            q,
+            roles,
+            numbers,
+            positions,
+        );
         if q.place == DEAD {
+            let position = at as u32;
             return Scanned {
                 spelled: false,
-                position: at as u32,
+                position,
                 count: q.count,
             };
         }
         at += 1;
     }
+    let spelled = is_done(moves, columns, q.place);
+    let position = at as u32;
     Scanned {
-        spelled: is_done(moves, columns, q.place),
-        position: at as u32,
+        spelled,
+        position,
         count: q.count,
     }
 }
@@ -120,6 +143,7 @@ fn walk(
 fn advance(
     moves: &[u16; 4092],
     columns: &[u16; 256],
+    weights: &[u8; 27],
     text: &[u8],
     at: usize,
     q: Progress,
@@ -128,6 +152,7 @@ fn advance(
     positions: &mut [u16],
 ) -> Progress
     requires { ⌜ Tables (now moves) (now columns) ⌝ }
+    requires { ⌜ Weights (now weights) ⌝ }
     requires { ⌜ length (now text) ≤ 65536 ⌝ }
     requires { ⌜ at < length (now text) ⌝ }
     requires { ⌜ Holds (now text) (now roles) (now numbers) (now positions) at q ⌝ }
@@ -137,7 +162,7 @@ fn advance(
     let entry = entry_at(moves, columns, q.place, byte);
     let act = (entry / 256) as u8;
     put_token(roles, numbers, positions, q, act);
-    let number = number_after(act, q.number, byte % 16);
+    let number = number_after(weights, act, q.number, byte % 16);
     if HIGHEST < number {
         return Progress {
             place: DEAD,
@@ -146,11 +171,14 @@ fn advance(
             count: q.count,
         };
     }
+    let place = (entry % 256) as usize;
+    let begin = begin_after(act, q.begin, at as u32);
+    let count = count_after(act, q.count);
     Progress {
-        place: (entry % 256) as usize,
+        place,
         number,
-        begin: begin_after(act, q.begin, at as u32),
-        count: count_after(act, q.count),
+        begin,
+        count,
     }
 }
 
@@ -175,17 +203,13 @@ fn put_token(roles: &mut [u8], numbers: &mut [u16], positions: &mut [u16], q: Pr
     positions[count] = q.begin as u16;
 }
 
-fn number_after(act: u8, number: u32, digit: u8) -> u32
-    requires { ⌜ number ≤ 65535 ⌝ }
+fn number_after(weights: &[u8; 27], act: u8, number: u32, digit: u8) -> u32
+    requires { ⌜ Weights (now weights) ⌝ }
+    requires { ⌜ (act < 27) × (number ≤ 65535) ⌝ }
     ensures { λ r. ⌜ r ≡ numberAfter act number digit ⌝ }
 {
-    if act <= ROLES {
-        return number;
-    }
-    if act == NAME {
-        return digit as u32;
-    }
-    10 * number + digit as u32
+    let weight = weights[act as usize] as u32;
+    number * (weight / 2) + digit as u32 * (weight % 2)
 }
 
 fn begin_after(act: u8, begin: u32, at: u32) -> u32

@@ -1,3 +1,4 @@
+use Rattle.qcir_scan.proofs.Rule.{act-low}
 use Prim.Native.Nat.{_<_}
 use lib.ListN.{getD}
 use Rattle.qcir_scan.proofs.Steps.{after-byte, after-too-high}
@@ -31,7 +32,13 @@ put-token-requires c κs = search needs
 
 -- src/lib.rt:140:9
 number-after-requires : tie.Need-number-after-requires
-number-after-requires c κs = search needs
+number-after-requires c κs =
+    let start = c .before .before .before .before .before .before .before .before .before .before .before .before .before .before .before .before in
+    let a = start .args in
+    let h = start .pre .1 .1 .1 .1 in
+    let w : getD (a .text .now) (a .at) 0 < 256 = omega (arith, c .before .before .before .before .before .before .before .before .before .before .before .before .before .before .before .shared-slice-known .given (a .at)) in
+    let low = act-low (a .q .place) (h .place-low) (getD (a .text .now) (a .at) 0) w in
+    (start .pre .1 .0, (rw (c .before .before .before .before .before .before .before .before .before .before .entry-at .ensures) low, h .number-low))
 
 -- src/lib.rt:142:9
 same-length : tie.Need-same-length
@@ -52,11 +59,11 @@ returns c =
     let a = start .args in
     let put = c .before .before .before .before .before .before .before .before .put-token .ensures in
     let w : getD (a .text .now) (a .at) 0 < 256 = omega (arith, c .before .before .before .before .before .before .before .before .before .before .before .before .before .before .before .before .before .shared-slice-known .given (a .at)) in
-    after-too-high (a .text .now) (a .roles .now) (a .numbers .now) (a .positions .now) (a .at) (a .q) (start .pre .1 .1 .1) (start .pre .1 .1 .0) (start .pre .1 .0) w (c .before .before .before .before .before .before .before .before .before .before .before .before .entry-at .result) (c .before .before .before .before .before .before .before .before .before .before .before .before .entry-at .ensures) (put .0) (put .1) (put .2) (c .before .number-after .ensures) (c .if1 .taken)
+    after-too-high (a .text .now) (a .roles .now) (a .numbers .now) (a .positions .now) (a .at) (a .q) (start .pre .1 .1 .1 .1) (start .pre .1 .1 .1 .0) (start .pre .1 .1 .0) w (c .before .before .before .before .before .before .before .before .before .before .before .before .entry-at .result) (c .before .before .before .before .before .before .before .before .before .before .before .before .entry-at .ensures) (put .0) (put .1) (put .2) (c .before .number-after .ensures) (c .if1 .taken)
 
 -- src/lib.rt:150:16
-cast-t24 : tie.Need-cast-t24
-cast-t24 c = search needs
+cast-place : tie.Need-cast-place
+cast-place c = search needs
 
 -- src/lib.rt:152:42
 cast-begin-after : tie.Need-cast-begin-after
@@ -89,7 +96,7 @@ returns-2 c =
     let a = start .args in
     let put = c .before .before .before .before .before .before .before .before .before .before .put-token .ensures in
     let w : getD (a .text .now) (a .at) 0 < 256 = omega (arith, c .before .before .before .before .before .before .before .before .before .before .before .before .before .before .before .before .before .before .before .shared-slice-known .given (a .at)) in
-    after-byte (a .text .now) (a .roles .now) (a .numbers .now) (a .positions .now) (a .at) (a .q) (start .pre .1 .1 .1) (start .pre .1 .1 .0) (start .pre .1 .0) w (c .before .before .before .before .before .before .before .before .before .before .before .before .before .before .entry-at .result) (c .before .before .before .before .before .before .before .before .before .before .before .before .before .before .entry-at .ensures) (put .0) (put .1) (put .2) (c .before .before .before .number-after .ensures) (c .before .begin-after .ensures) (c .count-after .ensures) (c .before .before .if1 .left)
+    after-byte (a .text .now) (a .roles .now) (a .numbers .now) (a .positions .now) (a .at) (a .q) (start .pre .1 .1 .1 .1) (start .pre .1 .1 .1 .0) (start .pre .1 .1 .0) w (c .before .before .before .before .before .before .before .before .before .before .before .before .before .before .entry-at .result) (c .before .before .before .before .before .before .before .before .before .before .before .before .before .before .entry-at .ensures) (put .0) (put .1) (put .2) (c .before .before .before .number-after .ensures) (c .before .begin-after .ensures) (c .count-after .ensures) (c .before .before .if1 .left)
 
 pub advance-spec : {M : Type 1} → statement M
 advance-spec =
@@ -104,7 +111,7 @@ advance-spec =
     same-length-2
     same-length-3
     returns
-    cast-t24
+    cast-place
     cast-begin-after
     begin-after-requires
     count-after-requires
