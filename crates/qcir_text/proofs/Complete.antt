@@ -154,7 +154,7 @@ comment-run most c p x ts gap note e g h =
     ∙ ap (λ i. st (comment c) i x ts) k
 
 -- A name.
-value-grows : (v : ℕ) (ds : List ℕ) → v ≤ valueFrom v ds
+pub value-grows : (v : ℕ) (ds : List ℕ) → v ≤ valueFrom v ds
 unfolding valueFrom
 value-grows v [] = omega arith
 value-grows v (d ∷ ds) = let h : 10 * v + (d - 48) ≤ valueFrom (10 * v + (d - 48)) ds = value-grows (10 * v + (d - 48)) ds in omega arith

@@ -10,3 +10,4 @@ pub mod Few
 pub mod Grammar
 pub mod Sound
 pub mod Live
+pub mod Order
