@@ -11,3 +11,4 @@ pub mod Grammar
 pub mod Sound
 pub mod Live
 pub mod Order
+pub mod Unique
