@@ -1,25 +1,24 @@
 -- What spells the signs of a file is accepted, and its tokens are the file's.
 -- Assumes nothing.
 use mathlib.Core.Path.{_≡_, refl, sym, _∙_, ap, subst}
-use mathlib.Core.Bool.{Bool, true, false, not, _&&_, _||_}
+use mathlib.Core.Bool.{Bool, true, false, not, _&&_}
 use mathlib.Core.List.{List, [], _∷_, _++_, append-assoc, append-nil}
 use Prim.Native.Nat.{ℕ, suc, _+_, _*_, _-_, _≤_}
 use native.Mathlib.Omega.{arith}
 use lib.Dec.{eqb, leb}
 use lib.ListN.{length}
 use borrow.Author.Tests.{eqb-true, eqb-false, eq-eqb, ne-eqb, leb-true, le-leb, lt-leb}
-use Rattle.lists.specs.Choice.{pick, pick-yes, pick-no, and-left, and-right, and-both, or-cases, or-neither, or-neither-left, or-neither-right, and-off-left, and-off-right, clash, Is, is-true, is-false, look}
+use Rattle.lists.specs.Choice.{pick, pick-yes, pick-no, and-left, and-right, and-both, or-cases, or-neither, or-neither-left, or-neither-right, and-off-left, clash, Is, is-true, is-false, look}
 use Rattle.lists.specs.Members.{mem, all}
 use Rattle.qcir.specs.File.{Name, File}
 use Rattle.qcir.specs.Spelling.{Sign, word, name, newline, isSpace, isDigit, isNumeral, valueFrom, Spelled, end, space, a-word, a-name, line-end, blank-line, comment-line, header, isPadded, isCount, Spells, fileSigns}
 use Rattle.qcir_tokens.specs.Tokens.{Token, token, fileTokens}
-use Rattle.qcir_text.specs.Machine.{Place, dead, heading, headed, padded, counted, ready, inside, digits, comment, State, start, run, step, stepAt, between, readWord, readDigit, endLine, move, moveName, emit, isDone, accepts, tokensOf, point, points, rowAt, row, arrow, arrowOf, someBegins}
-use Rattle.qcir_text.proofs.Rows.{choose}
-use Rattle.qcir_text.proofs.Points.{start-ends, end-starts, name-once, word-within}
-use Rattle.qcir_text.proofs.Signs.{lineEnd, go, after, closes, emitted, after-zero, after-from}
+use Rattle.qcir_text.specs.Machine.{Place, headed, padded, counted, ready, digits, comment, State, start, run, step, stepAt, between, readDigit, endLine, move, moveName, emit, isDone, accepts, tokensOf, point, points, rowAt, row, arrowOf}
+use Rattle.qcir_text.proofs.Points.{start-ends, end-starts, name-once, word-within, starts-24}
+use Rattle.qcir_text.proofs.Signs.{lineEnd, go, after, closes, emitted, after-from}
 use Rattle.qcir_text.proofs.Files.{Takes, file-takes}
 use Rattle.qcir_text.proofs.Turns.{Read, whole, part, no-word, Number, within-most, too-high, Ended, line, blank, no-end, Between, by-space, by-end, by-sharp, by-digit, by-word, Turn, from-dead, no-header, in-header, end-header, no-count, first-space, end-headed, no-padding, next-space, first-count, end-padded, next-count, after-count, at-point, in-word, next-digit, after-name, in-comment, end-comment, turn}
-use Rattle.qcir_text.proofs.Runs.{st, run-append}
+use Rattle.qcir_text.proofs.Runs.{st, no-name, run-append}
 use Rattle.qcir_text.proofs.Words.{afterWord, word-ready, word-digits}
 
 -- the signs begin with a line's end
@@ -247,14 +246,14 @@ reach {most} {p} (space {b = b} {ss = ss} {t = t} h d) c x ts place o n =
     carry (ap (λ z. run most z t) (s .stepped)) refl (reach d c x ts (s .next) (s .open') n)
 reach {most} {p} (a-word w {ss} {t} d) c x ts place o n =
     let e : run most (st place p x ts) (w ++ t) ≡ run most (afterWord c w (p + length w) x ts) t =
-        run-append most (st place p x ts) w t ∙ ap (λ z. run most z t) (word-open most c p x ts w ss place o (after-from _ ss n)) in
+    run-append most (st place p x ts) w t ∙ ap (λ z. run most z t) (word-open most c p x ts w ss place o (after-from _ ss n)) in
     carry e (closed (eqb (arrowOf w (point c .words) .role) 0) (token (arrowOf w (point c .words) .role) x) ts (emitted (arrowOf w (point c .words) .target) x ss))
     (reach d (arrowOf w (point c .words) .target) x _ (ready (arrowOf w (point c .words) .target)) o-ready n)
 reach {most} {p} (a-name ds {ss} {t} h m d) c x ts place o n =
     let y : Name = record { number = valueFrom 0 ds; position = p } in
     let k : point c .named ≡ 0 → ⊥ = after-from (point c .named) ss n in
     let e : run most (st place p x ts) (ds ++ t) ≡ run most (st (digits (point c .named)) (p + length ds) y ts) t =
-        run-append most (st place p x ts) ds t ∙ ap (λ z. run most z t) (name-open most c p x ts y ds ss place o k h m) in
+    run-append most (st place p x ts) ds t ∙ ap (λ z. run most z t) (name-open most c p x ts y ds ss place o k h m) in
     carry e refl (reach d (point c .named) y ts (digits (point c .named)) (o-digits (name-once c k .0)) n)
 reach {most} {p} (line-end {ss = ss} {t = t} d) c x ts place o n =
     carry (ap (λ z. run most z t) (line-step most c p x ts ss place o (after-from (lineEnd c) ss n))) refl
@@ -265,10 +264,10 @@ reach {most} {p} (blank-line {ss = ss} {t = t} d) c x ts place o n =
 reach {most} {p} (comment-line gap note {ss} {t} g h d) c x ts place o n =
     let k : lineEnd c ≡ 0 → ⊥ = after-from (lineEnd c) ss n in
     let e : run most (step most (st place p x ts) 10) (gap ++ (35 ∷ (note ++ t))) ≡ run most (st (comment (lineEnd c)) (suc p + (length gap + suc (length note))) x ts) t =
-        ap (λ z. run most z (gap ++ (35 ∷ (note ++ t)))) (line-step most c p x ts ss place o k)
-        ∙ ap (λ u. run most (st (ready (lineEnd c)) (suc p) x ts) u) (sym (append-assoc gap (35 ∷ note) t))
-        ∙ run-append most (st (ready (lineEnd c)) (suc p) x ts) (gap ++ (35 ∷ note)) t
-        ∙ ap (λ z. run most z t) (comment-run most (lineEnd c) (suc p) x ts gap note (line-starts c k) g h) in
+    ap (λ z. run most z (gap ++ (35 ∷ (note ++ t)))) (line-step most c p x ts ss place o k)
+    ∙ ap (λ u. run most (st (ready (lineEnd c)) (suc p) x ts) u) (sym (append-assoc gap (35 ∷ note) t))
+    ∙ run-append most (st (ready (lineEnd c)) (suc p) x ts) (gap ++ (35 ∷ note)) t
+    ∙ ap (λ z. run most z t) (comment-run most (lineEnd c) (suc p) x ts gap note (line-starts c k) g h) in
     carry e refl (again c x ts ss _ (λ m. reach d (lineEnd c) x ts (comment (lineEnd c)) (o-comment (line-starts c k) refl) m) n)
 
 -- The count of the header line.
@@ -306,14 +305,14 @@ padded-run most p x ts ss (b ∷ bs) h =
     or-cases (isSpace b && isPadded bs) (isDigit b && all isDigit bs) h
     (λ e. counted-at (ap (λ s. run most s bs) (pick-yes _ _ _ (and-left _ _ e))) k (later (and-right (isSpace b) _ e)))
     (λ e.
-    record
-      { place = counted
-      ; open' = o-counted refl refl
-      ; equal =
-        ap (λ s. run most s bs) (pick-no _ _ _ (digit-space b (and-left _ _ e)) ∙ pick-yes _ _ _ (and-left _ _ e))
-        ∙ counted-run most (suc p) x ts bs (and-right (isDigit b) _ e)
-        ∙ ap (λ i. st counted i x ts) k
-      })
+    record {
+      place = counted;
+      open' = o-counted refl refl;
+      equal =
+          ap (λ s. run most s bs) (pick-no _ _ _ (digit-space b (and-left _ _ e)) ∙ pick-yes _ _ _ (and-left _ _ e))
+          ∙ counted-run most (suc p) x ts bs (and-right (isDigit b) _ e)
+          ∙ ap (λ i. st counted i x ts) k;
+    })
 
 count-run : (most p : ℕ) (x : Name) (ts : List Token) (ss : List Sign) (bs : List ℕ) → isCount bs ≡ true → Counted ss (p + length bs) x ts (run most (st headed p x ts) bs)
 unfolding run step stepAt move isCount lineNext
@@ -322,10 +321,6 @@ count-run most p x ts ss [] h =
 count-run most p x ts ss (b ∷ bs) h =
     let k : suc p + length bs ≡ p + suc (length bs) = omega arith in
     counted-at (ap (λ s. run most s bs) (pick-yes _ _ _ (and-left _ _ h))) k (padded-run most (suc p) x ts ss bs (and-right (isSpace b) _ h))
-
-starts-24 : point 24 .starts ≡ true
-unfolding points rowAt row
-starts-24 = refl
 
 -- The byte that leads to the start of a line ends no token.
 read-kept : {s z : State} {c : ℕ} {w : List ℕ} → Read s c w z → isDone (z .place) ≡ true → z .tokens ≡ s .tokens
@@ -386,9 +381,6 @@ stands-done place (o-headed e l) = clash l refl
 stands-done place (o-padded e l) = clash l refl
 stands-done place (o-counted e l) = clash l refl
 
-no-name : Name
-no-name = record { number = 0; position = 0 }
-
 header-run : (most : ℕ) → run most start header ≡ st headed 9 no-name []
 unfolding run step stepAt start pick move no-name
 header-run most = refl
@@ -405,12 +397,12 @@ spells-reach {most} {text} {f} s =
     let takes : Takes 1 no-name (newline ∷ ss) (fileTokens f) = file-takes f no-name in
     let c = count-run most 9 no-name [] ss (s .count) (s .counted) in
     let r : Reached (after 1 (newline ∷ ss)) (emitted 1 no-name (newline ∷ ss)) (run most (st (c .place) (9 + length (s .count)) no-name []) (s .rest)) =
-        reach (s .spelled) 1 no-name [] (c .place) (c .open') (λ z. omega (arith, takes .0)) in
+    reach (s .spelled) 1 no-name [] (c .place) (c .open') (λ z. omega (arith, takes .0)) in
     let e : step most (run most start text) 10 ≡ run most (st (c .place) (9 + length (s .count)) no-name []) (s .rest) =
-        sym (last-step most text) ∙ ap (run most start) (s .parts) ∙ run-append most start header (s .count ++ s .rest)
-        ∙ ap (λ z. run most z (s .count ++ s .rest)) (header-run most)
-        ∙ run-append most (st headed 9 no-name []) (s .count) (s .rest)
-        ∙ ap (λ z. run most z (s .rest)) (c .equal) in
+    sym (last-step most text) ∙ ap (run most start) (s .parts) ∙ run-append most start header (s .count ++ s .rest)
+    ∙ ap (λ z. run most z (s .count ++ s .rest)) (header-run most)
+    ∙ run-append most (st headed 9 no-name []) (s .count) (s .rest)
+    ∙ ap (λ z. run most z (s .rest)) (c .equal) in
     subst (λ k. Reached k (fileTokens f) (step most (run most start text) 10)) (takes .0) (carry e (takes .1) r)
 
 pub complete : {most : ℕ} {text : List ℕ} {f : File} → Spells most text f → (accepts most text ≡ true) × (tokensOf most text ≡ fileTokens f)

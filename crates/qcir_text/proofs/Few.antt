@@ -1,19 +1,17 @@
 -- A text has at least two bytes for each of its tokens.
 -- Assumes nothing.
-use mathlib.Core.Path.{_≡_, refl, sym, _∙_, ap, subst}
-use mathlib.Core.Bool.{Bool, true, false, not, _&&_, _||_}
+use mathlib.Core.Path.{_≡_, refl, subst}
+use mathlib.Core.Bool.{Bool, true, false, _&&_, _||_}
 use mathlib.Core.List.{List, [], _∷_, _++_}
-use Prim.Native.Nat.{ℕ, suc, _+_, _*_, _-_, _≤_}
+use Prim.Native.Nat.{ℕ, suc, _+_, _*_, _≤_}
 use native.Mathlib.Omega.{arith}
 use lib.Dec.{eqb, leb}
 use lib.ListN.{length, getD, length-append}
-use borrow.Author.Tests.{eqb-true, eqb-false, leb-true, not-true}
+use borrow.Author.Tests.{eqb-true, leb-true}
 use Rattle.lists.specs.Choice.{pick, and-left, and-right, or-cases}
-use Rattle.qcir.specs.File.{Name}
-use Rattle.qcir.specs.Spelling.{isSpace, isDigit}
 use Rattle.qcir_tokens.specs.Tokens.{Token, token}
-use Rattle.qcir_text.specs.Machine.{Arrow, Row, row, rowAt, arrow, arrowOf, point, points, Place, dead, heading, headed, padded, counted, ready, inside, digits, comment, State, start, run, step, stepAt, between, readWord, readDigit, endLine, move, moveName, emit, tokensOf, someBegins}
-use Rattle.qcir_text.proofs.Rows.{choose, every, passes, everyArrow, arrow-passes}
+use Rattle.qcir_text.specs.Machine.{Arrow, Row, row, arrow, arrowOf, point, points, Place, dead, heading, headed, padded, counted, ready, inside, digits, comment, State, start, run, step, move, moveName, emit, tokensOf}
+use Rattle.qcir_text.proofs.Rows.{every, passes, everyArrow, arrow-passes}
 use Rattle.qcir_text.proofs.Turns.{Read, whole, part, no-word, Number, within-most, too-high, Ended, line, blank, no-end, Between, by-space, by-end, by-sharp, by-digit, by-word, Turn, from-dead, no-header, in-header, end-header, no-count, first-space, end-headed, no-padding, next-space, first-count, end-padded, next-count, after-count, at-point, in-word, next-digit, after-name, in-comment, end-comment, turn, run-taken}
 
 -- The bytes taken since the last token that its two bytes do not count: at each point, and at each place.

@@ -159,10 +159,11 @@ module _ (ss : List Sign) where
   free-line h =
       let x = h .0 in
       let xs = h .1 in
-      let b = h .2 in
-      (record { free = x ∷ xs; prefix = b .prefix; output = b .output; gates = b .gates }
-      , ap (λ rest. word free-word ∷ rest) (h .3)
-      ∙ ap (λ rest. word free-word ∷ word opening ∷ rest) (sym (append-assoc (namesSigns x xs) (word closing ∷ newline ∷ []) (bodySigns b))))
+      let b = h .2 in (
+        record { free = x ∷ xs; prefix = b .prefix; output = b .output; gates = b .gates },
+        ap (λ rest. word free-word ∷ rest) (h .3)
+            ∙ ap (λ rest. word free-word ∷ word opening ∷ rest) (sym (append-assoc (namesSigns x xs) (word closing ∷ newline ∷ []) (bodySigns b))),
+      )
 
   prefix-line : (q : Quantifier) → ListWord ss → Later (word (quantifierWord q) ∷ ss)
   unfolding prefixSigns listSigns bodySigns
@@ -170,12 +171,13 @@ module _ (ss : List Sign) where
       let x = h .0 in
       let xs = h .1 in
       let b = h .2 in
-      let rest : List Sign = outputSigns (b .output) ++ gatesSigns (b .gates) in
-      (record { prefix = record { quantifier = q; first = x; others = xs } ∷ b .prefix; output = b .output; gates = b .gates }
-      , ap (λ rest. word (quantifierWord q) ∷ rest) (h .3)
-      ∙ ap (λ rest. word (quantifierWord q) ∷ word opening ∷ rest)
-        (sym (append-assoc (namesSigns x xs ++ (word closing ∷ newline ∷ [])) (prefixSigns (b .prefix)) rest
-        ∙ append-assoc (namesSigns x xs) (word closing ∷ newline ∷ []) (prefixSigns (b .prefix) ++ rest))))
+      let rest : List Sign = outputSigns (b .output) ++ gatesSigns (b .gates) in (
+        record { prefix = record { quantifier = q; first = x; others = xs } ∷ b .prefix; output = b .output; gates = b .gates },
+        ap (λ rest. word (quantifierWord q) ∷ rest) (h .3)
+            ∙ ap (λ rest. word (quantifierWord q) ∷ word opening ∷ rest)
+            (sym (append-assoc (namesSigns x xs ++ (word closing ∷ newline ∷ [])) (prefixSigns (b .prefix)) rest
+            ∙ append-assoc (namesSigns x xs) (word closing ∷ newline ∷ []) (prefixSigns (b .prefix) ++ rest))),
+      )
 
   exists-line : ListWord ss → Later (word exists-word ∷ ss)
   unfolding quantifierWord
@@ -187,10 +189,11 @@ module _ (ss : List Sign) where
 
   output-line : OutputWord ss → Later (word output-word ∷ ss)
   unfolding prefixSigns outputSigns bodySigns
-  output-line h =
-      (record { prefix = []; output = h .0; gates = h .1 }
-      , ap (λ rest. word output-word ∷ rest) (h .2)
-      ∙ ap (λ rest. word output-word ∷ word opening ∷ rest) (sym (append-assoc (literalSigns (h .0)) (word closing ∷ newline ∷ []) (gatesSigns (h .1)))))
+  output-line h = (
+    record { prefix = []; output = h .0; gates = h .1 },
+    ap (λ rest. word output-word ∷ rest) (h .2)
+        ∙ ap (λ rest. word output-word ∷ word opening ∷ rest) (sym (append-assoc (literalSigns (h .0)) (word closing ∷ newline ∷ []) (gatesSigns (h .1)))),
+  )
 
   list-word : ListName ss → ListWord (word opening ∷ ss)
   list-word h = (h .0, h .1, h .2, ap (λ rest. word opening ∷ rest) (h .3))
@@ -238,11 +241,13 @@ module _ (ss : List Sign) where
 
   junction-word : (j : Junction) → JunctionWord ss → GateEquals (word (junctionWord j) ∷ ss)
   unfolding gateSigns
-  junction-word j h =
-      ((λ g. junction-gate j g (h .0)), h .1
-      , λ g. ap (λ rest. name g ∷ word equals ∷ word (junctionWord j) ∷ rest) (h .2)
-      ∙ ap (λ rest. name g ∷ word equals ∷ word (junctionWord j) ∷ word opening ∷ rest)
-        (sym (append-assoc (anyInputsSigns (h .0)) (word closing ∷ newline ∷ []) (gatesSigns (h .1)))))
+  junction-word j h = (
+    (λ g. junction-gate j g (h .0)),
+    h .1,
+    λ g. ap (λ rest. name g ∷ word equals ∷ word (junctionWord j) ∷ rest) (h .2)
+        ∙ ap (λ rest. name g ∷ word equals ∷ word (junctionWord j) ∷ word opening ∷ rest)
+        (sym (append-assoc (anyInputsSigns (h .0)) (word closing ∷ newline ∷ []) (gatesSigns (h .1)))),
+  )
 
   and-gate : JunctionWord ss → GateEquals (word and-word ∷ ss)
   unfolding junctionWord
@@ -257,12 +262,14 @@ module _ (ss : List Sign) where
   xor-line h =
       let l = h .0 in
       let r = h .1 in
-      let gs = h .2 in
-      ((λ g. xor-gate g l r), gs
-      , λ g. ap (λ rest. name g ∷ word equals ∷ word xor-word ∷ rest) (h .3)
-      ∙ ap (λ rest. name g ∷ word equals ∷ word xor-word ∷ word opening ∷ rest)
-        (sym (append-assoc (literalSigns l) (word comma ∷ (literalSigns r ++ (word closing ∷ newline ∷ []))) (gatesSigns gs)
-        ∙ ap (λ rest. literalSigns l ++ (word comma ∷ rest)) (append-assoc (literalSigns r) (word closing ∷ newline ∷ []) (gatesSigns gs)))))
+      let gs = h .2 in (
+        (λ g. xor-gate g l r),
+        gs,
+        λ g. ap (λ rest. name g ∷ word equals ∷ word xor-word ∷ rest) (h .3)
+            ∙ ap (λ rest. name g ∷ word equals ∷ word xor-word ∷ word opening ∷ rest)
+            (sym (append-assoc (literalSigns l) (word comma ∷ (literalSigns r ++ (word closing ∷ newline ∷ []))) (gatesSigns gs)
+            ∙ ap (λ rest. literalSigns l ++ (word comma ∷ rest)) (append-assoc (literalSigns r) (word closing ∷ newline ∷ []) (gatesSigns gs)))),
+      )
 
   bound-word : (q : Quantifier) → BoundWord ss → GateEquals (word (quantifierWord q) ∷ ss)
   unfolding gateSigns
@@ -270,12 +277,14 @@ module _ (ss : List Sign) where
       let x = h .0 in
       let xs = h .1 in
       let l = h .2 in
-      let gs = h .3 in
-      ((λ g. quantified-gate q g x xs l), gs
-      , λ g. ap (λ rest. name g ∷ word equals ∷ word (quantifierWord q) ∷ rest) (h .4)
-      ∙ ap (λ rest. name g ∷ word equals ∷ word (quantifierWord q) ∷ word opening ∷ rest)
-        (sym (append-assoc (namesSigns x xs) (word semicolon ∷ (literalSigns l ++ (word closing ∷ newline ∷ []))) (gatesSigns gs)
-        ∙ ap (λ rest. namesSigns x xs ++ (word semicolon ∷ rest)) (append-assoc (literalSigns l) (word closing ∷ newline ∷ []) (gatesSigns gs)))))
+      let gs = h .3 in (
+        (λ g. quantified-gate q g x xs l),
+        gs,
+        λ g. ap (λ rest. name g ∷ word equals ∷ word (quantifierWord q) ∷ rest) (h .4)
+            ∙ ap (λ rest. name g ∷ word equals ∷ word (quantifierWord q) ∷ word opening ∷ rest)
+            (sym (append-assoc (namesSigns x xs) (word semicolon ∷ (literalSigns l ++ (word closing ∷ newline ∷ []))) (gatesSigns gs)
+            ∙ ap (λ rest. namesSigns x xs ++ (word semicolon ∷ rest)) (append-assoc (literalSigns l) (word closing ∷ newline ∷ []) (gatesSigns gs)))),
+      )
 
   exists-gate : BoundWord ss → GateEquals (word exists-word ∷ ss)
   unfolding quantifierWord
@@ -290,15 +299,21 @@ module _ (ss : List Sign) where
 
   inputs-minus : InputName ss → Inputs (word minus-sign ∷ ss)
   unfolding literalSigns pick
-  inputs-minus h =
-      (record { minus = true; name = h .0 }, h .1, h .2
-      , ap (λ rest. word minus-sign ∷ rest) (h .3) ∙ ap (λ rest. rest ++ lineTail (h .2)) (inputs-more true (h .0) (h .1)))
+  inputs-minus h = (
+    record { minus = true; name = h .0 },
+    h .1,
+    h .2,
+    ap (λ rest. word minus-sign ∷ rest) (h .3) ∙ ap (λ rest. rest ++ lineTail (h .2)) (inputs-more true (h .0) (h .1)),
+  )
 
   inputs-plus : (x : Name) → MoreInputs ss → Inputs (name x ∷ ss)
   unfolding literalSigns pick
-  inputs-plus x h =
-      (record { minus = false; name = x }, h .0, h .1
-      , ap (λ rest. name x ∷ rest) (h .2) ∙ ap (λ rest. rest ++ lineTail (h .1)) (inputs-more false x (h .0)))
+  inputs-plus x h = (
+    record { minus = false; name = x },
+    h .0,
+    h .1,
+    ap (λ rest. name x ∷ rest) (h .2) ∙ ap (λ rest. rest ++ lineTail (h .1)) (inputs-more false x (h .0)),
+  )
 
   any-some : Inputs ss → AnyInputs ss
   unfolding anyInputsSigns
@@ -340,10 +355,14 @@ module _ (ss : List Sign) where
   bound-opening h = (h .0, h .1, h .2, h .3, ap (λ rest. word opening ∷ rest) (h .4))
 
   bound-name : (x : Name) → BoundMore ss → BoundName (name x ∷ ss)
-  bound-name x h =
-      (x, h .0, h .1, h .2
-      , ap (λ rest. name x ∷ rest) (h .3)
-      ∙ ap (λ rest. rest ++ (word semicolon ∷ (literalSigns (h .1) ++ lineTail (h .2)))) (names-more x (h .0)))
+  bound-name x h = (
+    x,
+    h .0,
+    h .1,
+    h .2,
+    ap (λ rest. name x ∷ rest) (h .3)
+        ∙ ap (λ rest. rest ++ (word semicolon ∷ (literalSigns (h .1) ++ lineTail (h .2)))) (names-more x (h .0)),
+  )
 
   bound-comma : BoundName ss → BoundMore (word comma ∷ ss)
   unfolding moreNames
@@ -387,7 +406,6 @@ data Words (c : ℕ) : List Arrow → Type 0 where
   _or_ : {a : Arrow} {rest : List Arrow} → ((ss : List Sign) → Rest (a .target) ss → Rest c (word (a .word) ∷ ss)) → Words c rest → Words c (a ∷ rest)
 
 infixr 40 _or_
-
 record Law (c : ℕ) (r : Row) : Type 0 where
   words : Words c (r .words)
   named : (r .named ≡ 0 → ⊥) → (ss : List Sign) (x : Name) → Rest (r .named) ss → Rest c (name x ∷ ss)
@@ -398,7 +416,6 @@ data Laws : ℕ → List Row → Type 0 where
   _then_ : {c : ℕ} {r : Row} {rs : List Row} → Law c r → Laws (suc c) rs → Laws c (r ∷ rs)
 
 infixr 30 _then_
-
 by-words : {c : ℕ} {arrows : List Arrow} {starts : Bool} → Words c arrows → Law c (record { words = arrows; named = 0; ended = 0; starts = starts })
 by-words ws = record { words = ws; named = λ n. absurd (n refl); ended = λ n. absurd (n refl) }
 

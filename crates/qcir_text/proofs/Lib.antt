@@ -12,3 +12,4 @@ pub mod Sound
 pub mod Live
 pub mod Order
 pub mod Unique
+pub mod Spelling

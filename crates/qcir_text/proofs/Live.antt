@@ -1,26 +1,26 @@
 -- Every text that does not lead to the dead place is the beginning of a file; one that does is not.
 -- Assumes nothing.
 use mathlib.Core.Path.{_≡_, refl, sym, _∙_, ap, subst}
-use mathlib.Core.Bool.{Bool, true, false, not, _&&_, _||_}
+use mathlib.Core.Bool.{Bool, true, false, _&&_, _||_}
 use mathlib.Core.List.{List, [], _∷_, _++_, append-assoc, append-nil}
 use Prim.Native.Nat.{ℕ, zero, suc, _+_, _≤_, _<_}
 use native.Mathlib.Omega.{arith}
-use lib.Dec.{eqb, leb}
+use lib.Dec.{eqb}
 use lib.ListN.{length, take}
-use borrow.Author.Tests.{eqb-true, eqb-false, eq-eqb, ne-eqb}
-use Rattle.lists.specs.Choice.{pick, pick-yes, pick-no, and-left, and-right, and-both, or-cases, clash, Is, is-true, is-false, look}
+use borrow.Author.Tests.{eqb-true, eq-eqb}
+use Rattle.lists.specs.Choice.{pick, pick-yes, and-left, and-right, or-cases, clash, Is, is-true, is-false, look}
 use Rattle.lists.specs.Members.{all}
-use Rattle.qcir.specs.File.{Name, File}
-use Rattle.qcir.specs.Spelling.{Sign, word, name, newline, isSpace, isDigit, isNumeral, valueFrom, Spelled, end, a-word, a-name, line-end, Spells, Viable, SpellingFault, at-byte, at-end}
+use Rattle.qcir.specs.File.{Name}
+use Rattle.qcir.specs.Spelling.{Sign, word, name, newline, isSpace, isDigit, isNumeral, valueFrom, Spelled, end, a-word, a-name, line-end, Viable, SpellingFault, at-byte, at-end}
 use Rattle.qcir_tokens.specs.Tokens.{Token}
-use Rattle.qcir_text.specs.Machine.{Arrow, Row, row, rowAt, arrow, arrowOf, same, begins, someBegins, point, points, Place, dead, heading, headed, padded, counted, ready, inside, digits, comment, State, start, run, step, stepAt, between, readWord, endLine, move, moveName, emit, isDone, isDead, alive, accepts}
-use Rattle.qcir_text.proofs.Rows.{choose, every, passes, everyArrow, arrow-passes, same-equal, same-self}
+use Rattle.qcir_text.specs.Machine.{Arrow, Row, row, rowAt, arrow, arrowOf, same, begins, someBegins, point, points, Place, dead, heading, headed, padded, counted, ready, inside, digits, comment, State, start, run, step, stepAt, between, endLine, move, moveName, emit, isDone, isDead, alive, accepts}
+use Rattle.qcir_text.proofs.Rows.{choose, every, passes, everyArrow, arrow-passes, same-self}
 use Rattle.qcir_text.proofs.Points.{name-once}
 use Rattle.qcir_text.proofs.Signs.{lineEnd, go, after, after-zero}
 use Rattle.qcir_text.proofs.Turns.{Read, whole, part, no-word, Number, within-most, too-high, Ended, line, blank, no-end, Between, by-space, by-end, by-sharp, by-digit, by-word, Turn, from-dead, no-header, in-header, end-header, no-count, first-space, end-headed, no-padding, next-space, first-count, end-padded, next-count, after-count, at-point, in-word, next-digit, after-name, in-comment, end-comment, turn}
 use Rattle.qcir_text.proofs.Runs.{st, run-append}
-use Rattle.qcir_text.proofs.Words.{solid, lettered, word-lettered, word-rest, afterWord}
-use Rattle.qcir_text.proofs.Complete.{Open, o-ready, o-digits, o-comment, Reached, reach, stands-done, end-ready, complete}
+use Rattle.qcir_text.proofs.Words.{solid, word-lettered, word-rest}
+use Rattle.qcir_text.proofs.Complete.{Open, o-ready, o-digits, reach, stands-done, complete}
 use Rattle.qcir_text.proofs.Sound.{sound}
 
 -- Signs that lead from a point to the end: a line's end, else a name, else the last word that may come, and so on.
@@ -112,10 +112,10 @@ record Finishes (most : ℕ) (s : State) : Type 0 where
 -- bytes that lead to a state that finishes
 first : {most : ℕ} {s t : State} (more : List ℕ) → run most s more ≡ t → Finishes most t → Finishes most s
 first {most} {s} {t} more e f =
-    record
-      { more = more ++ f .more
-      ; done = subst (λ (z : State). isDone (z .place) ≡ true) (sym (run-append most s more (f .more) ∙ ap (λ z. run most z (f .more)) e)) (f .done)
-      }
+    record {
+      more = more ++ f .more;
+      done = subst (λ (z : State). isDone (z .place) ≡ true) (sym (run-append most s more (f .more) ∙ ap (λ z. run most z (f .more)) e)) (f .done);
+    }
 
 finish-open : (most c p : ℕ) (x : Name) (ts : List Token) (place : Place) → ((ss : List Sign) → Open c ss place) → 1 ≤ most → live c ≡ true
     → Finishes most (st place p x ts)
@@ -147,10 +147,11 @@ word-begun w (a ∷ rest) h k =
     let later = word-begun w rest (and-right (live (a .target)) _ h) in
     or-cases (begins w (a .word)) (someBegins w rest) k
     (λ e.
-    let r = begins-split w (a .word) e in
-    (r .0
-    , subst (λ u. pick (same u (a .word)) a (arrowOf u rest) .target ≡ 0 → ⊥) (r .1)
-      (subst (λ (b : Arrow). b .target ≡ 0 → ⊥) (sym (pick-yes _ a (arrowOf (a .word) rest) (same-self (a .word)))) lives)))
+    let r = begins-split w (a .word) e in (
+      r .0,
+      subst (λ u. pick (same u (a .word)) a (arrowOf u rest) .target ≡ 0 → ⊥) (r .1)
+          (subst (λ (b : Arrow). b .target ≡ 0 → ⊥) (sym (pick-yes _ a (arrowOf (a .word) rest) (same-self (a .word)))) lives),
+    ))
     (λ e.
     let r = later e in
     (r .0, choose (λ (b : Arrow). b .target ≡ 0 → ⊥) (same (w ++ r .0) (a .word)) a (arrowOf (w ++ r .0) rest) (λ q. lives) (λ q. r .1)))
@@ -340,7 +341,7 @@ viable most text l d =
     let s : State = run most start text in
     let f : Finishes most s = finish-good most (s .taken) (s .pending) (s .tokens) (s .place) l (run-good most start text good-start d) in
     let e : isDone (run most start (text ++ f .more) .place) ≡ true =
-        subst (λ (z : State). isDone (z .place) ≡ true) (sym (run-append most start text (f .more))) (f .done) in
+    subst (λ (z : State). isDone (z .place) ≡ true) (sym (run-append most start text (f .more))) (f .done) in
     let r = sound most (text ++ f .more) (done-stays most (run most start (text ++ f .more)) _ e) in
     record { more = f .more; file = r .file; spells = r .spells }
 
@@ -349,7 +350,7 @@ unfolding accepts
 not-viable most text d v =
     let s : State = run most start (text ++ v .more) in
     let e : isDead (s .place) ≡ true =
-        subst (λ (z : State). isDead (z .place) ≡ true) (sym (run-append most start text (v .more))) (dead-run most (run most start text) (v .more) d) in
+    subst (λ (z : State). isDead (z .place) ≡ true) (sym (run-append most start text (v .more))) (dead-run most (run most start text) (v .more) d) in
     not-done _ (dead-turn e (turn most s 10)) (complete (v .spells) .0)
 
 -- Where the machine stops.

@@ -7,16 +7,16 @@ use Prim.Native.Nat.{ℕ, suc, _+_, _*_, _-_, _≤_, _<_}
 use native.Mathlib.Omega.{arith}
 use lib.Dec.{eqb, leb}
 use lib.ListN.{length, getD}
-use borrow.Author.Tests.{eqb-true, eqb-false, leb-true, le-leb, not-true}
+use borrow.Author.Tests.{eqb-true, leb-true, le-leb, not-true}
 use Rattle.lists.specs.Choice.{pick, pick-yes, pick-no, and-left, and-right, and-both, or-cases, clash, Is, is-true, is-false, look}
-use Rattle.lists.specs.Members.{all}
 use Rattle.qcir.specs.File.{Name, File}
-use Rattle.qcir.specs.Spelling.{Sign, word, name, newline, isNumeral, isDigit, valueFrom, Spelled, end, space, a-word, a-name, line-end, blank-line, comment-line, Spells, fileSigns, header}
+use Rattle.qcir.specs.Spelling.{Sign, word, name, newline, isNumeral, valueFrom, Spelled, end, space, a-word, a-name, line-end, blank-line, comment-line, Spells, fileSigns}
 use Rattle.qcir_tokens.specs.Tokens.{Token, token, emptyRole, fileTokens, ascending, numbered}
-use Rattle.qcir_text.specs.Machine.{Arrow, Row, row, rowAt, arrow, arrowOf, point, points}
+use Rattle.qcir_text.specs.Machine.{Arrow, Row, row, arrow, arrowOf, point, points}
 use Rattle.qcir_text.proofs.Rows.{choose, every, passes, everyArrow, arrow-passes}
 use Rattle.qcir_text.proofs.Signs.{lineEnd, go, after, closes, emitted, after-from}
 use Rattle.qcir_text.proofs.Files.{Takes, file-takes}
+use Rattle.qcir_text.proofs.Runs.{no-name}
 use Rattle.qcir_text.proofs.Complete.{value-grows}
 
 abbrev InRange : ℕ → Name → Type 0
@@ -116,12 +116,12 @@ unfolding arrowTest
 silent-held {c = c} a t e h =
     let known-stays : (not (known (a .target)) || known c) ≡ true = and-left _ _ t in
     let fresh-stays : (not (fresh (a .target)) || fresh c) ≡ true =
-        sym (pick-yes _ (not (fresh (a .target)) || fresh c) _ e) ∙ and-right (not (known (a .target)) || known c) _ t in
-    record
-      { low = h .low
-      ; new = λ f. h .new (not-or (fresh (a .target)) (fresh c) fresh-stays f)
-      ; ranged = λ f. h .ranged (not-or (known (a .target)) (known c) known-stays f)
-      }
+    sym (pick-yes _ (not (fresh (a .target)) || fresh c) _ e) ∙ and-right (not (known (a .target)) || known c) _ t in
+    record {
+      low = h .low;
+      new = λ f. h .new (not-or (fresh (a .target)) (fresh c) fresh-stays f);
+      ranged = λ f. h .ranged (not-or (known (a .target)) (known c) known-stays f);
+    }
 
 -- a word that ends a token
 token-fine : {most c q p : ℕ} {x : Name} (a : Arrow) (rest : List Token) → arrowTest c a ≡ true → eqb (a .role) 0 ≡ false → Held most c q p x
@@ -130,14 +130,15 @@ unfolding arrowTest ascending numbered token
 token-fine {most} {c} {q} {p} {x} a rest t e h next =
     let known-stays : (not (known (a .target)) || known c) ≡ true = and-left _ _ t in
     let ends : (not (fresh (a .target)) && (known c && (eqb (a .role) emptyRole || fresh c))) ≡ true =
-        sym (pick-no _ (not (fresh (a .target)) || fresh c) _ e) ∙ and-right (not (known (a .target)) || known c) _ t in
+    sym (pick-no _ (not (fresh (a .target)) || fresh c) _ e) ∙ and-right (not (known (a .target)) || known c) _ t in
     let stale : fresh (a .target) ≡ false = not-true _ (and-left (not (fresh (a .target))) _ ends) in
     let rest-ends = and-right (not (fresh (a .target))) _ ends in
     let r : InRange most x = h .ranged (and-left (known c) _ rest-ends) in
-    let held : (q : ℕ) → q ≤ p → Held most (a .target) q p x = λ q l. record { low = l; new = λ f. clash f stale; ranged = λ f. r } in
-    ( by (look (eqb (a .role) emptyRole)) (and-right (known c) _ rest-ends) (next q (held q (h .low)))
-      (λ l. next (suc (x .position)) (held (suc (x .position)) l))
-    , and-both (leb 1 (x .number) && leb (x .number) most) _ (and-both _ _ (le-leb 1 (x .number) (r .0)) (le-leb (x .number) most (r .1))) (next q (held q (h .low)) .1) )
+    let held : (q : ℕ) → q ≤ p → Held most (a .target) q p x = λ q l. record { low = l; new = λ f. clash f stale; ranged = λ f. r } in (
+      by (look (eqb (a .role) emptyRole)) (and-right (known c) _ rest-ends) (next q (held q (h .low)))
+          (λ l. next (suc (x .position)) (held (suc (x .position)) l)),
+      and-both (leb 1 (x .number) && leb (x .number) most) _ (and-both _ _ (le-leb 1 (x .number) (r .0)) (le-leb (x .number) most (r .1))) (next q (held q (h .low)) .1),
+    )
   where
     by : Is (eqb (a .role) emptyRole) → (eqb (a .role) emptyRole || fresh c) ≡ true → Fine most q rest
         → (suc (x .position) ≤ p → Fine most (suc (x .position)) rest)
@@ -158,9 +159,6 @@ emitted-fine {most} (after-word w {ss} o) c q x h n =
     (λ e. token-fine a (emitted (a .target) x ss) t e h (λ q' h'. emitted-fine o (a .target) q' x h' n))
 emitted-fine (after-line {ss = ss} o) c q x h n = emitted-fine o (lineEnd c) q x (line-held h (after-from (lineEnd c) ss n)) n
 emitted-fine (after-name x o-low r o) c q y h n = emitted-fine o (point c .named) q x (name-held (point c .named) h o-low r) n
-
-no-name : Name
-no-name = record { number = 0; position = 0 }
 
 kind-1 : kind 1 ≡ 0
 unfolding kind

@@ -2,11 +2,11 @@
 -- Assumes nothing.
 use mathlib.Core.Path.{_≡_, refl}
 use mathlib.Core.Bool.{Bool, true, false, not, _&&_, _||_}
-use mathlib.Core.List.{List, [], _∷_}
+use mathlib.Core.List.{List}
 use Prim.Native.Nat.{ℕ}
 use lib.Dec.{eqb}
-use borrow.Author.Tests.{eqb-true, not-true, ne-eqb}
-use Rattle.lists.specs.Choice.{pick, and-left, and-right, or-cases, clash}
+use borrow.Author.Tests.{eqb-true, not-true}
+use Rattle.lists.specs.Choice.{and-left, and-right, or-cases, clash}
 use Rattle.qcir_text.specs.Machine.{Row, row, rowAt, arrow, arrowOf, point, points}
 use Rattle.qcir_text.proofs.Rows.{every, passes, everyArrow, arrow-passes}
 
@@ -62,3 +62,12 @@ pub word-within : (c : ℕ) (w : List ℕ) → (arrowOf w (point c .words) .targ
 unfolding wordEndTest
 word-within c w n =
     not-true _ (arrow-passes (λ a. not (point (a .target) .starts)) w (point c .words) (word-end-row c) n .0)
+
+-- No line starts after the header; lines start after the output line.
+pub within-1 : point 1 .starts ≡ false
+unfolding points rowAt row
+within-1 = refl
+
+pub starts-24 : point 24 .starts ≡ true
+unfolding points rowAt row
+starts-24 = refl

@@ -3,21 +3,23 @@
 use mathlib.Core.Path.{_≡_, refl, _∙_}
 use mathlib.Core.Bool.{Bool, true, false, not, _&&_}
 use mathlib.Core.List.{List, [], _∷_, _++_}
-use Prim.Native.Nat.{ℕ, suc, _+_, _-_, _≤_}
+use Prim.Native.Nat.{ℕ, _≤_}
 use native.Mathlib.Omega.{arith}
 use lib.Dec.{eqb, leb}
-use lib.ListN.{length}
 use borrow.Author.Tests.{leb-true, le-leb, not-true}
-use Rattle.lists.specs.Choice.{pick, pick-yes, pick-no, and-left, and-right, and-both, absent, clash}
+use Rattle.lists.specs.Choice.{pick-no, and-left, and-right, and-both, absent, clash}
 use Rattle.qcir.specs.File.{Name}
 use Rattle.qcir.specs.Spelling.{isSpace, isDigit}
 use Rattle.qcir_tokens.specs.Tokens.{Token}
-use Rattle.qcir_text.specs.Machine.{Place, dead, heading, headed, padded, counted, ready, inside, digits, comment, State, run, step, stepAt, between, readWord, readDigit, endLine, move, moveName, emit, isDead, point, arrowOf, someBegins}
-use Rattle.qcir_text.proofs.Rows.{choose}
+use Rattle.qcir_text.specs.Machine.{Place, State, run, step, between, readWord, point}
 
 -- a state by its parts
 abbrev pub st : Place → ℕ → Name → List Token → State
 st place p x ts = record { place = place; taken = p; pending = x; tokens = ts }
+
+-- the last name where none has been read
+unfoldable pub no-name : Name
+no-name = record { number = 0; position = 0 }
 
 pub run-append : (most : ℕ) (s : State) (a b : List ℕ) → run most s (a ++ b) ≡ run most (run most s a) b
 unfolding run

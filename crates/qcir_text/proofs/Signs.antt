@@ -1,7 +1,6 @@
 -- The points as a machine that takes one sign at a time.
 -- Assumes nothing.
 use mathlib.Core.Path.{_≡_, refl}
-use mathlib.Core.Bool.{Bool, true, false}
 use mathlib.Core.List.{List, [], _∷_, _++_}
 use Prim.Native.Nat.{ℕ}
 use lib.Dec.{eqb}
@@ -9,7 +8,7 @@ use Rattle.lists.specs.Choice.{pick}
 use Rattle.qcir.specs.File.{Name}
 use Rattle.qcir.specs.Spelling.{Sign, word, name, newline}
 use Rattle.qcir_tokens.specs.Tokens.{Token, token}
-use Rattle.qcir_text.specs.Machine.{Row, row, rowAt, arrow, arrowOf, point, points}
+use Rattle.qcir_text.specs.Machine.{row, rowAt, arrow, arrowOf, point, points}
 
 -- the point after the end of a line, or of a blank line
 unfoldable pub lineEnd : ℕ → ℕ

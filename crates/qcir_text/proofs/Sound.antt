@@ -1,20 +1,20 @@
 -- An accepted text spells a file.
 -- Assumes nothing.
 use mathlib.Core.Path.{_≡_, refl, sym, _∙_, ap, subst}
-use mathlib.Core.Bool.{Bool, true, false, not, _&&_, _||_}
+use mathlib.Core.Bool.{Bool, true, false, _&&_}
 use mathlib.Core.List.{List, [], _∷_, _++_, append-assoc, append-nil}
 use Prim.Native.Nat.{ℕ, suc, _+_, _*_, _-_, _≤_}
 use native.Mathlib.Omega.{arith}
 use lib.Dec.{eqb, leb}
 use lib.ListN.{length, length-append}
-use borrow.Author.Tests.{eqb-true, eqb-false, eq-eqb, ne-eqb}
-use Rattle.lists.specs.Choice.{pick, and-left, and-right, and-both, or-left, or-right, or-neither, clash, Is, is-true, is-false, look, absent}
+use borrow.Author.Tests.{eqb-true, eqb-false, ne-eqb}
+use Rattle.lists.specs.Choice.{and-left, and-right, and-both, or-left, or-right, or-neither, clash, Is, is-true, is-false, look, absent}
 use Rattle.lists.specs.Members.{mem, all}
 use Rattle.qcir.specs.File.{Name, File}
 use Rattle.qcir.specs.Spelling.{Sign, word, name, newline, isSpace, isDigit, isNumeral, valueFrom, Spelled, end, space, a-word, a-name, line-end, blank-line, comment-line, header, isPadded, isCount, Spells, fileSigns}
-use Rattle.qcir_text.specs.Machine.{Place, dead, heading, headed, padded, counted, ready, inside, digits, comment, State, start, run, step, move, moveName, emit, isDone, accepts, point, points, rowAt, row, arrowOf}
-use Rattle.qcir_text.proofs.Points.{start-ends, end-starts, name-once, word-within}
-use Rattle.qcir_text.proofs.Turns.{Read, whole, part, no-word, Number, within-most, too-high, Ended, line, blank, no-end, Between, by-space, by-end, by-sharp, by-digit, by-word, Turn, from-dead, no-header, in-header, end-header, no-count, first-space, end-headed, no-padding, next-space, first-count, end-padded, next-count, after-count, at-point, in-word, next-digit, after-name, in-comment, end-comment, turn}
+use Rattle.qcir_text.specs.Machine.{Place, dead, heading, headed, padded, counted, ready, inside, digits, comment, State, start, run, step, move, moveName, emit, isDone, accepts, point, arrowOf}
+use Rattle.qcir_text.proofs.Points.{start-ends, end-starts, name-once, word-within, within-1, starts-24}
+use Rattle.qcir_text.proofs.Turns.{Read, whole, part, no-word, within-most, too-high, Ended, line, blank, no-end, Between, by-space, by-end, by-sharp, by-digit, by-word, Turn, from-dead, no-header, in-header, end-header, no-count, first-space, end-headed, no-padding, next-space, first-count, end-padded, next-count, after-count, at-point, in-word, next-digit, after-name, in-comment, end-comment, turn}
 use Rattle.qcir_text.proofs.Runs.{run-append}
 use Rattle.qcir_text.proofs.Grammar.{Rest, rest-word, rest-name, rest-end, rest-done, rest-file}
 
@@ -101,11 +101,11 @@ spelt-at : (most c p : ℕ) (t : List ℕ) → Is (point c .starts) → Spelt mo
 spelt-at most c p t (is-false e) r = within e r
 spelt-at most c p t (is-true e) r =
     starting e
-    (record
-      { signs = r .signs
-      ; rest = r .rest
-      ; spelled = λ gap q h k. line-end (spaces (suc q) gap h (subst (λ i. Spelled most i (r .signs) t) (sym k) (r .spelled)))
-      })
+    (record {
+      signs = r .signs;
+      rest = r .rest;
+      spelled = λ gap q h k. line-end (spaces (suc q) gap h (subst (λ i. Spelled most i (r .signs) t) (sym k) (r .spelled)));
+    })
 
 at-spelt : {most c p : ℕ} {t : List ℕ} → point c .starts ≡ false → At most c p t → Spelt most c p t
 at-spelt e (within f r) = r
@@ -129,13 +129,13 @@ space-back : {most c p : ℕ} {t : List ℕ} (b : ℕ) → isSpace b ≡ true �
 space-back b h (within e r) = within e (record { signs = r .signs; rest = r .rest; spelled = space h (r .spelled) })
 space-back {most} {c} {p} {t} b h (starting e r) =
     starting e
-    (record
-      { signs = r .signs
-      ; rest = r .rest
-      ; spelled = λ gap q g k.
-        subst (λ u. Spelled most q (newline ∷ r .signs) (10 ∷ u)) (append-assoc gap (b ∷ []) t)
-        (r .spelled (gap ++ (b ∷ [])) q (all-append isSpace gap (b ∷ []) g (one-space b h)) (omega (arith, length-append gap (b ∷ []))))
-      })
+    (record {
+      signs = r .signs;
+      rest = r .rest;
+      spelled = λ gap q g k.
+          subst (λ u. Spelled most q (newline ∷ r .signs) (10 ∷ u)) (append-assoc gap (b ∷ []) t)
+          (r .spelled (gap ++ (b ∷ [])) q (all-append isSpace gap (b ∷ []) g (one-space b h)) (omega (arith, length-append gap (b ∷ []))));
+    })
 
 ended-back : {most c : ℕ} {t : List ℕ} {s z : State} → Ended s c z → Of most z t → At most c (s .taken) (10 ∷ t)
 unfolding Claim move all
@@ -146,11 +146,11 @@ ended-back {most} {c} {t} {s} (line n) r =
 ended-back {most} {c} {t} {s} (blank h) r =
     let later : Started most c (suc (s .taken)) t = at-started h r in
     starting h
-    (record
-      { signs = later .signs
-      ; rest = later .rest
-      ; spelled = λ gap q g k. blank-line (spaces (suc q) gap g (later .spelled [] (suc q + length gap) refl (omega arith)))
-      })
+    (record {
+      signs = later .signs;
+      rest = later .rest;
+      spelled = λ gap q g k. blank-line (spaces (suc q) gap g (later .spelled [] (suc q + length gap) refl (omega arith)));
+    })
 ended-back no-end r = absurd r
 
 read-back : {most c : ℕ} {w t : List ℕ} {s z : State} → Read s c w z → Of most z t → InWord most c (suc (s .taken)) w t
@@ -158,27 +158,27 @@ unfolding Claim move emit
 read-back {most} {c} {w} {t} {s} (whole n) r =
     let later : Spelt most (arrowOf w (point c .words) .target) (suc (s .taken)) t = at-spelt (word-within c w n) r in
     let e : suc (s .taken) ≡ suc (s .taken) + 0 = omega arith in
-    record
-      { later = []
-      ; after = t
-      ; parts = refl
-      ; signs = later .signs
-      ; rest = subst (λ u. Rest c (word u ∷ later .signs)) (sym (append-nil w)) (rest-word c w (later .signs) n (later .rest))
-      ; spelled = subst (λ i. Spelled most i (later .signs) t) e (later .spelled)
-      }
+    record {
+      later = [];
+      after = t;
+      parts = refl;
+      signs = later .signs;
+      rest = subst (λ u. Rest c (word u ∷ later .signs)) (sym (append-nil w)) (rest-word c w (later .signs) n (later .rest));
+      spelled = subst (λ i. Spelled most i (later .signs) t) e (later .spelled);
+    }
 read-back (part e h) r = r
 read-back no-word r = absurd r
 
 word-back : {most c p b : ℕ} {t : List ℕ} → InWord most c (suc p) (b ∷ []) t → Spelt most c p (b ∷ t)
 word-back {most} {c} {p} {b} {t} r =
     let e : suc p + length (r .later) ≡ p + suc (length (r .later)) = omega arith in
-    record
-      { signs = word (b ∷ r .later) ∷ r .signs
-      ; rest = r .rest
-      ; spelled =
-        subst (λ u. Spelled most p (word (b ∷ r .later) ∷ r .signs) (b ∷ u)) (sym (r .parts))
-        (a-word (b ∷ r .later) (subst (λ i. Spelled most i (r .signs) (r .after)) e (r .spelled)))
-      }
+    record {
+      signs = word (b ∷ r .later) ∷ r .signs;
+      rest = r .rest;
+      spelled =
+          subst (λ u. Spelled most p (word (b ∷ r .later) ∷ r .signs) (b ∷ u)) (sym (r .parts))
+          (a-word (b ∷ r .later) (subst (λ i. Spelled most i (r .signs) (r .after)) e (r .spelled)));
+    }
 
 name-back : {most c p b : ℕ} {t : List ℕ} → (leb 49 b && leb b 57) ≡ true → (point c .named ≡ 0 → ⊥) → b - 48 ≤ most
     → InName most (point c .named) (suc p) (b - 48) t → Spelt most c p (b ∷ t)
@@ -188,14 +188,14 @@ name-back {most} {c} {p} {b} {t} h n l r =
     let e : suc p + length (r .later) ≡ p + suc (length (r .later)) = omega arith in
     let k : b - 48 ≡ 10 * 0 + (b - 48) = omega arith in
     let x : Name = record { number = valueFrom 0 (b ∷ r .later); position = p } in
-    record
-      { signs = name x ∷ later .signs
-      ; rest = rest-name c x (later .signs) n (later .rest)
-      ; spelled =
-        subst (λ u. Spelled most p (name x ∷ later .signs) (b ∷ u)) (sym (r .parts))
-        (a-name (b ∷ r .later) (and-both _ _ h (r .all-digits)) (subst (λ v. valueFrom v (r .later) ≤ most) k (r .low l))
-        (subst (λ i. Spelled most i (later .signs) (r .after)) e (later .spelled)))
-      }
+    record {
+      signs = name x ∷ later .signs;
+      rest = rest-name c x (later .signs) n (later .rest);
+      spelled =
+          subst (λ u. Spelled most p (name x ∷ later .signs) (b ∷ u)) (sym (r .parts))
+          (a-name (b ∷ r .later) (and-both _ _ h (r .all-digits)) (subst (λ v. valueFrom v (r .later) ≤ most) k (r .low l))
+          (subst (λ i. Spelled most i (later .signs) (r .after)) e (later .spelled)));
+    }
 
 between-back : {most c b : ℕ} {t : List ℕ} {s z : State} → Between most s c b z → Of most z t → At most c (s .taken) (b ∷ t)
 unfolding Claim move moveName
@@ -204,14 +204,14 @@ between-back {most} {c} {b} {t} {s} (by-end e d) r = subst (λ i. At most c (s .
 between-back {most} {c} {b} {t} {s} (by-sharp e h) r =
     let note = r h in
     starting h
-    (record
-      { signs = note .signs
-      ; rest = note .rest
-      ; spelled = λ gap q g k.
-        let i : suc (s .taken) + length (note .note) ≡ suc q + (length gap + suc (length (note .note))) = omega arith in
-        subst (λ (u : List ℕ). Spelled most q (newline ∷ note .signs) (10 ∷ (gap ++ u))) (sym (ap (λ u. 35 ∷ u) (note .parts)) ∙ ap (λ i. i ∷ t) (sym e))
-        (comment-line gap (note .note) g (note .one-line) (subst (λ i. Spelled most i (newline ∷ note .signs) (note .after)) i (note .spelled)))
-      })
+    (record {
+      signs = note .signs;
+      rest = note .rest;
+      spelled = λ gap q g k.
+          let i : suc (s .taken) + length (note .note) ≡ suc q + (length gap + suc (length (note .note))) = omega arith in
+          subst (λ (u : List ℕ). Spelled most q (newline ∷ note .signs) (10 ∷ (gap ++ u))) (sym (ap (λ u. 35 ∷ u) (note .parts)) ∙ ap (λ i. i ∷ t) (sym e))
+          (comment-line gap (note .note) g (note .one-line) (subst (λ i. Spelled most i (newline ∷ note .signs) (note .after)) i (note .spelled)));
+    })
 between-back {most} {c} {b} {t} {s} (by-digit h n (within-most l)) r = spelt-at most c (s .taken) (b ∷ t) (look (point c .starts)) (name-back h n l r)
 between-back (by-digit h n too-high) r = absurd r
 between-back {most} {c} {b} {t} {s} (by-word d) r = spelt-at most c (s .taken) (b ∷ t) (look (point c .starts)) (word-back (read-back d r))
@@ -220,13 +220,13 @@ count-more : {most p b : ℕ} {t : List ℕ} (test last : List ℕ → Bool) →
     → InCount most (suc p) last t → InCount most p test (b ∷ t)
 count-more {most} {p} {b} {t} test last f r =
     let e : suc p + length (r .count) ≡ p + suc (length (r .count)) = omega arith in
-    record
-      { count = b ∷ r .count
-      ; after = r .after
-      ; parts = ap (λ u. b ∷ u) (r .parts)
-      ; passes = f (r .count) (r .passes)
-      ; then' = subst (λ i. At most 1 i (r .after)) e (r .then')
-      }
+    record {
+      count = b ∷ r .count;
+      after = r .after;
+      parts = ap (λ u. b ∷ u) (r .parts);
+      passes = f (r .count) (r .passes);
+      then' = subst (λ i. At most 1 i (r .after)) e (r .then');
+    }
 
 count-none : {most p : ℕ} {t : List ℕ} (test : List ℕ → Bool) → test [] ≡ true → At most 1 p t → InCount most p test t
 count-none {most} {p} {t} test h r =
@@ -236,11 +236,11 @@ count-none {most} {p} {t} test h r =
 header-more : {most p b h : ℕ} {hs t : List ℕ} → b ≡ h → InHeader most (suc p) hs t → InHeader most p (h ∷ hs) (b ∷ t)
 header-more {most} {p} {b} {h} {hs} {t} q r =
     let e : suc p + length hs ≡ p + suc (length hs) = omega arith in
-    record
-      { after = r .after
-      ; parts = ap (λ i. i ∷ t) q ∙ ap (λ u. h ∷ u) (r .parts)
-      ; then' = subst (λ i. InCount most i isCount (r .after)) e (r .then')
-      }
+    record {
+      after = r .after;
+      parts = ap (λ i. i ∷ t) q ∙ ap (λ u. h ∷ u) (r .parts);
+      then' = subst (λ i. InCount most i isCount (r .after)) e (r .then');
+    }
 
 header-none : {most p : ℕ} {t : List ℕ} → InCount most p isCount t → InHeader most p [] t
 header-none {most} {p} {t} r =
@@ -250,27 +250,27 @@ header-none {most} {p} {t} r =
 word-more : {most c p b : ℕ} {w t : List ℕ} → InWord most c (suc p) (w ++ (b ∷ [])) t → InWord most c p w (b ∷ t)
 word-more {most} {c} {p} {b} {w} {t} r =
     let e : suc p + length (r .later) ≡ p + suc (length (r .later)) = omega arith in
-    record
-      { later = b ∷ r .later
-      ; after = r .after
-      ; parts = ap (λ u. b ∷ u) (r .parts)
-      ; signs = r .signs
-      ; rest = subst (λ u. Rest c (word u ∷ r .signs)) (append-assoc w (b ∷ []) (r .later)) (r .rest)
-      ; spelled = subst (λ i. Spelled most i (r .signs) (r .after)) e (r .spelled)
-      }
+    record {
+      later = b ∷ r .later;
+      after = r .after;
+      parts = ap (λ u. b ∷ u) (r .parts);
+      signs = r .signs;
+      rest = subst (λ u. Rest c (word u ∷ r .signs)) (append-assoc w (b ∷ []) (r .later)) (r .rest);
+      spelled = subst (λ i. Spelled most i (r .signs) (r .after)) e (r .spelled);
+    }
 
 digit-more : {most c p n b : ℕ} {t : List ℕ} → isDigit b ≡ true → 10 * n + (b - 48) ≤ most → InName most c (suc p) (10 * n + (b - 48)) t → InName most c p n (b ∷ t)
 unfolding all valueFrom
 digit-more {most} {c} {p} {n} {b} {t} h l r =
     let e : suc p + length (r .later) ≡ p + suc (length (r .later)) = omega arith in
-    record
-      { later = b ∷ r .later
-      ; after = r .after
-      ; parts = ap (λ u. b ∷ u) (r .parts)
-      ; all-digits = and-both _ _ h (r .all-digits)
-      ; low = λ m. r .low l
-      ; then' = subst (λ i. At most c i (r .after)) e (r .then')
-      }
+    record {
+      later = b ∷ r .later;
+      after = r .after;
+      parts = ap (λ u. b ∷ u) (r .parts);
+      all-digits = and-both _ _ h (r .all-digits);
+      low = λ m. r .low l;
+      then' = subst (λ i. At most c i (r .after)) e (r .then');
+    }
 
 name-end : {most c p n : ℕ} {t : List ℕ} → At most c p t → InName most c p n t
 unfolding all valueFrom
@@ -282,30 +282,30 @@ note-more : {most c p b : ℕ} {t : List ℕ} → eqb b 10 ≡ false → InComme
 unfolding mem
 note-more {most} {c} {p} {b} {t} h r =
     let e : suc p + length (r .note) ≡ p + suc (length (r .note)) = omega arith in
-    record
-      { note = b ∷ r .note
-      ; after = r .after
-      ; parts = ap (λ u. b ∷ u) (r .parts)
-      ; one-line = or-neither _ _ (ne-eqb 10 b (λ q. eqb-false b 10 h (sym q))) (r .one-line)
-      ; signs = r .signs
-      ; rest = r .rest
-      ; spelled = subst (λ i. Spelled most i (newline ∷ r .signs) (r .after)) e (r .spelled)
-      }
+    record {
+      note = b ∷ r .note;
+      after = r .after;
+      parts = ap (λ u. b ∷ u) (r .parts);
+      one-line = or-neither _ _ (ne-eqb 10 b (λ q. eqb-false b 10 h (sym q))) (r .one-line);
+      signs = r .signs;
+      rest = r .rest;
+      spelled = subst (λ i. Spelled most i (newline ∷ r .signs) (r .after)) e (r .spelled);
+    }
 
 note-end : {most c p : ℕ} {t : List ℕ} → point c .starts ≡ true → At most c (suc p) t → InComment most c p (10 ∷ t)
 unfolding mem all
 note-end {most} {c} {p} {t} h r =
     let later : Started most c (suc p) t = at-started h r in
     let e : suc p ≡ suc p + 0 = omega arith in
-    record
-      { note = []
-      ; after = 10 ∷ t
-      ; parts = refl
-      ; one-line = refl
-      ; signs = later .signs
-      ; rest = later .rest
-      ; spelled = later .spelled [] (p + 0) refl (omega arith)
-      }
+    record {
+      note = [];
+      after = 10 ∷ t;
+      parts = refl;
+      one-line = refl;
+      signs = later .signs;
+      rest = later .rest;
+      spelled = later .spelled [] (p + 0) refl (omega arith);
+    }
 
 turn-back : {most b : ℕ} (t : List ℕ) {s z : State} {place : Place} → Turn most s b place z → Of most z t
     → Claim most place (s .taken) (s .pending .number) (b ∷ t)
@@ -333,10 +333,6 @@ turn-back t (in-comment h) r = λ e. note-more h (r e)
 turn-back {most} {b} t {s} (end-comment {c} e) r = λ h. subst (λ i. InComment most c (s .taken) (i ∷ t)) (sym e) (note-end h r)
 
 -- A machine that is done.
-starts-24 : point 24 .starts ≡ true
-unfolding points rowAt row
-starts-24 = refl
-
 at-end : (most p : ℕ) → At most 24 p []
 at-end most p =
     starting starts-24
@@ -360,7 +356,7 @@ run-claim most s [] h = done-claim most (s .place) (s .taken) (s .pending .numbe
 run-claim most s (b ∷ t) h = turn-back t (turn most s b) (run-claim most (step most s b) t h)
 
 -- A file that a text spells.
-pub record Spelling (most : ℕ) (text : List ℕ) : Type 0 where
+pub record SpelledFile (most : ℕ) (text : List ℕ) : Type 0 where
   pub file : File
   pub spells : Spells most text file
 
@@ -369,24 +365,20 @@ unfolding accepts run start Claim
 text-claim most text h =
     run-claim most start (text ++ (10 ∷ [])) (subst (λ s. isDone (s .place) ≡ true) (sym (run-append most start text (10 ∷ []))) h)
 
-within-1 : point 1 .starts ≡ false
-unfolding points rowAt row
-within-1 = refl
-
-pub sound : (most : ℕ) (text : List ℕ) → accepts most text ≡ true → Spelling most text
+pub sound : (most : ℕ) (text : List ℕ) → accepts most text ≡ true → SpelledFile most text
 sound most text h =
     let r = text-claim most text h in
     let c = r .then' in
     let s : Spelt most 1 (0 + length header + length (c .count)) (c .after) = at-spelt within-1 (c .then') in
     let f = rest-file (s .signs) (s .rest) in
     let e : 0 + length header + length (c .count) ≡ length header + length (c .count) = omega arith in
-    record
-      { file = f .0
-      ; spells = record
-        { count = c .count
-        ; rest = c .after
-        ; counted = c .passes
-        ; parts = r .parts ∙ ap (λ u. header ++ u) (c .parts)
-        ; spelled = subst (λ i. Spelled most i (newline ∷ fileSigns (f .0)) (c .after)) e (subst (λ ss. Spelled most (0 + length header + length (c .count)) ss (c .after)) (f .1) (s .spelled))
-        }
-      }
+    record {
+      file = f .0;
+      spells = record {
+        count = c .count;
+        rest = c .after;
+        counted = c .passes;
+        parts = r .parts ∙ ap (λ u. header ++ u) (c .parts);
+        spelled = subst (λ i. Spelled most i (newline ∷ fileSigns (f .0)) (c .after)) e (subst (λ ss. Spelled most (0 + length header + length (c .count)) ss (c .after)) (f .1) (s .spelled));
+      };
+    }

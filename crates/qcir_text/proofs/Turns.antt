@@ -1,15 +1,14 @@
 -- The ways in which the machine takes a byte, and the bytes it takes.
 -- Assumes nothing.
 use mathlib.Core.Path.{_≡_, refl}
-use mathlib.Core.Bool.{Bool, true, false, not, _&&_}
+use mathlib.Core.Bool.{true, false, not, _&&_}
 use mathlib.Core.List.{List, [], _∷_, _++_}
 use Prim.Native.Nat.{ℕ, suc, _+_, _*_, _-_, _≤_}
 use native.Mathlib.Omega.{arith}
 use lib.Dec.{eqb, leb}
 use lib.ListN.{length}
 use borrow.Author.Tests.{eqb-true, eqb-false, leb-true, not-true}
-use Rattle.lists.specs.Choice.{pick, and-left, and-right}
-use Rattle.qcir.specs.File.{Name}
+use Rattle.lists.specs.Choice.{and-left, and-right}
 use Rattle.qcir.specs.Spelling.{isSpace, isDigit}
 use Rattle.qcir_text.specs.Machine.{Place, dead, heading, headed, padded, counted, ready, inside, digits, comment, State, run, step, stepAt, between, readWord, readDigit, endLine, move, moveName, emit, point, arrowOf, someBegins}
 use Rattle.qcir_text.proofs.Rows.{choose}

@@ -2,12 +2,13 @@
 -- Assumes nothing.
 use mathlib.Core.Path.{_≡_, refl, sym, _∙_, ap}
 use mathlib.Core.Bool.{Bool, true, false}
-use mathlib.Core.List.{List, [], _∷_, _++_, append-assoc, append-nil}
+use mathlib.Core.List.{List, [], _∷_, _++_, append-assoc}
 use Prim.Native.Nat.{ℕ, zero, suc}
 use Rattle.formula.specs.Node.{Quantifier, exists, for-all}
-use Rattle.qcir.specs.File.{Name, Literal, Junction, conjunction, disjunction, Gate, junction-gate, xor-gate, quantified-gate, Line, File}
+use Rattle.qcir.specs.File.{Name, Literal, conjunction, disjunction, Gate, junction-gate, xor-gate, quantified-gate, Line, File}
 use Rattle.qcir.specs.Spelling.{Spells}
 use Rattle.qcir_tokens.specs.Tokens.{Token, token, freeRole, lineRole, laterRole, outputRole, junctionRole, quantifierRole, boundRole, inputRole, listTokens, freeTokens, prefixTokens, outputToken, inputsTokens, anyInputsTokens, gateTokens, gatesTokens, fileTokens}
+use Rattle.qcir_text.proofs.Runs.{no-name}
 use Rattle.qcir_text.proofs.Complete.{complete}
 
 -- A file that is put together from its tokens, the last one first; the names and inputs are those of the line that is not complete yet.
@@ -18,9 +19,6 @@ record Draft : Type 0 where
 
 unfoldable literal : Bool → Name → Literal
 literal minus x = record { minus = minus; name = x }
-
-no-name : Name
-no-name = record { number = 0; position = 0 }
 
 unfoldable firstName : List Name → Name
 firstName [] = no-name

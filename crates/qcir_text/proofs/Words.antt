@@ -1,11 +1,11 @@
 -- The machine reads a word that may come at a point.
 -- Assumes nothing.
 use mathlib.Core.Path.{_≡_, refl, sym, _∙_, ap, subst}
-use mathlib.Core.Bool.{Bool, true, false, not, _&&_, _||_}
+use mathlib.Core.Bool.{Bool, true, false, _&&_, _||_}
 use mathlib.Core.List.{List, [], _∷_, _++_, append-assoc}
 use Prim.Native.Nat.{ℕ, suc, _+_}
 use native.Mathlib.Omega.{arith}
-use lib.Dec.{eqb, leb}
+use lib.Dec.{eqb}
 use lib.ListN.{length}
 use borrow.Author.Tests.{eqb-true, eq-eqb, ne-eqb}
 use Rattle.lists.specs.Choice.{pick, pick-yes, pick-no, and-left, and-right, and-both, or-left, or-right, clash}
@@ -79,12 +79,12 @@ word-rest most c place p x ts w b [] h n =
 word-rest most c place p x ts w b (d ∷ v) h n =
     let group : (w ++ (b ∷ [])) ++ (d ∷ v) ≡ w ++ (b ∷ d ∷ v) = append-assoc w (b ∷ []) (d ∷ v) in
     let m : arrowOf ((w ++ (b ∷ [])) ++ (d ∷ v)) (point c .words) .target ≡ 0 → ⊥ =
-        subst (λ u. arrowOf u (point c .words) .target ≡ 0 → ⊥) (sym group) n in
+    subst (λ u. arrowOf u (point c .words) .target ≡ 0 → ⊥) (sym group) n in
     let z : arrowOf (w ++ (b ∷ [])) (point c .words) .target ≡ 0 = eqb-true _ 0 (and-left _ _ h) in
     let k : suc (suc p) + length v ≡ suc p + suc (length v) = omega arith in
     ap (λ s. run most (step most s d) v) (part-read c place p x ts (w ++ (b ∷ [])) (d ∷ v) z m)
     ∙ word-rest most c (inside c (w ++ (b ∷ []))) (suc p) x ts (w ++ (b ∷ [])) d v
-      (and-right (eqb (arrowOf (w ++ (b ∷ [])) (point c .words) .target) 0) _ h) m
+    (and-right (eqb (arrowOf (w ++ (b ∷ [])) (point c .words) .target) 0) _ h) m
     ∙ ap (λ u. afterWord c u (suc (suc p) + length v) x ts) group
     ∙ ap (λ i. afterWord c (w ++ (b ∷ d ∷ v)) i x ts) k
 
