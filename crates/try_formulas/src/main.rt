@@ -6,8 +6,6 @@ use formula::WIDTH;
 use prefix_writer::PREFIX_WIDTH;
 use prenex::Answer;
 
-const OUT: i32 = 1;
-
 fn main() {
     small();
     ranges();
@@ -20,7 +18,7 @@ fn main() {
 
 // Prints a formula's name and what measuring says of its table.
 fn show(name: &[u8], words: &[u32], list: &[u32]) {
-    io::write_all(OUT, name);
+    printing::text(name);
     show_answer(prenex::measure(words, list));
 }
 
@@ -28,24 +26,19 @@ fn show_answer(a: Answer) {
     let number = a.number;
     let s = a.sizes;
     if number != 0 {
-        show_number(b": refused, ", number);
-        show_number(b" at ", a.position);
-        io::write_all(OUT, b"\n");
+        printing::number(b": refused, ", number);
+        printing::number(b" at ", a.position);
+        printing::text(b"\n");
         return;
     }
-    show_number(b": n ", s.n);
-    show_number(b", b ", s.b);
-    show_number(b", q ", s.q);
-    show_number(b", depth ", s.depth);
-    show_number(b"; form of ", s.nodes);
-    show_number(b" nodes, ", s.blocks);
-    show_number(b" prefix blocks, ", s.entries);
-    io::write_all(OUT, b" prefix variables\n");
-}
-
-fn show_number(before: &[u8], x: u32) {
-    io::write_all(OUT, before);
-    io::print_decimal(OUT, wide(x));
+    printing::number(b": n ", s.n);
+    printing::number(b", b ", s.b);
+    printing::number(b", q ", s.q);
+    printing::number(b", depth ", s.depth);
+    printing::number(b"; form of ", s.nodes);
+    printing::number(b" nodes, ", s.blocks);
+    printing::number(b" prefix blocks, ", s.entries);
+    printing::text(b" prefix variables\n");
 }
 
 // Variable 1 xor (exists 2: 2 and 1).
@@ -87,10 +80,10 @@ fn form() {
     let mut prefix = [0u32; 6];
     let mut variables = [0u32; 3];
     let refused = prenex::lift(&words, &list, &mut short, &mut prefix, &mut variables);
-    io::write_all(OUT, b"a block below an exclusive or, lifted into 59 words");
+    printing::text(b"a block below an exclusive or, lifted into 59 words");
     show_answer(refused);
     let done = prenex::lift(&words, &list, &mut nodes, &mut prefix, &mut variables);
-    io::write_all(OUT, b"a block below an exclusive or, lifted into 60 words");
+    printing::text(b"a block below an exclusive or, lifted into 60 words");
     show_answer(done);
     show_rows(b"nodes\n", &nodes, WIDTH);
     show_rows(b"prefix\n", &prefix, PREFIX_WIDTH);
@@ -99,11 +92,11 @@ fn form() {
 
 // Words, so many to a line.
 fn show_rows(name: &[u8], words: &[u32], width: usize) {
-    io::write_all(OUT, name);
+    printing::text(name);
     let mut i = 0;
     let mut column = 0;
     while i < words.len() {
-        show_number(b" ", words[i]);
+        printing::number(b" ", words[i]);
         column = next_column(column, width);
         i += 1;
     }
@@ -116,12 +109,8 @@ fn next_column(column: usize, width: usize) -> usize {
             return column + 1;
         }
     }
-    io::write_all(OUT, b"\n");
+    printing::text(b"\n");
     0
-}
-
-fn wide(x: u32) -> u64 {
-    x as u64
 }
 
 // The formulas without blocks.

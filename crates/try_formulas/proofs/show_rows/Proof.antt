@@ -12,23 +12,23 @@ Inv-loop name words width i₀ column₀ t6 i column = i ≤ length words
 abbrev μ-loop : tie.MeasureT-loop
 μ-loop name words width i₀ column₀ t6 i column = length words - i
 
-write-all-requires : tie.Need-write-all-requires Inv-loop μ-loop
-write-all-requires c κs = search needs
+text-requires : tie.Need-text-requires Inv-loop μ-loop
+text-requires c κs = search needs
 
 loop-holds : tie.Need-loop-holds Inv-loop μ-loop
 loop-holds c = search needs
 
-slice-aggregate-show-number : tie.Need-slice-aggregate-show-number Inv-loop μ-loop
-slice-aggregate-show-number c = search needs
+slice-aggregate-number : tie.Need-slice-aggregate-number Inv-loop μ-loop
+slice-aggregate-number c = search needs
 
-mul-show-number : tie.Need-mul-show-number Inv-loop μ-loop
-mul-show-number c = search needs
+mul-number : tie.Need-mul-number Inv-loop μ-loop
+mul-number c = search needs
 
-shared-slice-read-show-number : tie.Need-shared-slice-read-show-number Inv-loop μ-loop
-shared-slice-read-show-number c = search needs
+shared-slice-read-number : tie.Need-shared-slice-read-number Inv-loop μ-loop
+shared-slice-read-number c = search needs
 
-show-number-requires : tie.Need-show-number-requires Inv-loop μ-loop
-show-number-requires c κs = search needs
+number-requires : tie.Need-number-requires Inv-loop μ-loop
+number-requires c κs = search needs
 
 next-column-requires : tie.Need-next-column-requires Inv-loop μ-loop
 next-column-requires c κs = search needs
@@ -51,12 +51,12 @@ show-rows-spec =
     (tie.spec
     Inv-loop
     μ-loop
-    write-all-requires
+    text-requires
     loop-holds
-    slice-aggregate-show-number
-    mul-show-number
-    shared-slice-read-show-number
-    show-number-requires
+    slice-aggregate-number
+    mul-number
+    shared-slice-read-number
+    number-requires
     next-column-requires
     add-i
     loop-less
