@@ -73,7 +73,7 @@ fn read_file(fd: i32, text: &mut [u8]) -> Got
     }
 }
 
-// One read, to the text from a byte on.
+// One read, to the text from a byte on. One that fails counts no bytes.
 fn read_on(fd: i32, text: &mut [u8], from: usize) -> Got
     requires { ⌜ from ≤ length (now text) ⌝ }
     ensures { λ r. ⌜ from + r .length ≤ length (now (text .entry)) ⌝ }
