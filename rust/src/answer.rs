@@ -1,7 +1,7 @@
-//! What the three operations answer.
+//! What the operations answer.
 
-/// Why a table, or a call, is refused. The value is the refusal's number; the
-/// word in brackets is document 01's.
+/// Why a table, a file or a call is refused. The value is the refusal's number;
+/// the word in brackets is document 01's.
 #[derive(Clone, Copy, Debug, PartialEq, Eq, PartialOrd, Ord, Hash)]
 #[repr(u32)]
 pub enum Reason {
@@ -24,10 +24,20 @@ pub enum Reason {
     NotATree = 8,
     /// (no room) An output buffer is shorter than the size needed.
     BufferTooShort = 9,
+    /// A file over 65,536 bytes, or a byte, or the file's end, where no file
+    /// can go on.
+    MalformedText = 10,
+    /// A name where it can't stand: a gate defined twice or also in a list, an
+    /// input not after its definition, a name twice in a list.
+    MisplacedName = 11,
+    /// A variable that no block above binds and no free line names.
+    UnboundVariable = 12,
+    /// A gate that is not used exactly once.
+    GateNotUsedOnce = 13,
 }
 
 impl Reason {
-    pub const ALL: [Reason; 9] = [
+    pub const ALL: [Reason; 13] = [
         Reason::PartialNode,
         Reason::TooLarge,
         Reason::MalformedNode,
@@ -37,6 +47,10 @@ impl Reason {
         Reason::BadVariable,
         Reason::NotATree,
         Reason::BufferTooShort,
+        Reason::MalformedText,
+        Reason::MisplacedName,
+        Reason::UnboundVariable,
+        Reason::GateNotUsedOnce,
     ];
 
     pub fn from_number(number: u32) -> Option<Reason> {
@@ -47,7 +61,7 @@ impl Reason {
         self as u32
     }
 
-    /// The refusal for this reason at a node, or at 0 if no node is meant.
+    /// The refusal for this reason at a position, 0 if it speaks of none.
     pub fn at(self, position: usize) -> Refusal {
         Refusal {
             reason: self,
@@ -56,7 +70,8 @@ impl Reason {
     }
 }
 
-/// A refusal and the node it speaks of (0 where it speaks of none).
+/// A refusal and its position: the node, byte (10, 11) or name (12, 13) that it
+/// speaks of, 0 where it speaks of none.
 #[derive(Clone, Copy, Debug, PartialEq, Eq)]
 pub struct Refusal {
     pub reason: Reason,
@@ -97,6 +112,15 @@ impl Sizes {
     }
 }
 
+/// How much reading a QCIR file writes.
+#[derive(Clone, Copy, Debug, Default, PartialEq, Eq)]
+pub struct Written {
+    /// Words of nodes, four to a node.
+    pub words: u32,
+    /// List entries.
+    pub entries: u32,
+}
+
 /// Answers as the C interface gives them.
 pub fn size_words(answer: Result<Sizes, Refusal>) -> [u32; 9] {
     match answer {
@@ -110,5 +134,13 @@ pub fn count_words(answer: Result<u32, Refusal>) -> [u32; 3] {
     match answer {
         Ok(written) => [0, 0, written],
         Err(r) => [r.reason.number(), r.position, 0],
+    }
+}
+
+/// Answers of the reading call as the C interface gives them.
+pub fn written_words(answer: Result<Written, Refusal>) -> [u32; 4] {
+    match answer {
+        Ok(Written { words, entries }) => [0, 0, words, entries],
+        Err(r) => [r.reason.number(), r.position, 0, 0],
     }
 }

@@ -41,7 +41,7 @@ fn set(valuation: &mut Valuation, variable: u32, value: bool) {
 
 /// Whether `body` is true under some (exists) or every (for-all) valuation
 /// that differs from this one at most at `variables`.
-fn quantify(
+pub(crate) fn quantify(
     exists: bool,
     variables: &[u32],
     valuation: &mut Valuation,

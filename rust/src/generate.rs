@@ -3,6 +3,7 @@
 
 use crate::answer::{Reason, Refusal};
 use crate::reference::{HIGHEST, LIMIT};
+pub use crate::Table;
 
 /// A small generator of pseudo-random numbers (splitmix64).
 pub struct Rng(u64);
@@ -37,13 +38,6 @@ impl Rng {
     pub fn pick<T: Copy>(&mut self, from: &[T]) -> T {
         from[self.below(from.len())]
     }
-}
-
-/// A formula table: four words a node, and a list of variable numbers.
-#[derive(Clone, Debug, Default, PartialEq, Eq)]
-pub struct Table {
-    pub words: Vec<u32>,
-    pub list: Vec<u32>,
 }
 
 impl Table {
@@ -190,7 +184,7 @@ impl Profile {
 }
 
 /// Different variable numbers: the lowest, the highest, or spread out.
-fn numbers(rng: &mut Rng, many: usize) -> Vec<u32> {
+pub(crate) fn numbers(rng: &mut Rng, many: usize) -> Vec<u32> {
     let mut numbers: Vec<u32> = match rng.below(4) {
         0 | 1 => (1..=many as u32).collect(),
         2 => (0..many as u32).map(|k| HIGHEST - k).collect(),
@@ -506,7 +500,12 @@ pub fn damaged(rng: &mut Rng, profile: &Profile, reason: Reason) -> Option<(Tabl
                 before.min(now)
             }
         }
-        Reason::BufferTooShort => return None,
+        // No fault of a table.
+        Reason::BufferTooShort
+        | Reason::MalformedText
+        | Reason::MisplacedName
+        | Reason::UnboundVariable
+        | Reason::GateNotUsedOnce => return None,
     };
     Some((table, reason.at(position)))
 }

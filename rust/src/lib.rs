@@ -1,16 +1,20 @@
 //! A safe wrapper over the static library wakubinryo, and what its tests and
-//! its benchmark need: an implementation in plain Rust ([`reference`]), truth
-//! values by brute force ([`brute`]) and tables to try ([`generate`]).
+//! its benchmarks need: an implementation in plain Rust ([`reference`] and, for
+//! QCIR files, [`qcir`]), truth values by brute force ([`brute`], [`circuit`])
+//! and tables and files to try ([`generate`], [`generate_qcir`]).
 //!
 //! A formula table is a slice of words, four to a node, and a list of variable
 //! numbers. See `include/wakubinryo.h` for what each call promises.
 
 pub mod answer;
 pub mod brute;
+pub mod circuit;
 pub mod generate;
+pub mod generate_qcir;
+pub mod qcir;
 pub mod reference;
 
-pub use answer::{Reason, Refusal, Sizes};
+pub use answer::{Reason, Refusal, Sizes, Written};
 
 mod ffi {
     extern "C" {
@@ -41,6 +45,15 @@ mod ffi {
             list_len: usize,
             names: *mut u32,
             names_len: usize,
+            answer: *mut u32,
+        );
+        pub fn wakubinryo_read_qcir(
+            text: *const u8,
+            text_len: usize,
+            words: *mut u32,
+            words_len: usize,
+            list: *mut u32,
+            list_len: usize,
             answer: *mut u32,
         );
     }
@@ -104,10 +117,25 @@ pub mod raw {
             )
         }
     }
+
+    pub fn read_qcir(text: &[u8], words: &mut [u32], list: &mut [u32], answer: &mut [u32; 4]) {
+        // SAFETY: as above.
+        unsafe {
+            ffi::wakubinryo_read_qcir(
+                text.as_ptr(),
+                text.len(),
+                words.as_mut_ptr(),
+                words.len(),
+                list.as_mut_ptr(),
+                list.len(),
+                answer.as_mut_ptr(),
+            )
+        }
+    }
 }
 
 fn refusal(number: u32, position: u32) -> Refusal {
-    let reason = Reason::from_number(number).expect("the library answers 0 to 9");
+    let reason = Reason::from_number(number).expect("the library answers 0 to 13");
     Refusal { reason, position }
 }
 
@@ -180,4 +208,38 @@ pub fn prenex_form(words: &[u32], list: &[u32]) -> Result<PrenexForm, Refusal> {
         &mut form.variables,
     )?;
     Ok(form)
+}
+
+/// A formula table: four words a node, and a list of variable numbers.
+#[derive(Clone, Debug, Default, PartialEq, Eq)]
+pub struct Table {
+    pub words: Vec<u32>,
+    pub list: Vec<u32>,
+}
+
+/// Reads a QCIR file into two buffers: the table's nodes, four words each, and
+/// its list. Says how much is written.
+pub fn read_qcir_into(
+    text: &[u8],
+    words: &mut [u32],
+    list: &mut [u32],
+) -> Result<Written, Refusal> {
+    let mut answer = [0; 4];
+    raw::read_qcir(text, words, list, &mut answer);
+    match answer {
+        [0, _, words, entries] => Ok(Written { words, entries }),
+        [number, position, ..] => Err(refusal(number, position)),
+    }
+}
+
+/// Allocates room for any table and reads a QCIR file.
+pub fn read_qcir(text: &[u8]) -> Result<Table, Refusal> {
+    let mut table = Table {
+        words: vec![0; 4 * reference::LIMIT],
+        list: vec![0; reference::LIMIT],
+    };
+    let written = read_qcir_into(text, &mut table.words, &mut table.list)?;
+    table.words.truncate(written.words as usize);
+    table.list.truncate(written.entries as usize);
+    Ok(table)
 }

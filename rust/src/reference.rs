@@ -11,17 +11,18 @@ pub const LIMIT: usize = 4096;
 /// The highest variable number of a table.
 pub const HIGHEST: u32 = 65_535;
 
-const CONSTANT: u32 = 1;
-const VARIABLE: u32 = 2;
-const NOT: u32 = 3;
-const OPERATOR: u32 = 4;
-const EXISTS: u32 = 5;
-const FOR_ALL: u32 = 6;
+pub(crate) const CONSTANT: u32 = 1;
+pub(crate) const VARIABLE: u32 = 2;
+pub(crate) const NOT: u32 = 3;
+pub(crate) const OPERATOR: u32 = 4;
+pub(crate) const EXISTS: u32 = 5;
+pub(crate) const FOR_ALL: u32 = 6;
 
-const AND: u32 = 8;
+pub(crate) const XOR: u32 = 6;
+pub(crate) const AND: u32 = 8;
 const IFF: u32 = 9;
 const IMPLIES: u32 = 11;
-const OR: u32 = 14;
+pub(crate) const OR: u32 = 14;
 
 type Node = [u32; 4];
 

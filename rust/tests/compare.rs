@@ -83,11 +83,9 @@ fn every_refusal_where_it_is_expected() {
             *counts.entry(reason).or_default() += 1;
         }
     });
-    for reason in Reason::ALL {
-        if reason != Reason::BufferTooShort {
-            let count = counts.get(&reason).copied().unwrap_or(0);
-            assert!(count >= 1500, "{reason:?} only {count} times");
-        }
+    for reason in &Reason::ALL[..8] {
+        let count = counts.get(reason).copied().unwrap_or(0);
+        assert!(count >= 1500, "{reason:?} only {count} times");
     }
 }
 

@@ -1,12 +1,12 @@
-//! Comparing the library with the reference, table by table.
+//! Comparing the library with the reference, table by table and file by file.
 
 #![allow(dead_code)]
 
-use wakubinryo::answer::{count_words, size_words};
+use wakubinryo::answer::{count_words, size_words, written_words};
 use wakubinryo::generate::{Rng, Table};
 use wakubinryo::reference::LIMIT;
-use wakubinryo::{free_variables, lift, measure, prenex_form, raw, reference};
-use wakubinryo::{PrenexForm, Reason, Refusal, Sizes};
+use wakubinryo::{free_variables, lift, measure, prenex_form, qcir, raw, reference};
+use wakubinryo::{read_qcir, read_qcir_into, PrenexForm, Reason, Refusal, Sizes, Written};
 
 /// Words that buffers hold before a call.
 #[derive(Clone, Copy, Debug)]
@@ -322,4 +322,105 @@ pub fn each(name: &str, tables: u64, mut one: impl FnMut(&mut Rng, u64)) {
         let mut rng = Rng::new(number.wrapping_mul(0x1234_5678_9ABC_DEF1) ^ of_name);
         one(&mut rng, number);
     }
+}
+
+/// A reading call with its answer as words: the library's own, the wrapper's,
+/// or the reference's.
+pub type Read = fn(&[u8], &mut [u32], &mut [u32]) -> [u32; 4];
+
+pub const LIBRARY_READ: Read = |text, words, list| {
+    let mut answer = [UNANSWERED; 4];
+    raw::read_qcir(text, words, list, &mut answer);
+    answer
+};
+
+const WRAPPED_READ: Read = |text, words, list| written_words(read_qcir_into(text, words, list));
+
+const REFERENCE_READ: Read = |text, words, list| written_words(qcir::read(text, words, list));
+
+/// The reference's answer, and what it writes.
+pub fn reference_table(text: &[u8]) -> (Result<Written, Refusal>, Table) {
+    let mut table = Table {
+        words: vec![0; 4 * LIMIT],
+        list: vec![0; LIMIT],
+    };
+    let answer = qcir::read(text, &mut table.words, &mut table.list);
+    let Written { words, entries } = answer.unwrap_or_default();
+    table.words.truncate(words as usize);
+    table.list.truncate(entries as usize);
+    (answer, table)
+}
+
+/// Reads into buffers of these lengths and holds answer and buffers to what is
+/// expected.
+fn assert_read(
+    read: Read,
+    text: &[u8],
+    lengths: [usize; 2],
+    prefill: Prefill,
+    expected: Result<Written, Refusal>,
+    table: &Table,
+) {
+    let mut words = Lent::new(lengths[0], prefill, 0);
+    let mut list = Lent::new(lengths[1], prefill, 1);
+    let given = read(text, words.lend(), list.lend());
+    let answer = written_words(expected);
+    assert_eq!(given, answer, "answer of read_qcir, buffers {lengths:?}");
+    words.assert_holds(&table.words, "words");
+    list.assert_holds(&table.list, "list");
+}
+
+/// Holds a reading call to given results, with buffers that are exact, longer
+/// by `spare` and, for an accepted file, each too short in turn.
+fn assert_reads(
+    read: Read,
+    text: &[u8],
+    expected: Result<Written, Refusal>,
+    table: &Table,
+    prefill: Prefill,
+    spare: usize,
+) {
+    let (words, entries) = (table.words.len(), table.list.len());
+    assert_read(read, text, [words, entries], prefill, expected, table);
+    let long = [words + spare, entries + spare];
+    assert_read(read, text, long, prefill, expected, table);
+    if expected.is_ok() {
+        let refuse = |lengths| {
+            let nothing = Table::default();
+            assert_read(read, text, lengths, prefill, Err(TOO_SHORT), &nothing);
+        };
+        refuse([words - 1, entries + spare]);
+        if entries > 0 {
+            refuse([words + spare, entries - 1]);
+        }
+    }
+}
+
+/// Holds the library, its wrapper and the reference to given results.
+pub fn assert_reading(
+    text: &[u8],
+    expected: Result<Written, Refusal>,
+    table: &Table,
+    prefill: Prefill,
+    spare: usize,
+) {
+    for read in [LIBRARY_READ, WRAPPED_READ, REFERENCE_READ] {
+        assert_reads(read, text, expected, table, prefill, spare);
+    }
+    let wrapped = read_qcir(text);
+    assert_eq!(wrapped.as_ref(), expected.as_ref().map(|_| table));
+}
+
+/// Holds the library to the reference's results, and the table of an accepted
+/// file to the table checker's.
+pub fn assert_same_reading(text: &[u8], prefill: Prefill, spare: usize) -> Result<Table, Refusal> {
+    let (answer, table) = reference_table(text);
+    let before = text.to_vec();
+    assert_reads(LIBRARY_READ, text, answer, &table, prefill, spare);
+    assert!(*text == before, "the text has changed");
+    answer?;
+    let sizes = measure(&table.words, &table.list).expect("the table is accepted");
+    let [n, q] = [table.words.len() / 4, table.list.len()];
+    assert_eq!([sizes.n as usize, sizes.q as usize], [n, q]);
+    Ok(table)
 }
