@@ -2,11 +2,14 @@
 //! other side of the comparison tests and of the benchmark.
 //!
 //! One pass over the bytes, by a scanner with a method for each rule of the
-//! grammar, checks the spelling, notes every name and builds the nodes. What
-//! is left are passes over names and gates. Work arrays belong to one call.
+//! grammar, checks the spelling, notes every name and builds the nodes. Then
+//! come passes over names and gates. All are linear. Work arrays belong to one
+//! call: the index of names is on the stack, the others are allocated.
 
 use crate::answer::{Reason, Refusal, Written};
-use crate::reference::{AND, CONSTANT, EXISTS, FOR_ALL, LIMIT, NOT, OPERATOR, OR, VARIABLE, XOR};
+use crate::reference::{AND, OR, XOR};
+use crate::reference::{CONSTANT, EXISTS, FOR_ALL, NOT, OPERATOR, VARIABLE};
+use crate::reference::{HIGHEST, LIMIT};
 use std::ops::Range;
 
 /// Most bytes of a file.
@@ -17,9 +20,11 @@ pub fn read(text: &[u8], words: &mut [u32], list: &mut [u32]) -> Result<Written,
     if text.len() > LONGEST {
         return Err(Reason::MalformedText.at(0));
     }
-    let mut reader = Reader::new(text);
-    if reader.file().is_none() {
-        return Err(Reason::MalformedText.at(reader.scanner.at));
+    let mut scanner = Scanner { text, at: 0 };
+    let mut index = [0; NAMES];
+    let mut reader = Reader::new(text.len(), &mut index);
+    if reader.file(&mut scanner).is_none() {
+        return Err(Reason::MalformedText.at(scanner.at));
     }
     if let Some(place) = reader.misplaced {
         return Err(Reason::MisplacedName.at(place));
@@ -40,6 +45,20 @@ pub fn read(text: &[u8], words: &mut [u32], list: &mut [u32]) -> Result<Written,
     reader.write(words, list)
 }
 
+/// A name in the text and the place of its first digit.
+#[derive(Clone, Copy)]
+struct Name {
+    number: u16,
+    place: usize,
+}
+
+/// An input, or the output.
+#[derive(Clone, Copy)]
+struct Literal {
+    name: Name,
+    negated: bool,
+}
+
 /// The text and the place in it. A method that finds a byte that can't stand
 /// where it is, or the end, gives None and leaves the place there.
 struct Scanner<'a> {
@@ -48,11 +67,13 @@ struct Scanner<'a> {
 }
 
 impl Scanner<'_> {
+    #[inline]
     fn peek(&self) -> Option<u8> {
         self.text.get(self.at).copied()
     }
 
     /// Takes one byte, which must be this one.
+    #[inline]
     fn byte(&mut self, byte: u8) -> Option<()> {
         (self.peek()? == byte).then(|| self.at += 1)
     }
@@ -63,36 +84,59 @@ impl Scanner<'_> {
     }
 
     /// Skips spaces and tabs and gives the byte after them.
+    #[inline(always)]
     fn after_blanks(&mut self) -> Option<u8> {
-        loop {
-            match self.peek() {
-                Some(b' ' | b'\t') => self.at += 1,
-                other => return other,
-            }
+        let mut at = self.at;
+        while let Some(b' ' | b'\t') = self.text.get(at) {
+            at += 1;
         }
+        self.at = at;
+        self.peek()
     }
 
     /// Takes a sign, with the blanks before it.
+    #[inline]
     fn sign(&mut self, sign: u8) -> Option<()> {
         self.after_blanks();
         self.byte(sign)
     }
 
+    /// Takes a comma, with the blanks before it, if there is one.
+    #[inline(always)]
+    fn comma(&mut self) -> bool {
+        let comma = self.after_blanks() == Some(b',');
+        self.at += usize::from(comma);
+        comma
+    }
+
     /// Takes a name, with the blanks before it.
+    #[inline(always)]
     fn name(&mut self) -> Option<Name> {
-        let mut number = match self.after_blanks()? {
-            digit @ b'1'..=b'9' => u16::from(digit - b'0'),
-            _ => return None,
-        };
+        self.after_blanks();
         let place = self.at;
-        self.at += 1;
-        while let Some(digit @ b'0'..=b'9') = self.peek() {
-            number = number
-                .checked_mul(10)?
-                .checked_add(u16::from(digit - b'0'))?;
-            self.at += 1;
+        let mut at = place;
+        let mut number = 0;
+        while let Some(digit @ b'0'..=b'9') = self.text.get(at) {
+            number = 10 * number + u32::from(digit - b'0');
+            // A zero in front, or a digit too many.
+            if number == 0 || number > HIGHEST {
+                self.at = at;
+                return None;
+            }
+            at += 1;
         }
-        Some(Name { number, place })
+        self.at = at;
+        let number = number as u16;
+        (at > place).then_some(Name { number, place })
+    }
+
+    /// Takes a name and the minus sign before it, if there is one.
+    #[inline(always)]
+    fn literal(&mut self) -> Option<Literal> {
+        let negated = self.after_blanks()? == b'-';
+        self.at += usize::from(negated);
+        let name = self.name()?;
+        Some(Literal { name, negated })
     }
 
     /// Takes the end of a line, with the blanks before it.
@@ -132,18 +176,9 @@ impl Scanner<'_> {
     }
 }
 
-/// A name in the text and the place of its first digit.
-#[derive(Clone, Copy)]
-struct Name {
-    number: u16,
-    place: usize,
-}
-
 /// What is known of a name.
 struct Symbol {
     name: u16,
-    /// Stands in the free line or in a prefix line.
-    declared: bool,
     /// The gate that it names first, NONE if it names none.
     gate: u16,
     /// The list that it stands in last, NONE if it stands in none.
@@ -154,6 +189,8 @@ struct Symbol {
     first_input: u16,
     /// How many gates bind it above the place that a walk has come to.
     bound: u16,
+    /// Whether it stands in the free line or in a prefix line.
+    declared: bool,
 }
 
 const NONE: u16 = u16::MAX;
@@ -161,50 +198,36 @@ const NONE: u16 = u16::MAX;
 /// the gate's index.
 const DECLARED: u16 = NONE - 1;
 
-/// The names of a file, with an index each in the order of first occurrence.
-struct Symbols {
-    /// By name: 1 + its index, 0 if it has not occurred.
-    index: Vec<u16>,
+/// The length of an array by name.
+const NAMES: usize = HIGHEST as usize + 1;
+
+/// The names of a file, numbered in the order of their first occurrence.
+struct Symbols<'a> {
+    /// By name: 1 + its number, 0 if it has not occurred.
+    index: &'a mut [u16; NAMES],
     symbols: Vec<Symbol>,
 }
 
-impl Symbols {
-    fn new() -> Symbols {
-        Symbols {
-            index: vec![0; 1 << 16],
-            symbols: Vec::new(),
-        }
-    }
-
-    fn get(&mut self, index: u16) -> &mut Symbol {
-        &mut self.symbols[usize::from(index)]
-    }
-
-    fn index_of(&mut self, name: u16) -> u16 {
-        let index = &mut self.index[usize::from(name)];
-        if *index == 0 {
+impl Symbols<'_> {
+    /// The number of a name, and what is known of it.
+    #[inline(always)]
+    fn find(&mut self, name: u16) -> (u16, &mut Symbol) {
+        let entry = &mut self.index[usize::from(name)];
+        if *entry == 0 {
             self.symbols.push(Symbol {
                 name,
-                declared: false,
                 gate: NONE,
                 list: NONE,
                 uses: 0,
                 first_input: 0,
                 bound: 0,
+                declared: false,
             });
-            *index = self.symbols.len() as u16;
+            *entry = self.symbols.len() as u16;
         }
-        *index - 1
+        let number = *entry - 1;
+        (number, &mut self.symbols[usize::from(number)])
     }
-}
-
-/// An input, or the output.
-#[derive(Clone, Copy)]
-struct Literal {
-    symbol: u16,
-    negated: bool,
-    /// The place of the name's first digit.
-    place: usize,
 }
 
 /// A gate line: its list, empty if it has no quantifier, its inputs, and the
@@ -216,8 +239,7 @@ struct Gate {
 }
 
 struct Reader<'a> {
-    scanner: Scanner<'a>,
-    symbols: Symbols,
+    symbols: Symbols<'a>,
     /// The symbols of all lists, in the order of the text.
     listed: Vec<u16>,
     /// The symbols of all inputs, in the order of the text.
@@ -228,7 +250,7 @@ struct Reader<'a> {
     gates: Vec<Gate>,
     /// The nodes, no more than `LIMIT` of them.
     nodes: Vec<[u32; 4]>,
-    /// How many nodes there would be without the limit.
+    /// How many nodes there are without the limit.
     node_count: usize,
     /// The sum of the blocks' counts.
     bound: usize,
@@ -238,17 +260,20 @@ struct Reader<'a> {
     misplaced: Option<usize>,
 }
 
-impl<'a> Reader<'a> {
-    fn new(text: &'a [u8]) -> Reader<'a> {
+impl Reader<'_> {
+    fn new(bytes: usize, index: &mut [u16; NAMES]) -> Reader<'_> {
         Reader {
-            scanner: Scanner { text, at: 0 },
-            symbols: Symbols::new(),
+            symbols: Symbols {
+                index,
+                symbols: Vec::new(),
+            },
             listed: Vec::new(),
-            inputs: Vec::new(),
+            // An input takes two bytes at least, a node one.
+            inputs: Vec::with_capacity(bytes / 2),
             prefix: Vec::new(),
             output: None,
             gates: Vec::new(),
-            nodes: Vec::new(),
+            nodes: Vec::with_capacity(bytes.min(LIMIT)),
             node_count: 0,
             bound: 0,
             over_limit: None,
@@ -262,6 +287,7 @@ impl<'a> Reader<'a> {
     }
 
     /// Adds a node and gives its index.
+    #[inline(always)]
     fn node(&mut self, node: [u32; 4]) -> u32 {
         if self.nodes.len() < LIMIT {
             self.nodes.push(node);
@@ -280,17 +306,16 @@ impl<'a> Reader<'a> {
         node
     }
 
-    /// Gives the node of a literal's value, adding what is not there yet.
-    fn literal_node(&mut self, literal: Literal) -> u32 {
-        let symbol = self.symbols.get(literal.symbol);
-        let node = match symbol.gate {
-            NONE => {
-                let name = symbol.name.into();
-                self.node([VARIABLE, name, 0, 0])
-            }
-            gate => self.gates[usize::from(gate)].node,
+    /// Gives the node of a literal's value, adding what is not there yet. Its
+    /// name is this gate's, or a variable's if this is NONE.
+    #[inline(always)]
+    fn literal_node(&mut self, Literal { name, negated }: Literal, gate: u16) -> u32 {
+        let node = if gate == NONE {
+            self.node([VARIABLE, name.number.into(), 0, 0])
+        } else {
+            self.gates[usize::from(gate)].node
         };
-        if literal.negated {
+        if negated {
             self.node([NOT, node, 0, 0])
         } else {
             node
@@ -298,149 +323,139 @@ impl<'a> Reader<'a> {
     }
 
     /// Takes the whole file.
-    fn file(&mut self) -> Option<()> {
-        self.scanner.header()?;
-        self.declarations()?;
-        while self.scanner.next_line().is_some() {
-            self.gate_line()?;
+    fn file(&mut self, scanner: &mut Scanner) -> Option<()> {
+        scanner.header()?;
+        self.declarations(scanner)?;
+        while scanner.next_line().is_some() {
+            self.gate_line(scanner)?;
         }
         Some(())
     }
 
-    /// Takes the lines from the header's to the output line.
-    fn declarations(&mut self) -> Option<()> {
+    /// Takes the lines after the header, down to the output line.
+    fn declarations(&mut self, scanner: &mut Scanner) -> Option<()> {
         let mut first_line = true;
         loop {
-            match self.scanner.next_line()? {
+            match scanner.next_line()? {
                 b'f' => {
-                    self.scanner.byte(b'f')?;
-                    if first_line && self.scanner.peek()? == b'r' {
-                        self.scanner.bytes(b"ree")?;
-                        self.names(DECLARED, b')')?;
+                    scanner.byte(b'f')?;
+                    if first_line && scanner.peek()? == b'r' {
+                        scanner.bytes(b"ree")?;
+                        self.names(scanner, DECLARED, b')')?;
                     } else {
-                        self.scanner.bytes(b"orall")?;
-                        self.prefix_line(FOR_ALL)?;
+                        scanner.bytes(b"orall")?;
+                        self.prefix_line(scanner, FOR_ALL)?;
                     }
                 }
                 b'e' => {
-                    self.scanner.bytes(b"exists")?;
-                    self.prefix_line(EXISTS)?;
+                    scanner.bytes(b"exists")?;
+                    self.prefix_line(scanner, EXISTS)?;
                 }
                 _ => break,
             }
-            self.scanner.line_end()?;
+            scanner.line_end()?;
             first_line = false;
         }
-        self.scanner.bytes(b"output")?;
-        self.scanner.sign(b'(')?;
-        self.output = Some(self.literal()?);
-        self.scanner.sign(b')')?;
-        self.scanner.line_end()
+        scanner.bytes(b"output")?;
+        scanner.sign(b'(')?;
+        let output = scanner.literal()?;
+        self.symbols.find(output.name.number).1.uses += 1;
+        self.output = Some(output);
+        scanner.sign(b')')?;
+        scanner.line_end()
     }
 
     /// Takes the rest of a prefix line after its word.
-    fn prefix_line(&mut self, kind: u32) -> Option<()> {
-        let list = self.names(DECLARED, b')')?;
+    fn prefix_line(&mut self, scanner: &mut Scanner, kind: u32) -> Option<()> {
+        let list = self.names(scanner, DECLARED, b')')?;
         self.prefix.push((kind, list));
         Some(())
     }
 
-    /// Takes a list of names from its opening sign to the sign that ends it.
-    fn names(&mut self, list: u16, end: u8) -> Option<Range<usize>> {
+    /// Takes a list of names, from its opening sign to the sign that ends it.
+    fn names(&mut self, scanner: &mut Scanner, list: u16, end: u8) -> Option<Range<usize>> {
         let first = self.listed.len();
-        self.scanner.sign(b'(')?;
+        scanner.sign(b'(')?;
         loop {
-            let Name { number, place } = self.scanner.name()?;
-            let index = self.symbols.index_of(number);
-            let symbol = self.symbols.get(index);
+            let Name { number, place } = scanner.name()?;
+            let (number, symbol) = self.symbols.find(number);
             let misplaced = symbol.list == list || symbol.gate != NONE;
             symbol.list = list;
             symbol.declared |= list == DECLARED;
+            // DECLARED is one list, so that this is all of refusal 11 here.
             if misplaced {
                 self.misplaced_at(place);
             }
-            self.listed.push(index);
-            match self.scanner.after_blanks()? {
-                b',' => self.scanner.at += 1,
-                _ => break,
+            self.listed.push(number);
+            if !scanner.comma() {
+                break;
             }
         }
-        self.scanner.byte(end)?;
+        scanner.byte(end)?;
         Some(first..self.listed.len())
     }
 
-    /// Takes a name and the minus sign before it, if there is one.
-    fn literal(&mut self) -> Option<Literal> {
-        let negated = self.scanner.after_blanks()? == b'-';
-        if negated {
-            self.scanner.at += 1;
-        }
-        let Name { number, place } = self.scanner.name()?;
-        let symbol = self.symbols.index_of(number);
-        self.symbols.get(symbol).uses += 1;
-        Some(Literal {
-            symbol,
-            negated,
-            place,
-        })
-    }
-
     /// Takes an input of a gate and gives its node.
-    fn input(&mut self, gate: u16) -> Option<u32> {
-        let literal = self.literal()?;
-        let symbol = self.symbols.get(literal.symbol);
+    #[inline(always)]
+    fn input(&mut self, scanner: &mut Scanner, gate: u16) -> Option<u32> {
+        let literal = scanner.literal()?;
+        let Name { number, place } = literal.name;
+        let (number, symbol) = self.symbols.find(number);
+        symbol.uses += 1;
         if symbol.first_input == 0 {
-            symbol.first_input = literal.place as u16;
+            symbol.first_input = place as u16;
         }
-        if symbol.gate == gate {
-            self.misplaced_at(literal.place);
+        let named = symbol.gate;
+        if named == gate {
+            self.misplaced_at(place);
         }
-        self.inputs.push(literal.symbol);
-        Some(self.literal_node(literal))
+        self.inputs.push(number);
+        Some(self.literal_node(literal, named))
     }
 
     /// Takes a gate line.
-    fn gate_line(&mut self) -> Option<()> {
+    fn gate_line(&mut self, scanner: &mut Scanner) -> Option<()> {
         let gate = self.gates.len() as u16;
-        let name = self.scanner.name()?;
+        let name = scanner.name()?;
         self.define(name, gate);
+        let first_input = self.inputs.len();
+        let mut list = 0..0;
+        // Stands for the gate until its line has been taken.
         self.gates.push(Gate {
             list: 0..0,
             inputs: 0..0,
             node: 0,
         });
-        self.scanner.sign(b'=')?;
-        let first_input = self.inputs.len();
-        let mut list = 0..0;
-        let node = match self.scanner.after_blanks()? {
+        scanner.sign(b'=')?;
+        let node = match scanner.after_blanks()? {
             b'a' => {
-                self.scanner.bytes(b"and")?;
-                self.operands(gate, AND, 1)?
+                scanner.bytes(b"and")?;
+                self.operands(scanner, gate, AND, 1)?
             }
             b'o' => {
-                self.scanner.bytes(b"or")?;
-                self.operands(gate, OR, 0)?
+                scanner.bytes(b"or")?;
+                self.operands(scanner, gate, OR, 0)?
             }
             b'x' => {
-                self.scanner.bytes(b"xor")?;
-                self.scanner.sign(b'(')?;
-                let left = self.input(gate)?;
-                self.scanner.sign(b',')?;
-                let right = self.input(gate)?;
-                self.scanner.sign(b')')?;
+                scanner.bytes(b"xor")?;
+                scanner.sign(b'(')?;
+                let left = self.input(scanner, gate)?;
+                scanner.sign(b',')?;
+                let right = self.input(scanner, gate)?;
+                scanner.sign(b')')?;
                 self.node([OPERATOR, XOR, left, right])
             }
             first => {
                 let kind = if first == b'e' {
-                    self.scanner.bytes(b"exists")?;
+                    scanner.bytes(b"exists")?;
                     EXISTS
                 } else {
-                    self.scanner.bytes(b"forall")?;
+                    scanner.bytes(b"forall")?;
                     FOR_ALL
                 };
-                list = self.names(gate, b';')?;
-                let body = self.input(gate)?;
-                self.scanner.sign(b')')?;
+                list = self.names(scanner, gate, b';')?;
+                let body = self.input(scanner, gate)?;
+                scanner.sign(b')')?;
                 self.block(kind, list.len(), body)
             }
         };
@@ -449,19 +464,19 @@ impl<'a> Reader<'a> {
             inputs: first_input..self.inputs.len(),
             node,
         };
-        self.scanner.line_end()
+        scanner.line_end()
     }
 
     /// Makes a name a gate's.
     fn define(&mut self, Name { number, place }: Name, gate: u16) {
-        let index = self.symbols.index_of(number);
-        let symbol = self.symbols.get(index);
+        let (_, symbol) = self.symbols.find(number);
         if symbol.gate != NONE {
             return self.misplaced_at(place);
         }
         symbol.gate = gate;
-        let first_input = usize::from(symbol.first_input);
-        if symbol.list != NONE {
+        let in_list = symbol.list != NONE;
+        let first_input = symbol.first_input.into();
+        if in_list {
             self.misplaced_at(place);
         }
         if first_input != 0 {
@@ -469,21 +484,26 @@ impl<'a> Reader<'a> {
         }
     }
 
-    /// Takes any number of inputs from the opening sign to the closing one and
-    /// gives the node of their value, which is `empty` if there are none.
-    fn operands(&mut self, gate: u16, truth_table: u32, empty: u32) -> Option<u32> {
-        self.scanner.sign(b'(')?;
-        if self.scanner.after_blanks()? == b')' {
-            self.scanner.at += 1;
+    /// Takes any number of inputs, from the opening sign to the closing one,
+    /// and gives the node of their value, which is `empty` if there are none.
+    fn operands(
+        &mut self,
+        scanner: &mut Scanner,
+        gate: u16,
+        truth_table: u32,
+        empty: u32,
+    ) -> Option<u32> {
+        scanner.sign(b'(')?;
+        if scanner.after_blanks()? == b')' {
+            scanner.at += 1;
             return Some(self.node([CONSTANT, empty, 0, 0]));
         }
-        let mut value = self.input(gate)?;
-        while self.scanner.after_blanks()? == b',' {
-            self.scanner.at += 1;
-            let right = self.input(gate)?;
+        let mut value = self.input(scanner, gate)?;
+        while scanner.comma() {
+            let right = self.input(scanner, gate)?;
             value = self.node([OPERATOR, truth_table, value, right]);
         }
-        self.scanner.byte(b')')?;
+        scanner.byte(b')')?;
         Some(value)
     }
 
@@ -497,70 +517,53 @@ impl<'a> Reader<'a> {
     }
 
     /// The lowest name of a variable that is used where nothing binds it and
-    /// that the free line doesn't name. Each gate is used exactly once.
+    /// that the free line doesn't name, all gates being used exactly once.
     fn unbound_variable(&mut self) -> Option<u16> {
-        let mut lowest: Option<u16> = None;
-        let mut in_gate_lists = false;
-        for symbol in &self.symbols.symbols {
-            if symbol.gate == NONE && symbol.uses > 0 && !symbol.declared {
-                if symbol.list == NONE {
-                    lowest = Some(lowest.map_or(symbol.name, |name| name.min(symbol.name)));
-                } else {
-                    in_gate_lists = true;
-                }
-            }
+        let is_open = |symbol: &&Symbol| symbol.gate == NONE && symbol.uses > 0 && !symbol.declared;
+        let open = || self.symbols.symbols.iter().filter(is_open);
+        // Only of a name that stands in gates' lists it matters where it is
+        // used.
+        if open().any(|symbol| symbol.list != NONE) {
+            self.walk()
+        } else {
+            open().map(|symbol| symbol.name).min()
         }
-        if in_gate_lists {
-            let found = self.walk();
-            lowest = match (lowest, found) {
-                (Some(one), Some(other)) => Some(one.min(other)),
-                (one, other) => one.or(other),
-            };
-        }
-        lowest
     }
 
-    /// The lowest name of a variable that is an input with nothing that binds
-    /// it, by a depth-first walk that counts for each name the gates above the
-    /// place that bind it.
+    /// The lowest name of a variable that is an input where nothing binds it,
+    /// by a depth-first walk from the output, which is a gate. On the way it
+    /// counts for each name how many gates bind it.
     fn walk(&mut self) -> Option<u16> {
         enum Step {
             Enter(u16),
             Leave(u16),
         }
-        let Reader {
-            symbols: Symbols { symbols, .. },
-            listed,
-            inputs,
-            gates,
-            output,
-            ..
-        } = self;
-        let mut lowest: Option<u16> = None;
-        let root = symbols[usize::from(output.as_ref()?.symbol)].gate;
-        let mut steps = vec![Step::Enter(root)];
+        let symbols = &mut self.symbols.symbols;
+        let output = self.symbols.index[usize::from(self.output?.name.number)] - 1;
+        let mut steps = vec![Step::Enter(symbols[usize::from(output)].gate)];
+        let mut lowest = None;
         while let Some(step) = steps.pop() {
             match step {
                 Step::Enter(index) => {
-                    let gate = &gates[usize::from(index)];
+                    let gate = &self.gates[usize::from(index)];
                     if !gate.list.is_empty() {
-                        for &symbol in &listed[gate.list.clone()] {
-                            symbols[usize::from(symbol)].bound += 1;
+                        for &number in &self.listed[gate.list.clone()] {
+                            symbols[usize::from(number)].bound += 1;
                         }
                         steps.push(Step::Leave(index));
                     }
-                    for &input in &inputs[gate.inputs.clone()] {
-                        let symbol = &symbols[usize::from(input)];
+                    for &number in &self.inputs[gate.inputs.clone()] {
+                        let symbol = &symbols[usize::from(number)];
                         if symbol.gate != NONE {
                             steps.push(Step::Enter(symbol.gate));
                         } else if symbol.bound == 0 && !symbol.declared {
-                            lowest = Some(lowest.map_or(symbol.name, |name| name.min(symbol.name)));
+                            lowest = Some(symbol.name.min(lowest.unwrap_or(NONE)));
                         }
                     }
                 }
                 Step::Leave(index) => {
-                    for &symbol in &listed[gates[usize::from(index)].list.clone()] {
-                        symbols[usize::from(symbol)].bound -= 1;
+                    for &number in &self.listed[self.gates[usize::from(index)].list.clone()] {
+                        symbols[usize::from(number)].bound -= 1;
                     }
                 }
             }
@@ -571,7 +574,8 @@ impl<'a> Reader<'a> {
     /// Adds the output's nodes and the prefix lines' blocks.
     fn finish(&mut self) {
         let output = self.output.expect("an output line");
-        let mut body = self.literal_node(output);
+        let gate = self.symbols.find(output.name.number).1.gate;
+        let mut body = self.literal_node(output, gate);
         for at in (0..self.prefix.len()).rev() {
             let (kind, ref list) = self.prefix[at];
             body = self.block(kind, list.len(), body);
@@ -587,11 +591,11 @@ impl<'a> Reader<'a> {
         words[..nodes.len()].copy_from_slice(nodes);
         let gate_lists = self.gates.iter().map(|gate| &gate.list);
         let prefix_lists = self.prefix.iter().rev().map(|(_, list)| list);
-        let symbols = gate_lists
+        let numbers = gate_lists
             .chain(prefix_lists)
             .flat_map(|range| &self.listed[range.clone()]);
-        for (entry, &symbol) in list.iter_mut().zip(symbols) {
-            *entry = self.symbols.symbols[usize::from(symbol)].name.into();
+        for (entry, &number) in list.iter_mut().zip(numbers) {
+            *entry = self.symbols.symbols[usize::from(number)].name.into();
         }
         Ok(Written {
             words: nodes.len() as u32,

@@ -483,7 +483,7 @@ fn good_files() {
 #[test]
 fn damaged_files() {
     let mut counts = [0; 14];
-    each("damaged files", 60_000, |rng, number| {
+    each("damaged files", 40_000, |rng, number| {
         let gates = match number % 400 {
             0 => rng.between(300, 1500),
             1..=19 => rng.between(20, 200),
@@ -505,7 +505,7 @@ fn damaged_files() {
 #[test]
 fn files_with_names_exchanged() {
     let mut counts = [0; 14];
-    each("names exchanged", 40_000, |rng, number| {
+    each("names exchanged", 30_000, |rng, number| {
         let gates = match number % 400 {
             0 => rng.between(300, 1000),
             1..=19 => rng.between(20, 200),
@@ -522,7 +522,7 @@ fn files_with_names_exchanged() {
         counts[answer.map_or_else(|refusal| refusal.reason.number(), |_| 0) as usize] += 1;
     });
     for number in [0, 11, 12, 13] {
-        assert!(counts[number] > 1000, "answers by number: {counts:?}");
+        assert!(counts[number] > 700, "answers by number: {counts:?}");
     }
 }
 
@@ -590,9 +590,9 @@ fn every_prefix_of_good_files() {
     let mut at_end = 0;
     let mut spelled = 0;
     each("prefixes", 200, |rng, number| {
-        let gates = rng.between(0, 25);
+        let gates = rng.between(0, 14);
         let (_, text) = good_file(rng, gates);
-        let text = &text[..text.len().min(2000)];
+        let text = &text[..text.len().min(800)];
         for end in 0..=text.len() {
             match assert_same_reading(&text[..end], prefill(number), 3) {
                 Err(refusal) if refusal.reason == MalformedText => {
@@ -625,7 +625,7 @@ fn refused_spellings_could_go_on() {
         answer[0] != MalformedText.number()
     };
     let mut completed = 0;
-    each("completions", 6_000, |rng, _| {
+    each("completions", 1_500, |rng, _| {
         let gates = rng.between(0, 4);
         let (_, mut text) = good_file(rng, gates);
         text.truncate(600);
@@ -649,7 +649,7 @@ fn refused_spellings_could_go_on() {
         );
         completed += 1;
     });
-    assert!(completed > 3_000, "only {completed} completed");
+    assert!(completed > 800, "only {completed} completed");
 }
 
 /// Compares the values of circuit and table under all valuations of the free
@@ -658,7 +658,7 @@ fn assert_same_truth(circuit: &Circuit, table: &Table) -> bool {
     let variables: Vec<u32> = brute::variables_at_nodes(&table.words)
         .into_iter()
         .collect();
-    if variables.len() > 10 || circuit.bound_count() > 9 {
+    if variables.len() > 10 || circuit.bound_count() > 7 {
         return false;
     }
     let of_table = brute::table_function(&table.words, &table.list, &variables);
@@ -677,7 +677,7 @@ fn assert_same_truth(circuit: &Circuit, table: &Table) -> bool {
 fn the_table_has_the_circuits_truth() {
     let mut compared = 0;
     let mut with_blocks = 0;
-    each("truth of files", 20_000, |rng, number| {
+    each("truth of files", 12_000, |rng, number| {
         let profile = Profile::tiny(rng);
         let circuit = circuit(rng, &profile);
         let layout = Layout::random(rng);
@@ -689,8 +689,8 @@ fn the_table_has_the_circuits_truth() {
             with_blocks += u32::from(sizes.b > 1);
         }
     });
-    assert!(compared > 15_000, "only {compared} compared");
-    assert!(with_blocks > 5_000, "only {with_blocks} with blocks");
+    assert!(compared > 9_000, "only {compared} compared");
+    assert!(with_blocks > 3_000, "only {with_blocks} with blocks");
 }
 
 /// Files of every family, as they are, cut short and damaged.
@@ -735,5 +735,21 @@ fn stack_of_a_call() {
         let thread = thread::Builder::new().stack_size(STACK).spawn(call);
         let given = thread.expect("a thread").join().expect("no panic");
         assert!(given == (written_words(expected), table));
+    }
+}
+
+/// The box of the example can be filled. One that is given bit 2 in place of
+/// the half sum can't.
+#[test]
+fn example_file() {
+    let text = include_str!("../../examples/adder_box.qcir");
+    let other = text.replace("31 = xor(1, 2)", "31 = and(2)");
+    assert_ne!(text, other);
+    for (text, fillable) in [(text, true), (&other, false)] {
+        let table = assert_same_reading(text.as_bytes(), Prefill::Ones, 9).expect("accepted");
+        assert!(brute::free_occurrences(&table.words, &table.list).is_empty());
+        let mut valuation = brute::Valuation::new();
+        let value = brute::table_value(&table.words, &table.list, &mut valuation);
+        assert_eq!(value, fillable);
     }
 }

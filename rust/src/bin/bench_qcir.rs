@@ -1,0 +1,133 @@
+//! Times reading QCIR files, the library beside the reference.
+//!
+//!     cargo run --release --bin bench_qcir
+
+use std::hint::black_box;
+use std::time::{Duration, Instant};
+use wakubinryo::generate_qcir::FAMILIES;
+use wakubinryo::reference::LIMIT;
+use wakubinryo::{qcir, read_qcir_into, Refusal, Table, Written};
+
+const BYTES: [usize; 3] = [16_384, 32_768, 65_536];
+const ROUNDS: usize = 20;
+const RUNS: usize = 50;
+const WARM_UP: usize = 10;
+
+type Answer = Result<Written, Refusal>;
+type Read = fn(&[u8], &mut [u32], &mut [u32]) -> Answer;
+
+const SIDES: [Read; 2] = [read_qcir_into, qcir::read];
+
+/// Room for any table.
+fn room() -> Table {
+    Table {
+        words: vec![0; 4 * LIMIT],
+        list: vec![0; LIMIT],
+    }
+}
+
+/// One reading into the buffers as they are.
+fn run(read: Read, text: &[u8], table: &mut Table) -> (Duration, Answer) {
+    let start = Instant::now();
+    let answer = black_box(read(black_box(text), &mut table.words, &mut table.list));
+    (start.elapsed(), answer)
+}
+
+fn median(times: &mut [Duration]) -> f64 {
+    times.sort();
+    times[times.len() / 2].as_secs_f64() * 1e6
+}
+
+/// A file and its answer, and for library and reference a table to fill and
+/// times.
+struct Bench {
+    text: Vec<u8>,
+    answer: Answer,
+    tables: [Table; 2],
+    times: [Vec<Duration>; 2],
+}
+
+impl Bench {
+    fn new(text: Vec<u8>) -> Bench {
+        let mut table = room();
+        let answer = qcir::read(&text, &mut table.words, &mut table.list);
+        Bench {
+            text,
+            answer,
+            tables: [room(), room()],
+            times: [Vec::new(), Vec::new()],
+        }
+    }
+
+    /// Some runs, library and reference in turn.
+    fn round(&mut self) {
+        for turn in 0..WARM_UP + RUNS {
+            for (side, read) in SIDES.into_iter().enumerate() {
+                let (time, answer) = run(read, &self.text, &mut self.tables[side]);
+                assert!(answer == self.answer, "library and reference differ");
+                if turn >= WARM_UP {
+                    self.times[side].push(time);
+                }
+            }
+        }
+        assert!(
+            self.tables[0] == self.tables[1],
+            "library and reference differ"
+        );
+    }
+
+    /// Median times in microseconds.
+    fn medians(&mut self) -> [f64; 2] {
+        [median(&mut self.times[0]), median(&mut self.times[1])]
+    }
+}
+
+fn main() {
+    println!("One reading of a QCIR file: the library beside the reference, an implementation");
+    println!("in plain Rust. Same input, same process, run in turn; both built for release;");
+    println!(
+        "buffers not cleared in between. Times are medians of {} runs, in {ROUNDS} rounds of",
+        ROUNDS * RUNS
+    );
+    println!(
+        "{RUNS} after {WARM_UP} to warm up. Number is the answer's, 0 for a file that is accepted;"
+    );
+    println!("ratio is library over reference; growth is the time over that at half the bytes.");
+    if cfg!(debug_assertions) {
+        println!("NOT BUILT FOR RELEASE: these figures mean nothing.");
+    }
+    println!();
+    println!(
+        "                                              library  reference           growth of  growth of"
+    );
+    println!(
+        "family                   bytes  number  nodes      us         us   ratio     library  reference"
+    );
+    for (name, family) in FAMILIES {
+        let mut benches = BYTES.map(|bytes| Bench::new(family(bytes)));
+        // Rounds go through the sizes in turn, so that a slow spell of the
+        // machine falls on all of them.
+        for _ in 0..ROUNDS {
+            benches.iter_mut().for_each(Bench::round);
+        }
+        let mut before: Option<[f64; 2]> = None;
+        for bench in &mut benches {
+            let [library, plain] = bench.medians();
+            let growth = match before {
+                Some([l, p]) => format!("{:>11.2} {:>10.2}", library / l, plain / p),
+                None => String::new(),
+            };
+            let (number, nodes) = match bench.answer {
+                Ok(written) => (0, (written.words / 4).to_string()),
+                Err(refusal) => (refusal.reason.number(), String::new()),
+            };
+            let line = format!(
+                "{name:<23} {:>6} {number:>7} {nodes:>6} {library:>7.1} {plain:>10.1} {:>7.2} {growth}",
+                bench.text.len(),
+                library / plain
+            );
+            println!("{}", line.trim_end());
+            before = Some([library, plain]);
+        }
+    }
+}
