@@ -214,3 +214,74 @@ fn push_literals(line: &mut Vec<String>, literals: &[Literal]) {
         line.push(literal.name.to_string());
     }
 }
+
+#[cfg(test)]
+mod tests {
+    use super::*;
+
+    fn literal(name: i32) -> Literal {
+        Literal {
+            name: name.unsigned_abs(),
+            negated: name < 0,
+        }
+    }
+
+    fn gate(name: u32, operation: Operation, inputs: &[i32]) -> Gate {
+        Gate {
+            name,
+            operation,
+            inputs: inputs.iter().map(|&input| literal(input)).collect(),
+        }
+    }
+
+    /// Gates over free variables 1 and 2, and their values under all
+    /// valuations, the first one's value changing slowest.
+    #[test]
+    fn values_of_gates() {
+        use Operation::*;
+        use Quantifier::*;
+        for (operation, inputs, values) in [
+            (And, &[][..], [true; 4]),
+            (Or, &[], [false; 4]),
+            (And, &[1, 2], [false, false, false, true]),
+            (Or, &[1, -2], [true, false, true, true]),
+            (Xor, &[1, 2], [false, true, true, false]),
+            (Xor, &[1, -2], [true, false, false, true]),
+            (Quantified(Exists, vec![1]), &[1], [true; 4]),
+            (Quantified(ForAll, vec![1]), &[-1], [false; 4]),
+            (
+                Quantified(ForAll, vec![1]),
+                &[2],
+                [false, true, false, true],
+            ),
+        ] {
+            let circuit = Circuit {
+                free: vec![1, 2],
+                prefix: Vec::new(),
+                output: literal(-4),
+                gates: vec![gate(3, operation, inputs), gate(4, And, &[-3])],
+            };
+            let valuations = crate::brute::valuations(&[1, 2]);
+            let given: Vec<bool> = valuations.map(|mut v| circuit.value(&mut v)).collect();
+            assert_eq!(given, values, "{circuit:?}");
+        }
+    }
+
+    #[test]
+    fn order_of_prefix_lines_counts() {
+        let for_all = (Quantifier::ForAll, vec![1]);
+        let exists = (Quantifier::Exists, vec![2]);
+        for (prefix, value) in [
+            ([for_all.clone(), exists.clone()], true),
+            ([exists, for_all], false),
+        ] {
+            let circuit = Circuit {
+                free: Vec::new(),
+                prefix: prefix.to_vec(),
+                output: literal(3),
+                gates: vec![gate(3, Operation::Xor, &[1, -2])],
+            };
+            assert_eq!(circuit.value(&mut Valuation::new()), value);
+        }
+    }
+}

@@ -9,9 +9,9 @@ use std::collections::BTreeSet;
 /// What a random circuit is made of.
 #[derive(Clone, Debug)]
 pub struct Profile {
-    /// The least number of gates; what closes the tree comes on top.
+    /// Gates before the tree is closed, which takes up to two more.
     pub gates: usize,
-    /// Most nodes before the tree is closed.
+    /// Nodes after which no gate is added but those that close the tree.
     pub nodes: usize,
     /// Variables of the free line and of the prefix lines.
     pub declared: usize,
@@ -74,7 +74,7 @@ struct Builder {
     open: Vec<Open>,
     /// Names left for gates.
     names: Vec<u32>,
-    /// What `Circuit::node_count` will count of the gates.
+    /// No fewer than the nodes of the gates so far.
     nodes: usize,
 }
 
@@ -85,7 +85,6 @@ impl Builder {
             Operation::And | Operation::Or => inputs.len().abs_diff(1),
             Operation::Xor | Operation::Quantified(..) => 1,
         };
-        // At most two for each input.
         self.nodes += own + 2 * inputs.len();
         self.gates.push(Gate {
             name,
@@ -131,8 +130,7 @@ pub fn circuit(rng: &mut Rng, profile: &Profile) -> Circuit {
             inputs.push(any_sign(rng, open.name));
             unbound.extend(open.unbound);
         }
-        let operation = rng.pick(&[true, false]);
-        let operation = if operation {
+        let operation = if rng.one_in(2) {
             Operation::And
         } else {
             Operation::Or
@@ -235,14 +233,14 @@ fn add_gate(rng: &mut Rng, profile: &Profile, all: &[u32], local: &[u32], builde
     builder.add(operation, inputs, unbound);
 }
 
-/// Adds gates of one negated input, then, until the circuit's table has this
-/// many nodes exactly. None if it has more.
+/// Adds gates of one negated input until the circuit's table has this many
+/// nodes exactly. None if it has more.
 pub fn with_nodes(mut circuit: Circuit, nodes: usize) -> Option<Circuit> {
     let missing = nodes.checked_sub(circuit.node_count())?;
     let mut unused = unused_names(&circuit);
     for _ in 0..missing {
         let name = unused.next()?;
-        // The output keeps its sign and becomes a gate that negates.
+        // The output keeps its sign; its name becomes the new gate's.
         circuit.gates.push(Gate {
             name,
             operation: Operation::Or,
@@ -257,7 +255,7 @@ pub fn with_nodes(mut circuit: Circuit, nodes: usize) -> Option<Circuit> {
 }
 
 /// Adds one quantified gate so that the sum of counts is this exactly. None if
-/// it is there already, or higher.
+/// it is so already, or is higher.
 pub fn with_bound(mut circuit: Circuit, bound: usize) -> Option<Circuit> {
     let missing = bound.checked_sub(circuit.bound_count())?;
     let mut unused = unused_names(&circuit);
@@ -584,7 +582,10 @@ fn row_of_blocks(bytes: usize) -> Vec<u8> {
     fill_up(bytes, |k| {
         let mut text = format!("{HEADER}output(9)\n");
         for gate in 0..k {
-            text += &format!("# block {gate} of the row\n{} = exists(1; -1)\n", 10 + gate);
+            text += &format!(
+                "# block {gate}: exists x, not x, as all of them\n{} = exists(1; -1)\n",
+                10 + gate
+            );
         }
         let inputs: Vec<String> = (0..k).map(|gate| (10 + gate).to_string()).collect();
         text + &format!("9 = and({})\n", inputs.join(", "))
@@ -684,4 +685,73 @@ fn comments(bytes: usize) -> Vec<u8> {
 fn blanks(bytes: usize) -> Vec<u8> {
     let blanks = format!("{}\n", " \t  ".repeat(9)).repeat(4);
     chain(bytes, 60_000, 50_000, &blanks)
+}
+
+#[cfg(test)]
+mod tests {
+    use super::*;
+    use crate::qcir;
+
+    #[test]
+    fn random_circuits_have_every_feature() {
+        let mut counts = [0; 14];
+        let mut rng = Rng::new(3);
+        for _ in 0..1000 {
+            let gates = rng.between(3, 20);
+            let (circuit, text) = good_file(&mut rng, gates);
+            let mut words = [0; 4 * 4096];
+            let mut list = [0; 4096];
+            let answer = qcir::read(&text, &mut words, &mut list);
+            assert!(answer.is_ok(), "{answer:?}: {circuit:?}");
+            let any = |feature: fn(&Gate) -> bool| circuit.gates.iter().any(feature);
+            let bound = |gate: &Gate| match &gate.operation {
+                Operation::Quantified(_, list) => list.clone(),
+                _ => Vec::new(),
+            };
+            let declared = |name: &u32| {
+                let mut prefix = circuit.prefix.iter();
+                circuit.free.contains(name) || prefix.any(|(_, list)| list.contains(name))
+            };
+            let has = |bytes: &[u8]| text.windows(bytes.len()).any(|window| window == bytes);
+            let names = circuit.gates.iter().flat_map(bound);
+            let features = [
+                any(|gate| gate.operation == Operation::And && gate.inputs.len() > 1),
+                any(|gate| gate.operation == Operation::Or && gate.inputs.len() > 1),
+                any(|gate| gate.operation == Operation::Xor),
+                any(|gate| gate.inputs.is_empty()),
+                any(|gate| bound_kind(gate) == Some(Quantifier::Exists)),
+                any(|gate| bound_kind(gate) == Some(Quantifier::ForAll)),
+                // Names bound by gates, declared and not.
+                names.clone().any(|name| declared(&name)),
+                names.clone().any(|name| !declared(&name)),
+                // A prefix of several lines.
+                circuit.prefix.len() > 1,
+                has(b"- ") || has(b"-\t"),
+                has(b"\n\n"),
+                has(b"\n#"),
+                has(b"65535"),
+                text.last() != Some(&b'\n'),
+            ];
+            for (count, feature) in counts.iter_mut().zip(features) {
+                *count += u32::from(feature);
+            }
+        }
+        assert!(counts.iter().all(|&count| count > 50), "{counts:?}");
+    }
+
+    fn bound_kind(gate: &Gate) -> Option<Quantifier> {
+        match gate.operation {
+            Operation::Quantified(quantifier, _) => Some(quantifier),
+            _ => None,
+        }
+    }
+
+    #[test]
+    fn families_have_the_bytes_asked_for() {
+        for bytes in [16_384, 32_768, 65_536] {
+            for (name, family) in FAMILIES {
+                assert_eq!(family(bytes).len(), bytes, "{name}");
+            }
+        }
+    }
 }

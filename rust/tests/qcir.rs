@@ -14,7 +14,7 @@ use wakubinryo::generate_qcir::{circuit, damage_once, exchange_names, good_file,
 use wakubinryo::generate_qcir::{with_bound, with_length, with_nodes, Layout, Profile, FAMILIES};
 use wakubinryo::reference::LIMIT;
 use wakubinryo::Reason::*;
-use wakubinryo::{measure, qcir, read_qcir, Reason, Refusal, Table};
+use wakubinryo::{measure, qcir, read_qcir, Reason, Table};
 
 /// A case of the vectors.
 #[derive(Default)]
@@ -539,16 +539,14 @@ fn files_at_the_limits_of_tables() {
             }
         };
         let over = number as usize % 2;
-        let expected = |at_limit: bool, refusal: Refusal| match at_limit {
-            true => Ok(()),
-            false => Err(refusal),
+        // At the limit it is accepted, over it refused for this reason.
+        let compare = |circuit: Circuit, reason: Reason| {
+            let answer = assert_same_reading(&circuit.text(), prefill(number / 2), 3);
+            let expected = if over == 0 { None } else { Some(reason) };
+            assert_eq!(answer.err().map(|refusal| refusal.reason), expected);
         };
         if let Some(circuit) = with_bound(small.clone(), LIMIT + over) {
-            let text = circuit.text();
-            let answer = assert_same_reading(&text, prefill(number / 2), 3);
-            let refused_at = answer.as_ref().err().map_or(0, |r| r.position as usize);
-            let refusal = TooManyVariables.at(refused_at);
-            assert_eq!(answer.map(|_| ()), expected(over == 0, refusal));
+            compare(circuit, TooManyVariables);
             compared[0] += 1;
         }
         // A nest of negations, at the end, takes 18 bytes a node.
@@ -556,9 +554,7 @@ fn files_at_the_limits_of_tables() {
         let nodes = LIMIT + over;
         if small.node_count() + room > nodes {
             if let Some(circuit) = with_nodes(small, nodes) {
-                let text = circuit.text();
-                let answer = assert_same_reading(&text, prefill(number / 2), 3);
-                assert_eq!(answer.map(|_| ()), expected(over == 0, TooLarge.at(0)));
+                compare(circuit, TooLarge);
                 compared[1 + over] += 1;
             }
         }
