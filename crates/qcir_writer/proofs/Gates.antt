@@ -161,9 +161,9 @@ module _ (roles numbers : List ℕ) (first : ℕ) where
     added-is = rw (role-is, x-is) (rw (← r .progress-is, r .nodes-are .holds x))
 
     after-is : gatesWritten roles numbers first (suc n) ≡ record {
-          draft = record { words = before .draft .words ++ addToken p (getD nodes x 0) role x .words; entries = before .draft .entries ++ tokenEntries role x; gate = gatesAfter (before .draft .gate) role (addToken p (getD nodes x 0) role x .progress) };
-          progress = addToken p (getD nodes x 0) role x .progress;
-        }
+      draft = record { words = before .draft .words ++ addToken p (getD nodes x 0) role x .words; entries = before .draft .entries ++ tokenEntries role x; gate = gatesAfter (before .draft .gate) role (addToken p (getD nodes x 0) role x .progress) };
+      progress = addToken p (getD nodes x 0) role x .progress;
+    }
     unfolding gatesWritten writeToken before
     after-is = rw (added-is, role-is, x-is)
 

@@ -147,11 +147,11 @@ module _ (roles numbers : List ℕ) (start : Progress) where
 
       -- what the token adds, in the code's terms
       after-is : linesFrom i ≡ record {
-            words = before .words ++ addIfLine p role (end - i) .words;
-            entries = before .entries ++ pick (startsLine role) (slice i end numbers) [];
-            progress = addIfLine p role (end - i) .progress;
-            pending = pick (startsLine role) [] (slice i end numbers);
-          }
+        words = before .words ++ addIfLine p role (end - i) .words;
+        entries = before .entries ++ pick (startsLine role) (slice i end numbers) [];
+        progress = addIfLine p role (end - i) .progress;
+        pending = pick (startsLine role) [] (slice i end numbers);
+      }
       unfolding addOuter
       after-is =
           let a = r .from-le in
@@ -197,11 +197,11 @@ module _ (roles numbers : List ℕ) (start : Progress) where
           let bounds = end-by (startsLine role) i end outer (omega (arith, r .from-le)) (r .end-le) in
           record {
             words-are =
-            write-after words₀ words words' (width * start .next) (width * p .next) (before .words) (a .words) (r .words-are) (w .words-are) (omega arith) (omega (arith, adds .words-counted, rm .fits, r .words-kept))
-            ∙ ap (λ s. overwrite words₀ (width * start .next) (s .words)) (sym after-is);
+                write-after words₀ words words' (width * start .next) (width * p .next) (before .words) (a .words) (r .words-are) (w .words-are) (omega arith) (omega (arith, adds .words-counted, rm .fits, r .words-kept))
+                ∙ ap (λ s. overwrite words₀ (width * start .next) (s .words)) (sym after-is);
             list-is =
-            write-after list₀ list list' (start .listed) (p .listed) (before .entries) es (r .list-is) l (omega arith) (omega (arith, adds .entries-counted, ls .0, r .list-kept))
-            ∙ ap (λ s. overwrite list₀ (start .listed) (s .entries)) (sym after-is);
+                write-after list₀ list list' (start .listed) (p .listed) (before .entries) es (r .list-is) l (omega arith) (omega (arith, adds .entries-counted, ls .0, r .list-kept))
+                ∙ ap (λ s. overwrite list₀ (start .listed) (s .entries)) (sym after-is);
             progress-is = w .progress-is ∙ ap (λ s. s .progress) (sym after-is);
             waiting-are = ap (λ s. s .pending) after-is ∙ waiting-by (startsLine role) _ numbers i end refl ∙ ap (λ z. slice i z numbers) (sym e);
             from-le = omega (arith, bounds .0);

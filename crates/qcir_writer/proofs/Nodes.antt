@@ -150,7 +150,7 @@ module _ (o : List ℕ) (a : Added) (f : Progress → Added) (follows : (q : Pro
       let e : width * a .progress .next ≡ width * p .next + length (a .words) = sym (h .counted) in
       record {
         words-are =
-        write-after o m l (width * p .next) (width * a .progress .next) (a .words) (f (a .progress) .words) (u .words-are) (v2 .words-are) e (omega (arith, room .fits));
+            write-after o m l (width * p .next) (width * a .progress .next) (a .words) (f (a .progress) .words) (u .words-are) (v2 .words-are) e (omega (arith, room .fits));
         progress-is = v2 .progress-is;
       }
 

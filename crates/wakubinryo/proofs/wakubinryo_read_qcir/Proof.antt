@@ -1,0 +1,30 @@
+-- `wakubinryo::wakubinryo_read_qcir` meets its contract.
+-- Assumes nothing.
+use Rattle.wakubinryo.proofs.Answers.{reading-words, table-words}
+use borrow.Author.Needs.{needs}
+use Rattle.wakubinryo.proofs.wakubinryo_read_qcir.Statement.{statement}
+use Rattle.wakubinryo.proofs.wakubinryo_read_qcir.Tie as tie
+
+read-requires : tie.Need-read-requires
+read-requires c κs = search needs
+
+put-read-requires : tie.Need-put-read-requires
+put-read-requires c κs = search needs
+
+same-length : tie.Need-same-length
+same-length c = search needs
+
+same-length-2 : tie.Need-same-length-2
+same-length-2 c = search needs
+
+returns : tie.Need-returns
+returns c =
+    let s = c .before .before .before .before .before .before .before .before .before .before .before .before in
+    let f = c .before .before .before .before .before .read in (
+      reading-words (s .args .text .now) (s .args .words .now) (s .args .list .now) (f .result) _ _ _ (c .put-read .ensures) (f .ensures),
+      table-words (s .args .text .now) (s .args .words .now) (s .args .list .now) (f .result) _ _ _ (c .put-read .ensures) (f .ensures),
+    )
+
+pub wakubinryo-read-qcir-spec : {M : Type 1} → statement M
+wakubinryo-read-qcir-spec =
+    tie.close (tie.spec read-requires put-read-requires same-length same-length-2 returns)
