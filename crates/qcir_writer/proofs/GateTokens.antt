@@ -3,12 +3,11 @@
 use mathlib.Core.Bool.{Bool, true, false}
 use mathlib.Core.List.{List, [], _∷_, _++_, append-assoc, append-nil}
 use mathlib.Core.Path.{_≡_, refl, sym, _∙_, ap}
-use Prim.Native.Nat.{ℕ, zero, suc, _+_, _-_, _*_, _≤_}
+use Prim.Native.Nat.{ℕ, suc, _+_, _-_}
 use native.Mathlib.Omega.{arith}
 use lib.Dec.{eqb, leb}
-use lib.ListN.{length, length-append}
+use lib.ListN.{length}
 use Rattle.lists.specs.Choice.{pick, pick-yes, pick-no}
-use Rattle.formula.specs.Words.{width}
 use Rattle.formula.specs.Node.{Quantifier, exists, for-all}
 use Rattle.qcir.specs.File.{Name, Literal, Junction, conjunction, disjunction, Gate, junction-gate, xor-gate, quantified-gate, gateName, numbersOf}
 use Rattle.qcir.specs.Table.{Draft, Stored, store, storeLiteral, storeInputs, blockKind, storeBlock, junctionTable, emptyValue, storeGate, storeGates}
@@ -37,7 +36,6 @@ use Rattle.qcir_writer.specs.Nodes.{
   begun,
   lengthened,
   moved,
-  readied,
   addNone,
   addNode,
   andThen,
@@ -57,7 +55,7 @@ use Rattle.qcir_writer.specs.Nodes.{
   tokenEntries,
 }
 use Rattle.qcir_writer.specs.Passes.{Writing, gatesAfter, writeToken}
-use Rattle.qcir_writer.proofs.Nodes.{Follows, follows-none, follows-node, follows-literal, follows-join, follows-input, follows-block, follows-then, follows-use}
+use Rattle.qcir_writer.proofs.Nodes.{follows-input, follows-use}
 use Rattle.qcir_writer.proofs.Roles.{definition-not-last, bound-not-last, entries-definition, entries-bound, entries-use}
 use Rattle.qcir_writer.proofs.Gates.{Counted, counted-token}
 use Rattle.qcir_writer.proofs.Stored.{withAdded, Aligned, aligned-after, with-node, with-none, with-then, with-literal, with-input, storeJoined}

@@ -9,13 +9,13 @@ use native.Mathlib.Numerals.{add-one}
 use lib.Dec.{eqb, leb}
 use lib.ListN.{length, getD, set, length-append, length-set}
 use borrow.Author.Tests.{leb-true, leb-false}
-use Rattle.lists.specs.Choice.{Is, is-true, is-false, look, pick, pick-yes, pick-no}
+use Rattle.lists.specs.Choice.{Is, is-true, is-false, look, pick}
 use Rattle.lists.specs.Parts.{overwrite}
 use Rattle.lists.proofs.Overwrite.{overwrite-nil}
 use Rattle.lists.proofs.Stores.{getD-set}
 use Rattle.formula.specs.Words.{width}
 use Rattle.table_check.specs.Verdict.{limit}
-use Rattle.qcir.specs.Table.{Draft, emptyDraft}
+use Rattle.qcir.specs.Table.{emptyDraft}
 use Rattle.qcir_tokens.specs.Tokens.{isDefinition, isBound, isLast}
 use Rattle.qcir_tokens.specs.Held.{numberCount}
 use Rattle.qcir_writer.specs.declared.Progress.{Progress}
@@ -118,7 +118,7 @@ module _ (roles numbers : List ℕ) (first : ℕ) where
   -- There is room for what n tokens store.
   pub record Fits (n : ℕ) (words list : List ℕ) : Type 0 where
     pub words-fit : length (gatesWritten roles numbers first n .draft .words) ≤ length words
-    pub few-words : length (gatesWritten roles numbers first n .draft .words) ≤ 4 * limit
+    pub few-words : length (gatesWritten roles numbers first n .draft .words) ≤ width * limit
     pub list-fits : length (gatesWritten roles numbers first n .draft .entries) ≤ length list
     pub few-entries : length (gatesWritten roles numbers first n .draft .entries) ≤ limit
 

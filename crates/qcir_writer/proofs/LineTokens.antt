@@ -3,7 +3,7 @@
 use mathlib.Core.Bool.{Bool, true, false}
 use mathlib.Core.List.{List, [], _∷_, _++_, append-assoc, append-nil}
 use mathlib.Core.Path.{_≡_, refl, sym, _∙_, ap, subst}
-use Prim.Native.Nat.{ℕ, zero, suc, _+_, _*_}
+use Prim.Native.Nat.{ℕ, _+_, _*_}
 use native.Mathlib.Omega.{arith}
 use lib.ListN.{length, length-append}
 use Rattle.lists.specs.Choice.{pick, pick-yes, pick-no}
@@ -13,7 +13,7 @@ use Rattle.qcir.specs.File.{Name, Line, lineVariables, numbersOf}
 use Rattle.qcir.specs.Table.{Draft, Stored, store, blockKind, storeBlock, storePrefix}
 use Rattle.qcir_tokens.specs.Tokens.{Token, token, freeRole, lineRole, laterRole, listTokens, freeTokens, prefixTokens}
 use Rattle.qcir_writer.specs.declared.Progress.{Progress}
-use Rattle.qcir_writer.specs.Nodes.{Added, moved, lengthened, addNone}
+use Rattle.qcir_writer.specs.Nodes.{moved, lengthened, addNone}
 use Rattle.qcir_writer.specs.Passes.{startsLine, lineBlockKind, addLine, addIfLine, Lines, addOuter}
 use Rattle.qcir_writer.proofs.Stored.{node-count}
 

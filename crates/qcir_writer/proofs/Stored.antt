@@ -1,18 +1,18 @@
 -- What is added is what the definition of the table stores.
 -- Assumes nothing.
 use mathlib.Core.Bool.{Bool, true, false}
-use mathlib.Core.List.{List, [], _∷_, _++_, append-assoc, append-nil}
-use mathlib.Core.Path.{_≡_, refl, sym, _∙_, ap}
+use mathlib.Core.List.{List, [], _++_, append-assoc, append-nil}
+use mathlib.Core.Path.{_≡_, _∙_, ap}
 use Prim.Native.Nat.{ℕ, _+_, _-_, _*_}
 use native.Mathlib.Omega.{arith}
 use lib.Dec.{eqb}
 use lib.ListN.{length, length-append}
 use Rattle.lists.specs.Choice.{pick}
 use Rattle.formula.specs.Words.{width, nodeCount}
-use Rattle.qcir.specs.File.{Name, Literal}
+use Rattle.qcir.specs.File.{Literal}
 use Rattle.qcir.specs.Table.{Draft, Stored, store, storeName, storeLiteral}
 use Rattle.qcir_writer.specs.declared.Progress.{Progress}
-use Rattle.qcir_writer.specs.Nodes.{Added, moved, readied, addNone, addNode, andThen, addName, addMinus, addLiteral, joinTable, addJoin, addInput}
+use Rattle.qcir_writer.specs.Nodes.{Added, moved, readied, addNode, andThen, addName, addMinus, addLiteral, joinTable, addJoin, addInput}
 use Rattle.qcir_writer.proofs.Nodes.{Follows, follows-name, follows-literal}
 
 -- A draft with what is added to it.

@@ -3,19 +3,17 @@
 use mathlib.Core.Bool.{Bool, true, false, not, _&&_}
 use mathlib.Core.List.{List, [], _∷_, _++_, append-assoc}
 use mathlib.Core.Path.{_≡_, refl, sym, _∙_, ap, subst}
-use Prim.Native.Nat.{ℕ, zero, suc, _+_, _-_, _*_, _≤_, _<_}
+use Prim.Native.Nat.{ℕ, zero, suc, _+_, _-_, _≤_, _<_}
 use native.Mathlib.Nat.{add-zero}
 use native.Mathlib.Omega.{arith}
 use lib.Dec.{eqb}
-use lib.ListN.{length, getD, length-append}
+use lib.ListN.{length, getD}
 use borrow.Author.Tests.{eqb-true, eqb-false}
 use Rattle.lists.specs.Choice.{Is, is-true, is-false, look, and-left, and-right, and-both}
-use Rattle.lists.specs.Search.{lowest}
 use Rattle.lists.proofs.Search.{lowest-is}
-use Rattle.formula.specs.Words.{width, nodeCount}
 use Rattle.formula.specs.Node.{Quantifier, exists, for-all}
-use Rattle.qcir.specs.File.{Name, Literal, Line, File}
-use Rattle.qcir.specs.Table.{Draft, Stored, emptyDraft, storeLiteral, storeGates, storePrefix, fileDraft, tableWords, tableList}
+use Rattle.qcir.specs.File.{Name, Line, File}
+use Rattle.qcir.specs.Table.{emptyDraft, storeLiteral, storeGates, storePrefix, fileDraft, tableWords, tableList}
 use Rattle.qcir_tokens.specs.Tokens.{
   Token,
   token,
@@ -38,9 +36,9 @@ use Rattle.qcir_writer.specs.Nodes.{Added, addLiteral}
 use Rattle.qcir_writer.specs.Passes.{noProgress, Writing, writeToken, gatesWritten, outputIndex, Lines, addOuter, linesWritten}
 use Rattle.qcir_writer.proofs.Nodes.{follows-literal}
 use Rattle.qcir_writer.proofs.Gates.{Counted, counted-start, counted}
-use Rattle.qcir_writer.proofs.Stored.{withAdded, Aligned, aligned-after, with-literal}
-use Rattle.qcir_writer.proofs.GateTokens.{writeTokens, counted-tokens, gates-law}
-use Rattle.qcir_writer.proofs.LineTokens.{addOuters, outers-append, noLines, withLines, free-law, PrefixStored, prefix-law}
+use Rattle.qcir_writer.proofs.Stored.{withAdded, aligned-after, with-literal}
+use Rattle.qcir_writer.proofs.GateTokens.{writeTokens, gates-law}
+use Rattle.qcir_writer.proofs.LineTokens.{addOuters, outers-append, noLines, withLines, free-law, prefix-law}
 
 -- Outer tokens.
 unfoldable allOuter : List Token → Bool

@@ -1,13 +1,13 @@
 -- The table written: room for each of its parts, and the parts written one after the other.
 -- Assumes nothing.
 use mathlib.Core.List.{List, _++_}
-use mathlib.Core.Path.{_≡_, refl, sym, _∙_, ap, subst}
+use mathlib.Core.Path.{_≡_, sym, _∙_, ap, subst}
 use Prim.Native.Nat.{ℕ, _+_, _-_, _*_, _≤_, _<_}
 use native.Mathlib.Omega.{arith}
 use lib.ListN.{length, getD, replicate, length-replicate, length-append}
 use Rattle.lists.specs.Parts.{overwrite}
 use Rattle.lists.proofs.Stores.{getD-filled}
-use Rattle.formula.specs.Words.{width, nodeCount}
+use Rattle.formula.specs.Words.{width}
 use Rattle.table_check.specs.Verdict.{limit}
 use Rattle.qcir.specs.File.{File}
 use Rattle.qcir.specs.Table.{tableWords, tableList}
@@ -18,8 +18,8 @@ use Rattle.qcir_writer.specs.Nodes.{Added, addLiteral, Room, Wrote}
 use Rattle.qcir_writer.specs.Passes.{Writing, gatesWritten, outputIndex, Lines, linesWritten, NodesOf}
 use Rattle.qcir_writer.specs.Writable.{Writable}
 use Rattle.qcir_writer.proofs.Appending.{write-after}
-use Rattle.qcir_writer.proofs.Nodes.{Follows, follows-literal}
-use Rattle.qcir_writer.proofs.Gates.{Counted, counted}
+use Rattle.qcir_writer.proofs.Nodes.{follows-literal}
+use Rattle.qcir_writer.proofs.Gates.{counted}
 use Rattle.qcir_writer.proofs.Lines.{lines-counted}
 use Rattle.qcir_writer.proofs.Table.{TableParts, table-parts}
 
@@ -85,7 +85,7 @@ module _ (roles numbers : List ℕ) (count k : ℕ) where
       }
 
   module _ (words list : List ℕ) (h : Enough words list) where
-    pub gates-words-room : (length (gates .draft .words) ≤ length words) × (length (gates .draft .words) ≤ 4 * limit)
+    pub gates-words-room : (length (gates .draft .words) ≤ length words) × (length (gates .draft .words) ≤ width * limit)
     gates-words-room =
         let s = sizes in
         (omega (arith, s .gates-words, s .output-words, s .lines-words, h .words-fit), omega (arith, s .gates-words, s .output-words, s .lines-words, h .few-nodes))

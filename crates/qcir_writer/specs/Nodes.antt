@@ -74,7 +74,7 @@ addInput p g x minus = andThen (addLiteral p g x minus) (addJoin (p .ready) (p .
 
 -- The constant that a gate without inputs is, by the role of its definition.
 unfoldable pub emptyConstant : ℕ → ℕ
-emptyConstant kind = pick (eqb kind 13) 1 0
+emptyConstant kind = pick (eqb kind 14) 0 1
 
 -- What an input, or the end of a gate without inputs, adds, before the gate is closed.
 unfoldable pub addOperand : Progress → ℕ → ℕ → ℕ → Added

@@ -3,13 +3,11 @@
 use mathlib.Core.Bool.{Bool, false, not, _&&_}
 use mathlib.Core.List.{List, [], _∷_, _++_}
 use mathlib.Core.Path.{_≡_}
-use Prim.Native.Nat.{ℕ, zero, suc, _+_, _≤_}
+use Prim.Native.Nat.{ℕ, zero, suc, _+_}
 use lib.Dec.{eqb, leb}
 use lib.ListN.{length, getD}
 use Rattle.lists.specs.Choice.{pick}
-use Rattle.lists.specs.Parts.{overwrite}
 use Rattle.lists.specs.Search.{lowest}
-use Rattle.table_check.specs.Verdict.{limit}
 use Rattle.qcir.specs.Table.{Draft, emptyDraft}
 use Rattle.qcir_tokens.specs.Tokens.{isOuter, isLast}
 use Rattle.qcir_tokens.specs.Held.{numberCount}

@@ -1,6 +1,5 @@
 // Writes the formula table of a QCIR file from its tokens: the gate lines in the order of the
 // tokens, then the output, then the prefix lines as blocks, the last line first.
-ghost use mathlib.Core.Bool.{not};
 ghost use mathlib.Core.List.{List, []};
 ghost use mathlib.Core.Path.{_≡_};
 ghost use Prim.Native.Nat.{ℕ, _+_, _-_, _*_, _≤_, _<_};
@@ -42,7 +41,7 @@ ghost use Rattle.qcir_writer.specs.Passes.{
   linesWritten,
   NodesOf,
 };
-ghost use Rattle.qcir_writer.specs.Writable.{Writable, tokenLimit};
+ghost use Rattle.qcir_writer.specs.Writable.{Writable};
 use formula::CONSTANT;
 use formula::EXISTS_BLOCK;
 use formula::FOR_ALL_BLOCK;
@@ -63,6 +62,9 @@ use qcir_tokens::is_last;
 use qcir_tokens::is_minus;
 use qcir_tokens::is_outer;
 
+// The role of a for-all line's only variable, the highest of those that start a line.
+const FOR_ALL_LINE_LAST: u8 = 8;
+
 // The truth tables of the operators that are written.
 const AND: u32 = 8;
 
@@ -71,19 +73,19 @@ const OR: u32 = 14;
 const XOR: u32 = 6;
 
 // How far the writing has come, and the gate line that is being written.
-pub struct Progress {
+struct Progress {
     // the index of the next node, and of the next list entry
-    pub next: u32,
-    pub listed: u32,
+    next: u32,
+    listed: u32,
     // the node that stands for what was stored last
-    pub node: u32,
+    node: u32,
     // the role of the gate's definition, and the gate's number
-    pub kind: u8,
-    pub gate: u16,
+    kind: u8,
+    gate: u16,
     // whether an input of the gate is stored
-    pub ready: bool,
+    ready: bool,
     // the first entry of the gate's variables
-    pub first: u32,
+    first: u32,
 }
 
 // Writes one node.
@@ -116,10 +118,10 @@ fn write_minus(words: &mut [u32], p: Progress, minus: bool) -> Progress
     requires { ⌜ Room (now words) (addMinus minus p) ⌝ }
     ensures { λ r. ⌜ Wrote (now (words .entry)) p (addMinus minus p) (now (words .exit)) r ⌝ }
 {
-    if minus {
-        return write_node(words, p, NEGATION, p.node, 0, 0);
+    if !minus {
+        return p;
     }
-    p
+    write_node(words, p, NEGATION, p.node, 0, 0)
 }
 
 // Writes an input or the output: its name, and its not.
@@ -170,10 +172,10 @@ fn write_input(words: &mut [u32], p: Progress, gate: u32, x: u32, minus: bool) -
 fn empty_constant(kind: u8) -> u32
     ensures { λ r. ⌜ r ≡ emptyConstant kind ⌝ }
 {
-    if kind == AND_GATE {
-        return 1;
+    if kind == OR_GATE {
+        return 0;
     }
-    0
+    1
 }
 
 // Writes an input, or the constant of a gate without inputs.
@@ -279,7 +281,7 @@ fn write_gates(
 ) -> Progress
     requires { ⌜ (first ≤ count) × (count ≤ length (now roles)) × (count ≤ length (now numbers)) ⌝ }
     requires { ⌜ NodesOf (now nodes) (λ x. 0) ⌝ }
-    requires { ⌜ (length (gatesWritten (now roles) (now numbers) first (count - first) .draft .words) ≤ length (now words)) × (length (gatesWritten (now roles) (now numbers) first (count - first) .draft .words) ≤ 4 * limit) ⌝ }
+    requires { ⌜ (length (gatesWritten (now roles) (now numbers) first (count - first) .draft .words) ≤ length (now words)) × (length (gatesWritten (now roles) (now numbers) first (count - first) .draft .words) ≤ width * limit) ⌝ }
     requires { ⌜ (length (gatesWritten (now roles) (now numbers) first (count - first) .draft .entries) ≤ length (now list)) × (length (gatesWritten (now roles) (now numbers) first (count - first) .draft .entries) ≤ limit) ⌝ }
     ensures { λ r. ⌜ now (words .exit) ≡ overwrite (now (words .entry)) 0 (gatesWritten (now (roles .entry)) (now (numbers .entry)) first (count - first) .draft .words) ⌝ }
     ensures { λ r. ⌜ now (list .exit) ≡ overwrite (now (list .entry)) 0 (gatesWritten (now (roles .entry)) (now (numbers .entry)) first (count - first) .draft .entries) ⌝ }
@@ -322,7 +324,7 @@ fn output_index(roles: &[u8], count: usize) -> usize
 fn starts_line(role: u8) -> bool
     ensures { λ r. ⌜ r ≡ startsLine role ⌝ }
 {
-    (5 <= role) & (role <= 8)
+    (EXISTS_LINE <= role) & (role <= FOR_ALL_LINE_LAST)
 }
 
 // The kind of a prefix line's block.

@@ -1,13 +1,13 @@
 -- `qcir_writer::copy_numbers` meets its contract. The loop's invariant: the numbers from i up to k are copied. The measure is how many are left.
 -- Assumes nothing.
-use mathlib.Core.Path.{_≡_, refl, sym, _∙_}
-use Prim.Native.Nat.{_+_, _-_, _≤_}
-use lib.ListN.{length, getD, length-set}
+use mathlib.Core.Path.{_≡_, refl}
+use Prim.Native.Nat.{_-_, _≤_}
+use native.Mathlib.Omega.{arith}
+use lib.ListN.{length, length-set}
 use lib.Seq.{slice}
+use borrow.Author.Needs.{needs}
 use Rattle.lists.specs.Parts.{overwrite}
 use Rattle.qcir_writer.proofs.Appending.{copy-start, copy-next}
-use borrow.Author.Needs.{needs}
-use native.Mathlib.Omega.{arith}
 use Rattle.qcir_writer.proofs.copy_numbers.Statement.{statement}
 use Rattle.qcir_writer.proofs.copy_numbers.Tie as tie
 

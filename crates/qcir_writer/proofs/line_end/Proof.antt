@@ -1,8 +1,8 @@
 -- `qcir_writer::line_end` meets its contract.
 -- Assumes nothing.
 use mathlib.Core.Path.{sym, _∙_}
-use Rattle.lists.specs.Choice.{pick-yes, pick-no}
 use borrow.Author.Needs.{needs}
+use Rattle.lists.specs.Choice.{pick-yes, pick-no}
 use Rattle.qcir_writer.proofs.line_end.Statement.{statement}
 use Rattle.qcir_writer.proofs.line_end.Tie as tie
 

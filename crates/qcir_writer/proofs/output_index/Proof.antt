@@ -1,15 +1,15 @@
 -- `qcir_writer::output_index` meets its contract. The loop's invariant: the tokens before token i are outer ones. The measure is how many are left.
 -- Assumes nothing.
 use mathlib.Core.Path.{_≡_, sym, _∙_, ap}
-use mathlib.Core.Bool.{true, false, not}
+use mathlib.Core.Bool.{false, not}
 use Prim.Native.Nat.{ℕ, _-_, _≤_, _<_}
+use native.Mathlib.Omega.{arith}
 use lib.ListN.{getD}
 use borrow.Author.Count.{below-more}
+use borrow.Author.Needs.{needs}
 use Rattle.lists.proofs.Search.{lowest-is, lowest-none}
 use Rattle.qcir_tokens.specs.Tokens.{isOuter}
 use Rattle.qcir_writer.specs.Passes.{outputIndex}
-use borrow.Author.Needs.{needs}
-use native.Mathlib.Omega.{arith}
 use Rattle.qcir_writer.proofs.output_index.Statement.{statement}
 use Rattle.qcir_writer.proofs.output_index.Tie as tie
 

@@ -1,9 +1,9 @@
 -- `qcir_writer::write_block` meets its contract: a node where the gate is quantified.
 -- Assumes nothing.
 use borrow.Author.Tests.{le-leb, lt-leb}
-use Rattle.qcir_writer.proofs.Nodes.{room-yes, wrote-yes, wrote-no, wrote-none}
-use Rattle.qcir_writer.specs.Nodes.{addBlock}
 use borrow.Author.Needs.{needs}
+use Rattle.qcir_writer.specs.Nodes.{addBlock}
+use Rattle.qcir_writer.proofs.Nodes.{room-yes, wrote-yes, wrote-no, wrote-none}
 use Rattle.qcir_writer.proofs.write_block.Statement.{statement}
 use Rattle.qcir_writer.proofs.write_block.Tie as tie
 

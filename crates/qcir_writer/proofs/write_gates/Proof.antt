@@ -2,10 +2,9 @@
 -- Assumes nothing.
 use mathlib.Core.Path.{_≡_, sym, _∙_}
 use Prim.Native.Nat.{suc, _+_, _-_, _≤_}
-use lib.ListN.{length}
-use Rattle.qcir_writer.proofs.Gates.{fits-less, Reached, reached-start, token-room, token-listed, reached-token, from-first}
-use borrow.Author.Needs.{needs}
 use native.Mathlib.Omega.{arith}
+use borrow.Author.Needs.{needs}
+use Rattle.qcir_writer.proofs.Gates.{fits-less, Reached, reached-start, token-room, token-listed, reached-token, from-first}
 use Rattle.qcir_writer.proofs.write_gates.Statement.{statement}
 use Rattle.qcir_writer.proofs.write_gates.Tie as tie
 

@@ -1,8 +1,8 @@
 -- `qcir_writer::write_input` meets its contract: the input, then the operator.
 -- Assumes nothing.
-use Rattle.qcir_writer.proofs.Nodes.{follows-literal, follows-join, room-first, room-second, wrote-then}
-use Rattle.qcir_writer.specs.Nodes.{addInput, addJoin}
 use borrow.Author.Needs.{needs}
+use Rattle.qcir_writer.specs.Nodes.{addInput}
+use Rattle.qcir_writer.proofs.Nodes.{follows-literal, follows-join, room-first, room-second, wrote-then}
 use Rattle.qcir_writer.proofs.write_input.Statement.{statement}
 use Rattle.qcir_writer.proofs.write_input.Tie as tie
 

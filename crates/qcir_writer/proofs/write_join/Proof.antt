@@ -1,8 +1,8 @@
 -- `qcir_writer::write_join` meets its contract: an operator from the second input on.
 -- Assumes nothing.
-use Rattle.qcir_writer.proofs.Nodes.{room-yes, wrote-yes, wrote-no, wrote-none}
-use Rattle.qcir_writer.specs.Nodes.{addJoin}
 use borrow.Author.Needs.{needs}
+use Rattle.qcir_writer.specs.Nodes.{addJoin}
+use Rattle.qcir_writer.proofs.Nodes.{room-yes, wrote-yes, wrote-no, wrote-none}
 use Rattle.qcir_writer.proofs.write_join.Statement.{statement}
 use Rattle.qcir_writer.proofs.write_join.Tie as tie
 

@@ -1,7 +1,7 @@
 -- `qcir_writer::write_line` meets its contract: the entries, then the block.
 -- Assumes nothing.
-use Rattle.qcir_writer.proofs.Lines.{line-wrote}
 use borrow.Author.Needs.{needs}
+use Rattle.qcir_writer.proofs.Lines.{line-wrote}
 use Rattle.qcir_writer.proofs.write_line.Statement.{statement}
 use Rattle.qcir_writer.proofs.write_line.Tie as tie
 

@@ -1,10 +1,10 @@
 -- `qcir_writer::write_lines` meets its contract. The loop's invariant: what the tokens from token i on add is written. The measure is how many tokens are left.
 -- Assumes nothing.
-use mathlib.Core.Path.{_≡_, refl}
-use Prim.Native.Nat.{suc, _-_, _≤_}
-use Rattle.qcir_writer.proofs.Lines.{Reached, Fits, reached-start, outer-room, outer-listed, reached-outer, reached-end}
-use borrow.Author.Needs.{needs}
+use mathlib.Core.Path.{_≡_}
+use Prim.Native.Nat.{suc, _-_}
 use native.Mathlib.Omega.{arith}
+use borrow.Author.Needs.{needs}
+use Rattle.qcir_writer.proofs.Lines.{Reached, Fits, reached-start, outer-room, outer-listed, reached-outer, reached-end}
 use Rattle.qcir_writer.proofs.write_lines.Statement.{statement}
 use Rattle.qcir_writer.proofs.write_lines.Tie as tie
 

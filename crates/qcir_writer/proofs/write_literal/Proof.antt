@@ -1,8 +1,8 @@
 -- `qcir_writer::write_literal` meets its contract: the name, then its not.
 -- Assumes nothing.
-use Rattle.qcir_writer.proofs.Nodes.{follows-name, follows-minus, room-first, room-second, wrote-then}
-use Rattle.qcir_writer.specs.Nodes.{addLiteral, addMinus}
 use borrow.Author.Needs.{needs}
+use Rattle.qcir_writer.specs.Nodes.{addLiteral}
+use Rattle.qcir_writer.proofs.Nodes.{follows-name, follows-minus, room-first, room-second, wrote-then}
 use Rattle.qcir_writer.proofs.write_literal.Statement.{statement}
 use Rattle.qcir_writer.proofs.write_literal.Tie as tie
 

@@ -1,25 +1,26 @@
 -- `qcir_writer::write_minus` meets its contract: a node where there is a minus sign.
 -- Assumes nothing.
-use Rattle.qcir_writer.proofs.Nodes.{room-yes, wrote-yes, wrote-no, wrote-none}
-use Rattle.qcir_writer.specs.Nodes.{addMinus}
 use borrow.Author.Needs.{needs}
+use borrow.Author.Tests.{not-true, not-false}
+use Rattle.qcir_writer.specs.Nodes.{addMinus}
+use Rattle.qcir_writer.proofs.Nodes.{room-yes, wrote-yes, wrote-no, wrote-none}
 use Rattle.qcir_writer.proofs.write_minus.Statement.{statement}
 use Rattle.qcir_writer.proofs.write_minus.Tie as tie
 
+returns : tie.Need-returns
+unfolding addMinus
+returns c = wrote-no _ _ _ _ _ _ _ (not-true _ (c .if1 .taken)) (wrote-none _ _ _)
+
 write-node-requires : tie.Need-write-node-requires
 unfolding addMinus
-write-node-requires c κs = room-yes _ _ _ _ (c .before .if1 .taken) (c .before .before .before .pre)
+write-node-requires c κs = room-yes _ _ _ _ (not-false _ (c .before .if1 .left)) (c .before .before .before .pre)
 
 same-length : tie.Need-same-length
 same-length c = search needs
 
-returns : tie.Need-returns
-unfolding addMinus
-returns c = wrote-yes _ _ _ _ _ _ _ (c .before .before .before .before .if1 .taken) (c .before .before .write-node .ensures)
-
 returns-2 : tie.Need-returns-2
 unfolding addMinus
-returns-2 c = wrote-no _ _ _ _ _ _ _ (c .if1 .left) (wrote-none _ _ _)
+returns-2 c = wrote-yes _ _ _ _ _ _ _ (not-false _ (c .before .before .before .before .if1 .left)) (c .before .before .write-node .ensures)
 
 pub write-minus-spec : {M : Type 1} → statement M
-write-minus-spec = tie.close (tie.spec write-node-requires same-length returns returns-2)
+write-minus-spec = tie.close (tie.spec returns write-node-requires same-length returns-2)

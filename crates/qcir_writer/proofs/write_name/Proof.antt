@@ -1,9 +1,9 @@
 -- `qcir_writer::write_name` meets its contract: a node for a variable, none for a gate.
 -- Assumes nothing.
 use borrow.Author.Tests.{eq-eqb, ne-eqb}
-use Rattle.qcir_writer.proofs.Nodes.{room-yes, wrote-yes, wrote-no, wrote-none}
-use Rattle.qcir_writer.specs.Nodes.{addName}
 use borrow.Author.Needs.{needs}
+use Rattle.qcir_writer.specs.Nodes.{addName}
+use Rattle.qcir_writer.proofs.Nodes.{room-yes, wrote-yes, wrote-no, wrote-none}
 use Rattle.qcir_writer.proofs.write_name.Statement.{statement}
 use Rattle.qcir_writer.proofs.write_name.Tie as tie
 

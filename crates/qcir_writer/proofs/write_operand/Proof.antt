@@ -1,9 +1,9 @@
 -- `qcir_writer::write_operand` meets its contract: a constant, or an input.
 -- Assumes nothing.
 use borrow.Author.Tests.{eq-eqb, ne-eqb}
-use Rattle.qcir_writer.proofs.Nodes.{room-yes, room-no, wrote-yes, wrote-no}
-use Rattle.qcir_writer.specs.Nodes.{addOperand}
 use borrow.Author.Needs.{needs}
+use Rattle.qcir_writer.specs.Nodes.{addOperand}
+use Rattle.qcir_writer.proofs.Nodes.{room-yes, room-no, wrote-yes, wrote-no}
 use Rattle.qcir_writer.proofs.write_operand.Statement.{statement}
 use Rattle.qcir_writer.proofs.write_operand.Tie as tie
 

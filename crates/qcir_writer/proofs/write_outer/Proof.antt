@@ -1,14 +1,14 @@
 -- `qcir_writer::write_outer` meets its contract: a block where a line starts.
 -- Assumes nothing.
 use mathlib.Core.Path.{sym, _∙_, ap}
-use Rattle.lists.specs.Choice.{pick-yes, pick-no}
-use Rattle.qcir_writer.proofs.Nodes.{room-yes, wrote-yes, wrote-no, wrote-none}
-use Rattle.qcir_writer.proofs.Roles.{list-none}
 use Prim.Native.Nat.{_-_}
+use native.Mathlib.Omega.{arith}
+use borrow.Author.Needs.{needs}
+use Rattle.lists.specs.Choice.{pick-yes, pick-no}
 use Rattle.qcir_writer.specs.Passes.{addLine, addIfLine}
 use Rattle.qcir_writer.specs.Nodes.{addNone}
-use borrow.Author.Needs.{needs}
-use native.Mathlib.Omega.{arith}
+use Rattle.qcir_writer.proofs.Nodes.{room-yes, wrote-yes, wrote-no, wrote-none}
+use Rattle.qcir_writer.proofs.Roles.{list-none}
 use Rattle.qcir_writer.proofs.write_outer.Statement.{statement}
 use Rattle.qcir_writer.proofs.write_outer.Tie as tie
 

@@ -1,8 +1,7 @@
 -- `qcir_writer::write_output` meets its contract.
 -- Assumes nothing.
-use Rattle.qcir_writer.proofs.Nodes.{follows-literal}
-use borrow.Author.Needs.{needs}
 use native.Mathlib.Omega.{arith}
+use borrow.Author.Needs.{needs}
 use Rattle.qcir_writer.proofs.write_output.Statement.{statement}
 use Rattle.qcir_writer.proofs.write_output.Tie as tie
 

@@ -1,9 +1,9 @@
 -- `qcir_writer::write_table` meets its contract: the gate lines, the output and the prefix lines, one after the other.
 -- Assumes nothing.
-use mathlib.Core.Path.{refl, sym, _∙_}
-use Rattle.qcir_writer.proofs.Whole.{no-gates, enough, gates-words-room, gates-list-room, output-room, lines-words-room, lines-list-room, table-written}
-use borrow.Author.Needs.{needs}
+use mathlib.Core.Path.{refl}
 use native.Mathlib.Omega.{arith}
+use borrow.Author.Needs.{needs}
+use Rattle.qcir_writer.proofs.Whole.{no-gates, enough, gates-words-room, gates-list-room, output-room, lines-words-room, lines-list-room, table-written}
 use Rattle.qcir_writer.proofs.write_table.Statement.{statement}
 use Rattle.qcir_writer.proofs.write_table.Tie as tie
 

@@ -1,13 +1,13 @@
 -- `qcir_writer::write_token` meets its contract, by the token's role.
 -- Assumes nothing.
 use mathlib.Core.Path.{sym, _∙_, ap}
+use native.Mathlib.Omega.{arith}
 use lib.ListN.{length}
+use borrow.Author.Needs.{needs}
 use Rattle.lists.specs.Choice.{pick-no}
+use Rattle.qcir_writer.specs.Nodes.{addToken}
 use Rattle.qcir_writer.proofs.Roles.{definition-not-last, bound-not-last, entries-definition, entries-bound, entries-use, list-none, list-one}
 use Rattle.qcir_writer.proofs.Nodes.{room-no, wrote-yes, wrote-no, wrote-none}
-use Rattle.qcir_writer.specs.Nodes.{addToken}
-use borrow.Author.Needs.{needs}
-use native.Mathlib.Omega.{arith}
 use Rattle.qcir_writer.proofs.write_token.Statement.{statement}
 use Rattle.qcir_writer.proofs.write_token.Tie as tie
 

@@ -1,12 +1,12 @@
 -- `qcir_writer::write_use` meets its contract: what the token adds, and at the last one the gate's block and node.
 -- Assumes nothing.
 use mathlib.Core.Path.{sym, _∙_}
-use borrow.Author.Tests.{not-true, not-false}
-use Rattle.lists.specs.Choice.{pick-yes, pick-no}
-use Rattle.qcir_writer.proofs.Nodes.{follows-operand, follows-end, room-first, room-second, room-yes, wrote-then, wrote-yes, wrote-no, wrote-none, first-le, closed-small}
-use Rattle.qcir_writer.specs.Nodes.{addUse, addEnd}
-use borrow.Author.Needs.{needs}
 use native.Mathlib.Omega.{arith}
+use borrow.Author.Tests.{not-true, not-false}
+use borrow.Author.Needs.{needs}
+use Rattle.lists.specs.Choice.{pick-yes, pick-no}
+use Rattle.qcir_writer.specs.Nodes.{addUse, addEnd}
+use Rattle.qcir_writer.proofs.Nodes.{follows-operand, follows-end, room-first, room-second, room-yes, wrote-then, wrote-yes, wrote-no, wrote-none, first-le, closed-small}
 use Rattle.qcir_writer.proofs.write_use.Statement.{statement}
 use Rattle.qcir_writer.proofs.write_use.Tie as tie
 
