@@ -8,14 +8,14 @@ use native.Mathlib.Nat.{div-add-mod, mul-add-mod-self-left, mul-add-div, mod-eq-
 use native.Mathlib.Omega.{arith}
 use lib.Dec.{eqb, leb, ltb}
 use lib.ListN.{length, getD}
-use borrow.Author.Tests.{eqb-true, leb-true, ltb-true, lt-leb, not-true}
-use Rattle.lists.specs.Choice.{pick, pick-yes, pick-no, Is, is-true, is-false, look, clash, and-left, and-right, or-cases}
+use borrow.Author.Tests.{eqb-true, leb-true, ltb-true, le-leb, lt-leb, lt-ltb, not-true}
+use Rattle.lists.specs.Choice.{pick, clash, and-left, and-right, and-both, or-cases}
 use Rattle.lists.specs.Members.{mem}
 use Rattle.qcir.specs.Spelling.{isSpace, isDigit}
 use Rattle.qcir_text.specs.Machine.{Place, dead, heading, headed, padded, counted, ready, inside, digits, comment, row, arrow, points, rowAt, arrowOf, someBegins, same, begins, isDead, isDone}
 use Rattle.qcir_scan.specs.Places.{places, placeOf, spares, spare}
-use Rattle.qcir_scan.specs.Tables.{moves, columns, weights, entryAt}
-use Rattle.qcir_scan.specs.Held.{numberAfter}
+use Rattle.qcir_scan.specs.Tables.{moves, columns, entryAt}
+use Rattle.qcir_scan.specs.Held.{InName}
 use Rattle.qcir_scan.proofs.Effects.{Effect, effectAt, wordEffect, endEffect, betweenEffect}
 use Rattle.qcir_scan.proofs.Alike.{marks, agree, agreed, alike, headMarked, alike-effect, alike-digit}
 use Rattle.qcir_scan.proofs.Every.{every, at}
@@ -100,16 +100,30 @@ same-effects f g h =
 unfoldable pub tokenBytes : ℕ → ℕ
 tokenBytes e = pick (eqb (e / 256) 0 || leb 25 (e / 256)) 0 2
 
--- The next place has a number, and what a run to it takes besides the bytes of tokens is not more than one byte more; what is done
--- has a weight.
+-- The next place has a number, and what a run to it takes besides the bytes of tokens is not more than one byte more.
 unfoldable pub spared : ℕ → ℕ → Bool
-spared i e = ltb (e % 256) 124 && (leb (spare (e % 256) + tokenBytes e) (spare i + 1) && ltb (e / 256) 27)
+spared i e = ltb (e % 256) 124 && leb (spare (e % 256) + tokenBytes e) (spare i + 1)
+
+-- The place is within a name or right after it.
+unfoldable pub inName : ℕ → Bool
+inName i = leb 59 i && ltb i 74
+
+-- What belongs to a name is a digit, and leads into the name.
+unfoldable pub named : ℕ → ℕ → Bool
+named b e = leb (e / 256) 24 || (isDigit b && inName (e % 256))
+
+-- A digit within a name goes on with it.
+unfoldable pub further : ℕ → ℕ → ℕ → Bool
+further i b e = not (inName i && isDigit b) || eqb e (6656 + i)
+
+unfoldable pub rightAt : ℕ → ℕ → ℕ → Bool
+rightAt i b e = sameEffect (effectAt (placeOf i) b) (effectOf e) && (spared i e && (named b e && further i b e))
 
 unfoldable pub right : ℕ → ℕ → Bool
-right n e = sameEffect (effectAt (placeOf (n % 124)) (getD samples (n / 124) 0)) (effectOf e) && (spared (n % 124) e && (leb (e / 256) 24 || isDigit (getD samples (n / 124) 0)))
+right n e = rightAt (n % 124) (getD samples (n / 124) 0) e
 
 all-right : every right 0 moves ≡ true
-unfolding right sameEffect spared tokenBytes effectOf code samples moves places placeOf spares spare effectAt wordEffect endEffect betweenEffect pick isSpace isDigit row arrow points rowAt arrowOf someBegins same begins
+unfolding right rightAt sameEffect spared inName named further tokenBytes effectOf code samples moves places placeOf spares spare effectAt wordEffect endEffect betweenEffect pick isSpace isDigit row arrow points rowAt arrowOf someBegins same begins
 all-right = refl
 
 -- A byte is like the sample of its column, which begins where a column does; the value of a digit.
@@ -127,57 +141,6 @@ rightPlace i p = headMarked p && (agree (isDead p) (eqb i 0) && (agree (isDone p
 places-right : every rightPlace 0 places ≡ true
 unfolding rightPlace headMarked agree isDead isDone entryAt moves columns places mem marks
 places-right = refl
-
--- A weight gives the number after a digit.
-unfoldable pub rightWeight : ℕ → ℕ → Bool
-rightWeight act w = eqb (w / 2) (pick (leb act 24) 1 (pick (eqb act 25) 0 10)) && (eqb (w % 2) (pick (leb act 24) 0 1) && leb w 21)
-
-weights-right : every rightWeight 0 weights ≡ true
-unfolding rightWeight weights pick
-weights-right = refl
-
-weights-length : length weights ≡ 27
-unfolding weights
-weights-length = refl
-
-module _ (act : ℕ) (low : act < 27) where
-  weight : rightWeight act (getD weights act 0) ≡ true
-  weight = at rightWeight 0 weights weights-right act (rw weights-length low)
-
-  pub factor : getD weights act 0 / 2 ≡ pick (leb act 24) 1 (pick (eqb act 25) 0 10)
-  unfolding rightWeight
-  factor = eqb-true _ _ (and-left (eqb (getD weights act 0 / 2) (pick (leb act 24) 1 (pick (eqb act 25) 0 10))) _ weight)
-
-  pub addend : getD weights act 0 % 2 ≡ pick (leb act 24) 0 1
-  unfolding rightWeight
-  addend = eqb-true _ _ (and-left (eqb (getD weights act 0 % 2) (pick (leb act 24) 0 1)) _ (and-right (eqb (getD weights act 0 / 2) (pick (leb act 24) 1 (pick (eqb act 25) 0 10))) _ weight))
-
-  pub weight-low : getD weights act 0 ≤ 21
-  unfolding rightWeight
-  weight-low = leb-true _ _ (and-right (eqb (getD weights act 0 % 2) (pick (leb act 24) 0 1)) _ (and-right (eqb (getD weights act 0 / 2) (pick (leb act 24) 1 (pick (eqb act 25) 0 10))) _ weight))
-
-  module _ (number digit : ℕ) where
-    -- both parts of the pending number by the weight
-    weigh : Is (leb act 24) → Is (eqb act 25) → (number * (getD weights act 0 / 2) ≤ 10 * number) × (digit * (getD weights act 0 % 2) ≤ digit) × (number * (getD weights act 0 / 2) + digit * (getD weights act 0 % 2) ≡ numberAfter act number digit)
-    unfolding numberAfter
-    weigh (is-true t) s =
-        let f : getD weights act 0 / 2 ≡ 1 = factor ∙ pick-yes _ _ _ t in
-        let g : getD weights act 0 % 2 ≡ 0 = addend ∙ pick-yes _ _ _ t in
-        let n : numberAfter act number digit ≡ number = pick-yes _ _ _ t in
-        rw (f, g, n) (omega arith, omega arith, omega arith)
-    weigh (is-false t) (is-true s) =
-        let f : getD weights act 0 / 2 ≡ 0 = factor ∙ pick-no _ _ _ t ∙ pick-yes _ _ _ s in
-        let g : getD weights act 0 % 2 ≡ 1 = addend ∙ pick-no _ _ _ t in
-        let n : numberAfter act number digit ≡ digit = pick-no _ _ _ t ∙ pick-yes _ _ _ s in
-        rw (f, g, n) (omega arith, omega arith, omega arith)
-    weigh (is-false t) (is-false s) =
-        let f : getD weights act 0 / 2 ≡ 10 = factor ∙ pick-no _ _ _ t ∙ pick-no _ _ _ s in
-        let g : getD weights act 0 % 2 ≡ 1 = addend ∙ pick-no _ _ _ t in
-        let n : numberAfter act number digit ≡ 10 * number + digit = pick-no _ _ _ t ∙ pick-no _ _ _ s in
-        rw (f, g, n) (omega arith, omega arith, omega arith)
-
-    pub weighed : (number * (getD weights act 0 / 2) ≤ 10 * number) × (digit * (getD weights act 0 % 2) ≤ digit) × (number * (getD weights act 0 / 2) + digit * (getD weights act 0 % 2) ≡ numberAfter act number digit)
-    weighed = weigh (look (leb act 24)) (look (eqb act 25))
 
 moves-length : length moves ≡ 4092
 unfolding moves
@@ -256,38 +219,66 @@ module _ (i : ℕ) (low : i < 124) where
     unfolding entryAt x
     entry-right = at right 0 moves all-right (getD columns b 0 + i) (rw moves-length in-table)
 
-    entry-parts : (sameEffect (effectAt (placeOf i) (getD samples (x / 124) 0)) (effectOf (entryAt i b)) && (spared i (entryAt i b) && (leb (entryAt i b / 256) 24 || isDigit (getD samples (x / 124) 0)))) ≡ true
-    unfolding right
+    y : ℕ
+    y = getD samples (x / 124) 0
+
+    e : ℕ
+    e = entryAt i b
+
+    entry-parts : rightAt i y e ≡ true
+    unfolding right y e
     entry-parts = rw (in-column, of-column) at entry-right
+
+    entry-rest : (spared i e && (named y e && further i y e)) ≡ true
+    unfolding rightAt
+    entry-rest = and-right (sameEffect (effectAt (placeOf i) y) (effectOf e)) _ entry-parts
+
+    entry-last : (named y e && further i y e) ≡ true
+    entry-last = and-right (spared i e) _ entry-rest
 
     -- the entry is the effect of the step
     pub entry-effect : effectAt (placeOf i) b ≡ effectOf (entryAt i b)
+    unfolding rightAt y e
     entry-effect =
-        alike-effect b (getD samples (x / 124) 0) (placeOf i) like head-marked
-        ∙ same-effects _ _ (and-left (sameEffect (effectAt (placeOf i) (getD samples (x / 124) 0)) (effectOf (entryAt i b))) _ entry-parts)
-
-    entry-rest : (spared i (entryAt i b) && (leb (entryAt i b / 256) 24 || isDigit (getD samples (x / 124) 0))) ≡ true
-    entry-rest = and-right (sameEffect (effectAt (placeOf i) (getD samples (x / 124) 0)) (effectOf (entryAt i b))) _ entry-parts
-
-    entry-spared : spared i (entryAt i b) ≡ true
-    entry-spared = and-left (spared i (entryAt i b)) _ entry-rest
+        alike-effect b y (placeOf i) like head-marked
+        ∙ same-effects _ _ (and-left (sameEffect (effectAt (placeOf i) y) (effectOf e)) _ entry-parts)
 
     pub next-low : entryAt i b % 256 < 124
-    unfolding spared
-    next-low = ltb-true _ _ (and-left (ltb (entryAt i b % 256) 124) _ entry-spared)
+    unfolding spared e
+    next-low = ltb-true _ _ (and-left (ltb (e % 256) 124) _ (and-left (spared i e) _ entry-rest))
 
     pub next-spare : spare (entryAt i b % 256) + tokenBytes (entryAt i b) ≤ spare i + 1
-    unfolding spared
-    next-spare =
-        leb-true _ _ (and-left (leb (spare (entryAt i b % 256) + tokenBytes (entryAt i b)) (spare i + 1)) _ (and-right (ltb (entryAt i b % 256) 124) _ entry-spared))
+    unfolding spared e
+    next-spare = leb-true _ _ (and-right (ltb (e % 256) 124) _ (and-left (spared i e) _ entry-rest))
 
-    pub act-low : entryAt i b / 256 < 27
-    unfolding spared
-    act-low =
-        ltb-true _ _ (and-right (leb (spare (entryAt i b % 256) + tokenBytes (entryAt i b)) (spare i + 1)) _ (and-right (ltb (entryAt i b % 256) 124) _ entry-spared))
+    digit-alike : isDigit b ≡ isDigit y
+    unfolding y
+    digit-alike = alike-digit b y like
 
-    -- the value of a byte that belongs to a name
+    -- a byte that belongs to a name
+    digit-named : 24 < e / 256 → (isDigit y && inName (e % 256)) ≡ true
+    unfolding named
+    digit-named h =
+        or-cases (leb (e / 256) 24) (isDigit y && inName (e % 256)) (and-left (named y e) _ entry-last) (λ t. clash t (lt-leb _ _ h)) (λ t. t)
+
+    -- its value
     pub digit-value : 24 < entryAt i b / 256 → b % 16 ≡ b - 48
+    unfolding e
     digit-value h =
-        let d : isDigit b ≡ true = or-cases (leb (entryAt i b / 256) 24) (isDigit (getD samples (x / 124) 0)) (and-right (spared i (entryAt i b)) _ entry-rest) (λ t. clash t (lt-leb _ _ h)) (λ t. alike-digit b (getD samples (x / 124) 0) like ∙ t) in
+        let d : isDigit b ≡ true = digit-alike ∙ and-left (isDigit y) _ (digit-named h) in
         or-cases (not (isDigit b)) (eqb (b % 16) (b - 48)) (and-right (leb x 3968) _ (and-right (eqb (x % 124) 0) _ begins-column)) (λ t. clash d (not-true _ t)) (λ t. eqb-true _ _ t)
+
+    -- where it leads
+    pub name-place : 24 < entryAt i b / 256 → InName (entryAt i b % 256)
+    unfolding e inName
+    name-place h =
+        let t = and-right (isDigit y) _ (digit-named h) in
+        record { first = leb-true _ _ (and-left (leb 59 (e % 256)) _ t); last = ltb-true _ _ (and-right (leb 59 (e % 256)) _ t) }
+
+    -- a further digit of a name
+    pub further-digit : InName i → isDigit b ≡ true → entryAt i b ≡ 6656 + i
+    unfolding e further inName
+    further-digit n d =
+        or-cases (not (inName i && isDigit y)) (eqb e (6656 + i)) (and-right (named y e) _ entry-last)
+        (λ t. clash (and-both (inName i) (isDigit y) (and-both (leb 59 i) (ltb i 74) (le-leb 59 i (n .first)) (lt-ltb i 74 (n .last))) (sym digit-alike ∙ d)) (not-true _ t))
+        (λ t. eqb-true _ _ t)

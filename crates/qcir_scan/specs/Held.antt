@@ -1,11 +1,11 @@
 -- What the code's variables and arrays hold of the machine's state.
 -- Assumes nothing.
-use mathlib.Core.Bool.{Bool, true, _||_}
+use mathlib.Core.Bool.{Bool, true}
 use mathlib.Core.List.{List}
 use mathlib.Core.Path.{_≡_}
-use Prim.Native.Nat.{ℕ, _+_, _*_, _%_, _/_, _≤_, _<_}
-use lib.Dec.{eqb, leb}
-use lib.ListN.{length, take}
+use Prim.Native.Nat.{ℕ, _+_, _*_, _-_, _≤_, _<_}
+use lib.Dec.{eqb}
+use lib.ListN.{length, take, drop}
 use Rattle.lists.specs.Choice.{pick}
 use Rattle.qcir_tokens.specs.Held.{tokensFrom}
 use Rattle.qcir_text.specs.Machine.{State, start, run, alive, accepts, tokensOf}
@@ -21,10 +21,9 @@ highest = 65535
 abbrev pub tokenLimit : ℕ
 tokenLimit = 32768
 
--- The state after `at` bytes.
-unfoldable pub stateOf : Progress → ℕ → List ℕ → List ℕ → List ℕ → State
-stateOf q at roles numbers positions =
-    record { place = placeOf (q .place); taken = at; pending = record { number = q .number; position = q .begin }; tokens = tokensFrom roles numbers positions 0 (q .count) }
+unfoldable pub stateOf : Progress → List ℕ → List ℕ → List ℕ → State
+stateOf q roles numbers positions =
+    record { place = placeOf (q .place); taken = q .at; pending = record { number = q .number; position = q .begin }; tokens = tokensFrom roles numbers positions 0 (q .count) }
 
 -- The arrays have room for the tokens of any text.
 pub record Wide (roles numbers positions : List ℕ) : Type 0 where
@@ -32,26 +31,37 @@ pub record Wide (roles numbers positions : List ℕ) : Type 0 where
   pub numbers-wide : length numbers ≡ tokenLimit
   pub positions-wide : length positions ≡ tokenLimit
 
--- Variables and arrays hold the state after the first `at` bytes of the text.
-pub record Holds (text roles numbers positions : List ℕ) (at : ℕ) (q : Progress) : Type 0 where
-  pub state : run highest start (take at text) ≡ stateOf q at roles numbers positions
+-- The machine takes the first `at` bytes, and then as many as it takes from there.
+abbrev pub Lives : List ℕ → ℕ → Type 0
+Lives text at = alive highest start text ≡ at + alive highest (run highest start (take at text)) (drop at text)
+
+-- Variables and arrays hold the state after the bytes so far; all but the last of them were taken.
+pub record Holds (text roles numbers positions : List ℕ) (q : Progress) : Type 0 where
+  pub state : run highest start (take (q .at) text) ≡ stateOf q roles numbers positions
+  pub lives : Lives text (q .at - 1)
+  pub within : q .at ≤ length text
   pub place-low : q .place < 124
   pub number-low : q .number ≤ highest
   pub begin-low : q .begin < 65536
-  pub room : 2 * q .count + spare (q .place) ≤ at
+  pub room : 2 * q .count + spare (q .place) ≤ q .at
   pub wide : Wide roles numbers positions
 
--- The pending number after an entry that does `act`, on a byte with this digit.
+-- The pending number after a digit, which begins the name if `act` is 25.
 unfoldable pub numberAfter : ℕ → ℕ → ℕ → ℕ
-numberAfter act number digit = pick (leb act 24) number (pick (eqb act 25) digit (10 * number + digit))
+numberAfter act number digit = pick (eqb act 25) digit (10 * number + digit)
 
 -- The position of the pending name.
 unfoldable pub beginAfter : ℕ → ℕ → ℕ → ℕ
 beginAfter act begin at = pick (eqb act 25) at begin
 
--- How many tokens there are.
+-- How many tokens there are after a byte that ends the pending name in this role.
 unfoldable pub countAfter : ℕ → ℕ → ℕ
-countAfter act count = pick (eqb act 0 || leb 25 act) count (count + 1)
+countAfter role count = pick (eqb role 0) count (count + 1)
+
+-- Within a name or right after it.
+pub record InName (place : ℕ) : Type 0 where
+  pub first : 59 ≤ place
+  pub last : place < 74
 
 -- What scanning a text answers, and leaves in the arrays.
 pub record Answers (text roles numbers positions : List ℕ) (r : Scanned) : Type 0 where

@@ -1,12 +1,15 @@
 // Takes the bytes of a QCIR text and collects the file's tokens: the machine of qcir_text, by tables.
+ghost use mathlib.Core.List.{List};
 ghost use mathlib.Core.Path.{_≡_};
 ghost use Prim.Native.Nat.{ℕ, _+_, _%_, _≤_, _<_};
 ghost use lib.Dec.{eqb};
 ghost use lib.ListN.{length, getD, set};
-ghost use Rattle.qcir_scan.specs.Tables.{Tables, Weights, entryAt};
+ghost use Rattle.qcir.specs.Spelling.{isDigit};
+ghost use Rattle.qcir_scan.specs.Tables.{Tables, entryAt};
 ghost use Rattle.qcir_scan.specs.Held.{
   Holds,
   Wide,
+  InName,
   Answers,
   numberAfter,
   beginAfter,
@@ -17,7 +20,6 @@ mod table;
 
 use table::COLUMNS;
 use table::MOVES;
-use table::WEIGHTS;
 
 // The place's number where no file goes on, at the start, and where a file may end.
 const DEAD: usize = 0;
@@ -34,8 +36,9 @@ const HIGHEST: u32 = 65535;
 
 const LF: u8 = 10;
 
-// The place's number, the pending name, and how many tokens there are.
+// The bytes so far, the place's number, the pending name, and how many tokens there are.
 pub struct Progress {
+    pub at: usize,
     pub place: usize,
     pub number: u32,
     pub begin: u32,
@@ -71,23 +74,13 @@ pub fn scan_from(
     requires { ⌜ Wide (now roles) (now numbers) (now positions) ⌝ }
     ensures { λ r. ⌜ Answers (now (text .entry)) (now (roles .exit)) (now (numbers .exit)) (now (positions .exit)) r ⌝ }
 {
-    walk(
-        &MOVES,
-        &COLUMNS,
-        &WEIGHTS,
-        text,
-        at,
-        roles,
-        numbers,
-        positions,
-    )
+    walk(&MOVES, &COLUMNS, text, at, roles, numbers, positions)
 }
 
 // Takes the bytes one after the other, up to the first where no file goes on.
 fn walk(
     moves: &[u16; 4092],
     columns: &[u16; 256],
-    weights: &[u8; 27],
     text: &[u8],
     at: usize,
     roles: &mut [u8],
@@ -95,43 +88,31 @@ fn walk(
     positions: &mut [u16],
 ) -> Scanned
     requires { ⌜ Tables (now moves) (now columns) ⌝ }
-    requires { ⌜ Weights (now weights) ⌝ }
     requires { ⌜ length (now text) ≤ 65536 ⌝ }
     requires { ⌜ at ≡ 0 ⌝ }
     requires { ⌜ Wide (now roles) (now numbers) (now positions) ⌝ }
     ensures { λ r. ⌜ Answers (now (text .entry)) (now (roles .exit)) (now (numbers .exit)) (now (positions .exit)) r ⌝ }
 {
-    let mut at = at;
     let mut q = Progress {
+        at,
         place: START,
         number: 0,
         begin: 0,
         count: 0,
     };
-    while at < text.len() {
-        q = advance(
-            moves,
-            columns,
-            weights,
-            text,
-            at,
-            q,
-            roles,
-            numbers,
-            positions,
-        );
+    while q.at < text.len() {
+        q = advance(moves, columns, text, q, roles, numbers, positions);
         if q.place == DEAD {
-            let position = at as u32;
+            let position = (q.at - 1) as u32;
             return Scanned {
                 spelled: false,
                 position,
                 count: q.count,
             };
         }
-        at += 1;
     }
     let spelled = is_done(moves, columns, q.place);
-    let position = at as u32;
+    let position = q.at as u32;
     Scanned {
         spelled,
         position,
@@ -139,47 +120,96 @@ fn walk(
     }
 }
 
-// Takes the byte at `at`.
+// Takes one byte, or a whole name.
 fn advance(
     moves: &[u16; 4092],
     columns: &[u16; 256],
-    weights: &[u8; 27],
     text: &[u8],
-    at: usize,
     q: Progress,
     roles: &mut [u8],
     numbers: &mut [u16],
     positions: &mut [u16],
 ) -> Progress
     requires { ⌜ Tables (now moves) (now columns) ⌝ }
-    requires { ⌜ Weights (now weights) ⌝ }
     requires { ⌜ length (now text) ≤ 65536 ⌝ }
-    requires { ⌜ at < length (now text) ⌝ }
-    requires { ⌜ Holds (now text) (now roles) (now numbers) (now positions) at q ⌝ }
-    ensures { λ r. ⌜ Holds (now (text .entry)) (now (roles .exit)) (now (numbers .exit)) (now (positions .exit)) (at + 1) r ⌝ }
+    requires { ⌜ (q .at < length (now text)) × (0 < q .place) ⌝ }
+    requires { ⌜ Holds (now text) (now roles) (now numbers) (now positions) q ⌝ }
+    ensures { λ r. ⌜ Holds (now (text .entry)) (now (roles .exit)) (now (numbers .exit)) (now (positions .exit)) r × (q .at < r .at) ⌝ }
 {
+    let at = q.at;
     let byte = text[at];
     let entry = entry_at(moves, columns, q.place, byte);
     let act = (entry / 256) as u8;
-    put_token(roles, numbers, positions, q, act);
-    let number = number_after(weights, act, q.number, byte % 16);
-    if HIGHEST < number {
+    let place = (entry % 256) as usize;
+    if act < NAME {
+        put_token(roles, numbers, positions, q, act);
+        let count = count_after(act, q.count);
         return Progress {
-            place: DEAD,
+            at: at + 1,
+            place,
             number: q.number,
             begin: q.begin,
-            count: q.count,
+            count,
         };
     }
-    let place = (entry % 256) as usize;
-    let begin = begin_after(act, q.begin, at as u32);
-    let count = count_after(act, q.count);
-    Progress {
-        place,
-        number,
-        begin,
-        count,
+    let number = number_after(act, q.number, byte % 16);
+    if HIGHEST < number {
+        return stopped(q);
     }
+    let begin = begin_after(act, q.begin, at as u32);
+    read_digits(
+        text,
+        Progress {
+            at: at + 1,
+            place,
+            number,
+            begin,
+            count: q.count,
+        },
+    )
+}
+
+// Takes the further digits of the pending name.
+fn read_digits(text: &[u8], q: Progress) -> Progress
+    requires { ⌜ length (now text) ≤ 65536 ⌝ }
+    requires { ⌜ InName (q .place) × (q .number ≤ 65535) × (q .at ≤ length (now text)) ⌝ }
+    ensures { λ r. ⌜ (q .at ≤ r .at) × ((roles numbers positions : List ℕ) → Holds (now (text .entry)) roles numbers positions q → Holds (now (text .entry)) roles numbers positions r) ⌝ }
+{
+    let mut q = q;
+    while q.at < text.len() {
+        let at = q.at;
+        let byte = text[at];
+        if !is_digit(byte) {
+            return q;
+        }
+        let number = 10 * q.number + (byte % 16) as u32;
+        if HIGHEST < number {
+            return stopped(q);
+        }
+        q.number = number;
+        q.at = at + 1;
+    }
+    q
+}
+
+// A digit more makes the pending name too high.
+fn stopped(q: Progress) -> Progress
+    requires { ⌜ q .at < 65536 ⌝ }
+    ensures { λ r. ⌜ r ≡ record { at = q .at + 1; place = 0; number = q .number; begin = q .begin; count = q .count } ⌝ }
+{
+    Progress {
+        at: q.at + 1,
+        place: DEAD,
+        number: q.number,
+        begin: q.begin,
+        count: q.count,
+    }
+}
+
+fn is_digit(byte: u8) -> bool
+    ensures { λ r. ⌜ r ≡ isDigit byte ⌝ }
+{
+    (48 <= byte) & (byte <= 57)
 }
 
 // The table's entry for a byte at a place.
@@ -203,13 +233,14 @@ fn put_token(roles: &mut [u8], numbers: &mut [u16], positions: &mut [u16], q: Pr
     positions[count] = q.begin as u16;
 }
 
-fn number_after(weights: &[u8; 27], act: u8, number: u32, digit: u8) -> u32
-    requires { ⌜ Weights (now weights) ⌝ }
-    requires { ⌜ (act < 27) × (number ≤ 65535) ⌝ }
+fn number_after(act: u8, number: u32, digit: u8) -> u32
+    requires { ⌜ number ≤ 65535 ⌝ }
     ensures { λ r. ⌜ r ≡ numberAfter act number digit ⌝ }
 {
-    let weight = weights[act as usize] as u32;
-    number * (weight / 2) + digit as u32 * (weight % 2)
+    if act == NAME {
+        return digit as u32;
+    }
+    10 * number + digit as u32
 }
 
 fn begin_after(act: u8, begin: u32, at: u32) -> u32
@@ -221,11 +252,11 @@ fn begin_after(act: u8, begin: u32, at: u32) -> u32
     begin
 }
 
-fn count_after(act: u8, count: usize) -> usize
+fn count_after(role: u8, count: usize) -> usize
     requires { ⌜ count < 32768 ⌝ }
-    ensures { λ r. ⌜ r ≡ countAfter act count ⌝ }
+    ensures { λ r. ⌜ r ≡ countAfter role count ⌝ }
 {
-    if (act == 0) | (NAME <= act) {
+    if role == 0 {
         return count;
     }
     count + 1

@@ -1,7 +1,9 @@
-use Rattle.qcir_scan.proofs.Rule.{act-low}
-use Prim.Native.Nat.{_<_}
+use mathlib.Core.Path.{_≡_}
+use Prim.Native.Nat.{_/_, _%_, _≤_, _<_}
 use lib.ListN.{getD}
-use Rattle.qcir_scan.proofs.Steps.{after-byte, after-too-high}
+use Rattle.qcir_scan.specs.Held.{InName}
+use Rattle.qcir_scan.proofs.Rule.{name-place}
+use Rattle.qcir_scan.proofs.Steps.{after-byte, after-digit, after-too-high}
 use native.Mathlib.Omega.{arith}
 use borrow.Author.Needs.{needs}
 use Rattle.qcir_scan.proofs.advance.Statement.{statement}
@@ -13,90 +15,127 @@ use Rattle.qcir_scan.proofs.count_after.Reads as count-after-reads
 use Rattle.qcir_scan.proofs.entry_at.Reads as entry-at-reads
 use Rattle.qcir_scan.proofs.number_after.Reads as number-after-reads
 use Rattle.qcir_scan.proofs.put_token.Reads as put-token-reads
+use Rattle.qcir_scan.proofs.read_digits.Reads as read-digits-reads
+use Rattle.qcir_scan.proofs.stopped.Reads as stopped-reads
 
--- src/lib.rt:136:16
+-- src/lib.rt:140:16
 shared-slice-read-byte : tie.Need-shared-slice-read-byte
 shared-slice-read-byte c = search needs
 
--- src/lib.rt:137:9
+-- src/lib.rt:141:9
 entry-at-requires : tie.Need-entry-at-requires
 entry-at-requires c κs = search needs
 
--- src/lib.rt:138:15
+-- src/lib.rt:142:15
 cast-act : tie.Need-cast-act
 cast-act c = search needs
 
--- src/lib.rt:139:5
+-- src/lib.rt:143:17
+cast-place : tie.Need-cast-place
+cast-place c = search needs
+
+-- src/lib.rt:145:9
 put-token-requires : tie.Need-put-token-requires
 put-token-requires c κs = search needs
 
--- src/lib.rt:140:9
-number-after-requires : tie.Need-number-after-requires
-number-after-requires c κs =
-    let start = c .before .before .before .before .before .before .before .before .before .before .before .before .before .before .before .before in
-    let a = start .args in
-    let h = start .pre .1 .1 .1 .1 in
-    let w : getD (a .text .now) (a .at) 0 < 256 = omega (arith, c .before .before .before .before .before .before .before .before .before .before .before .before .before .before .before .shared-slice-known .given (a .at)) in
-    let low = act-low (a .q .place) (h .place-low) (getD (a .text .now) (a .at) 0) w in
-    (start .pre .1 .0, (rw (c .before .before .before .before .before .before .before .before .before .before .entry-at .ensures) low, h .number-low))
+-- src/lib.rt:146:13
+count-after-requires : tie.Need-count-after-requires
+count-after-requires c κs = search needs
 
--- src/lib.rt:142:9
+-- src/lib.rt:148:17
+add-t27 : tie.Need-add-t27
+add-t27 c = search needs
+
+-- src/lib.rt:147:9
 same-length : tie.Need-same-length
 same-length c = search needs
 
--- src/lib.rt:142:9
+-- src/lib.rt:147:9
 same-length-2 : tie.Need-same-length-2
 same-length-2 c = search needs
 
--- src/lib.rt:142:9
+-- src/lib.rt:147:9
 same-length-3 : tie.Need-same-length-3
 same-length-3 c = search needs
 
--- src/lib.rt:142:9
+-- src/lib.rt:147:9
 returns : tie.Need-returns
 returns c =
     let start = c .before .before .before .before .before .before .before .before .before .before .before .before .before .before .before .before .before .before in
     let a = start .args in
-    let put = c .before .before .before .before .before .before .before .before .put-token .ensures in
-    let w : getD (a .text .now) (a .at) 0 < 256 = omega (arith, c .before .before .before .before .before .before .before .before .before .before .before .before .before .before .before .before .before .shared-slice-known .given (a .at)) in
-    after-too-high (a .text .now) (a .roles .now) (a .numbers .now) (a .positions .now) (a .at) (a .q) (start .pre .1 .1 .1 .1) (start .pre .1 .1 .1 .0) (start .pre .1 .1 .0) w (c .before .before .before .before .before .before .before .before .before .before .before .before .entry-at .result) (c .before .before .before .before .before .before .before .before .before .before .before .before .entry-at .ensures) (put .0) (put .1) (put .2) (c .before .number-after .ensures) (c .if1 .taken)
+    let text = a .text .now in
+    let q = a .q in
+    let h = start .pre .1 .1 .1 in
+    let l = start .pre .1 .1 .0 .0 in
+    let w : getD text (q .at) 0 < 256 = omega (arith, c .before .before .before .before .before .before .before .before .before .before .before .before .before .before .before .before .before .shared-slice-known .given (q .at)) in
+    let entry = c .before .before .before .before .before .before .before .before .before .before .before .before .entry-at in
+    let put = c .before .before .before .before .before .before .before .put-token .ensures in
+    let low : entry .result / 256 ≤ 24 = omega (arith, c .before .before .before .before .before .before .before .before .before .before .before .if1 .taken) in
+    (after-byte text (a .roles .now) (a .numbers .now) (a .positions .now) q h l (start .pre .1 .1 .0 .1) (start .pre .1 .0) w (entry .result) (entry .ensures) low (put .0) (put .1) (put .2) (c .count-after .ensures), omega arith)
 
--- src/lib.rt:150:16
-cast-place : tie.Need-cast-place
-cast-place c = search needs
+-- src/lib.rt:155:9
+number-after-requires : tie.Need-number-after-requires
+number-after-requires c κs = search needs
 
--- src/lib.rt:152:42
+-- src/lib.rt:157:9
+stopped-requires : tie.Need-stopped-requires
+stopped-requires c κs = search needs
+
+-- src/lib.rt:157:9
+returns-2 : tie.Need-returns-2
+returns-2 c =
+    let start = c .before .before .before .before .before .before .before .before .before .before in
+    let a = start .args in
+    let text = a .text .now in
+    let q = a .q in
+    let h = start .pre .1 .1 .1 in
+    let l = start .pre .1 .1 .0 .0 in
+    let w : getD text (q .at) 0 < 256 = omega (arith, c .before .before .before .before .before .before .before .before .before .shared-slice-known .given (q .at)) in
+    let entry = c .before .before .before .before .entry-at in
+    let high : 24 < entry .result / 256 = omega (arith, c .before .before .before .if1 .left) in
+    rw (c .stopped .ensures) (after-too-high text (a .roles .now) (a .numbers .now) (a .positions .now) q h l (start .pre .1 .1 .0 .1) (start .pre .1 .0) w (entry .result) (entry .ensures) high (c .before .before .number-after .ensures) (c .before .if2 .taken), omega arith)
+
+-- src/lib.rt:159:43
 cast-begin-after : tie.Need-cast-begin-after
 cast-begin-after c = search needs
 
--- src/lib.rt:152:16
+-- src/lib.rt:159:9
 begin-after-requires : tie.Need-begin-after-requires
 begin-after-requires c κs = search needs
 
--- src/lib.rt:153:16
-count-after-requires : tie.Need-count-after-requires
-count-after-requires c κs = search needs
+-- src/lib.rt:163:17
+add-t29 : tie.Need-add-t29
+add-t29 c = search needs
 
--- src/lib.rt:120:1
-same-length-4 : tie.Need-same-length-4
-same-length-4 c = search needs
-
--- src/lib.rt:120:1
-same-length-5 : tie.Need-same-length-5
-same-length-5 c = search needs
-
--- src/lib.rt:120:1
-same-length-6 : tie.Need-same-length-6
-same-length-6 c = search needs
-
--- src/lib.rt:120:1
-returns-2 : tie.Need-returns-2
-returns-2 c =
-    let start = c .before .before .before .before .before .before .before .before .before .before .before .before .before .before .before .before .before .before .before .before in
+-- src/lib.rt:160:5
+read-digits-requires : tie.Need-read-digits-requires
+read-digits-requires c κs =
+    let start = c .before .before .before .before .before .before .before .before .before .before in
     let a = start .args in
-    let put = c .before .before .before .before .before .before .before .before .before .before .put-token .ensures in
-    let w : getD (a .text .now) (a .at) 0 < 256 = omega (arith, c .before .before .before .before .before .before .before .before .before .before .before .before .before .before .before .before .before .before .before .shared-slice-known .given (a .at)) in
-    after-byte (a .text .now) (a .roles .now) (a .numbers .now) (a .positions .now) (a .at) (a .q) (start .pre .1 .1 .1 .1) (start .pre .1 .1 .1 .0) (start .pre .1 .1 .0) w (c .before .before .before .before .before .before .before .before .before .before .before .before .before .before .entry-at .result) (c .before .before .before .before .before .before .before .before .before .before .before .before .before .before .entry-at .ensures) (put .0) (put .1) (put .2) (c .before .before .before .number-after .ensures) (c .before .begin-after .ensures) (c .count-after .ensures) (c .before .before .if1 .left)
+    let text = a .text .now in
+    let q = a .q in
+    let h = start .pre .1 .1 .1 in
+    let l = start .pre .1 .1 .0 .0 in
+    let w : getD text (q .at) 0 < 256 = omega (arith, c .before .before .before .before .before .before .before .before .before .shared-slice-known .given (q .at)) in
+    let entry = c .before .before .before .before .entry-at in
+    let high : 24 < entry .result / 256 = omega (arith, c .before .before .before .if1 .left) in
+    let place : InName (entry .result % 256) = rw (entry .ensures) (name-place (q .place) (h .place-low) (getD text (q .at) 0) w (rw (entry .ensures) at high)) in
+    (start .pre .1 .0, (place, c .before .if2 .left, omega arith))
+
+-- src/lib.rt:124:1
+returns-3 : tie.Need-returns-3
+returns-3 c =
+    let start = c .before .before .before .before .before .before .before .before .before .before .before in
+    let a = start .args in
+    let text = a .text .now in
+    let q = a .q in
+    let h = start .pre .1 .1 .1 in
+    let l = start .pre .1 .1 .0 .0 in
+    let w : getD text (q .at) 0 < 256 = omega (arith, c .before .before .before .before .before .before .before .before .before .before .shared-slice-known .given (q .at)) in
+    let entry = c .before .before .before .before .before .entry-at in
+    let high : 24 < entry .result / 256 = omega (arith, c .before .before .before .before .if1 .left) in
+    let r = c .read-digits .ensures in
+    (r .1 _ _ _ (after-digit text (a .roles .now) (a .numbers .now) (a .positions .now) q h l (start .pre .1 .1 .0 .1) (start .pre .1 .0) w (entry .result) (entry .ensures) high (c .before .before .before .number-after .ensures) (c .before .begin-after .ensures) (c .before .before .if2 .left)), omega (arith, r .0))
 
 pub advance-spec : {M : Type 1} → statement M
 advance-spec =
@@ -105,17 +144,19 @@ advance-spec =
     shared-slice-read-byte
     entry-at-requires
     cast-act
+    cast-place
     put-token-requires
-    number-after-requires
+    count-after-requires
+    add-t27
     same-length
     same-length-2
     same-length-3
     returns
-    cast-place
+    number-after-requires
+    stopped-requires
+    returns-2
     cast-begin-after
     begin-after-requires
-    count-after-requires
-    same-length-4
-    same-length-5
-    same-length-6
-    returns-2)
+    add-t29
+    read-digits-requires
+    returns-3)

@@ -9,12 +9,12 @@ use Rattle.qcir_scan.proofs.begin_after.Tie as tie
 use Rattle.qcir_scan.proofs.begin_after.Reads as reads
 use Rattle.qcir_scan.proofs.begin_after.Lts as lts
 
--- src/lib.rt:195:9
+-- src/lib.rt:250:9
 returns : tie.Need-returns
 unfolding beginAfter
 returns c = sym (pick-yes _ _ _ (eq-eqb _ _ (c .if1 .taken)))
 
--- src/lib.rt:191:1
+-- src/lib.rt:246:1
 returns-2 : tie.Need-returns-2
 unfolding beginAfter
 returns-2 c = sym (pick-no _ _ _ (ne-eqb _ _ (c .if1 .left)))

@@ -1,4 +1,7 @@
-use Rattle.qcir_scan.proofs.Rule.{weight-low, weighed}
+use mathlib.Core.Path.{sym}
+use borrow.Author.Tests.{eq-eqb, ne-eqb}
+use Rattle.lists.specs.Choice.{pick-yes, pick-no}
+use Rattle.qcir_scan.specs.Held.{numberAfter}
 use native.Mathlib.Omega.{arith}
 use borrow.Author.Needs.{needs}
 use Rattle.qcir_scan.proofs.number_after.Statement.{statement}
@@ -6,45 +9,23 @@ use Rattle.qcir_scan.proofs.number_after.Tie as tie
 use Rattle.qcir_scan.proofs.number_after.Reads as reads
 use Rattle.qcir_scan.proofs.number_after.Lts as lts
 
--- src/lib.rt:205:18
-element-copy-out-weight : tie.Need-element-copy-out-weight
-element-copy-out-weight c = search needs
-
--- src/lib.rt:205:18
-cast-weight : tie.Need-cast-weight
-cast-weight c =
-    let start = c .before in
-    omega (arith, rw (← (start .pre .0 .weights-are)) at (weight-low (start .args .act) (start .pre .1 .0)))
-
--- src/lib.rt:206:5
-mul-result : tie.Need-mul-result
-mul-result c =
-    let start = c .before in
-    let a = start .args in
-    let w = rw (← (start .pre .0 .weights-are)) at (weighed (a .act) (start .pre .1 .0) (a .number) (a .digit)) in
-    omega (arith, w .0, w .1, start .pre .1 .1)
-
--- src/lib.rt:206:29
-mul-result-2 : tie.Need-mul-result-2
-mul-result-2 c =
-    let start = c .before in
-    let a = start .args in
-    let w = rw (← (start .pre .0 .weights-are)) at (weighed (a .act) (start .pre .1 .0) (a .number) (a .digit)) in
-    omega (arith, w .0, w .1, start .pre .1 .1)
-
--- src/lib.rt:206:5
-add-result : tie.Need-add-result
-add-result c =
-    let start = c .before in
-    let a = start .args in
-    let w = rw (← (start .pre .0 .weights-are)) at (weighed (a .act) (start .pre .1 .0) (a .number) (a .digit)) in
-    omega (arith, w .0, w .1, start .pre .1 .1)
-
--- src/lib.rt:200:1
+-- src/lib.rt:241:9
 returns : tie.Need-returns
-returns c = let start = c .before in let a = start .args in rw (start .pre .0 .weights-are) (weighed (a .act) (start .pre .1 .0) (a .number) (a .digit) .2)
+unfolding numberAfter
+returns c = sym (pick-yes _ _ _ (eq-eqb _ _ (c .if1 .taken)))
+
+-- src/lib.rt:243:5
+mul-result : tie.Need-mul-result
+mul-result c = search needs
+
+-- src/lib.rt:243:5
+add-result : tie.Need-add-result
+add-result c = search needs
+
+-- src/lib.rt:236:1
+returns-2 : tie.Need-returns-2
+unfolding numberAfter
+returns-2 c = sym (pick-no _ _ _ (ne-eqb _ _ (c .if1 .left)))
 
 pub number-after-spec : {M : Type 1} → statement M
-number-after-spec =
-    tie.close
-    (tie.spec element-copy-out-weight cast-weight mul-result mul-result-2 add-result returns)
+number-after-spec = tie.close (tie.spec returns mul-result add-result returns-2)

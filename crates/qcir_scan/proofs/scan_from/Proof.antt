@@ -1,15 +1,13 @@
 -- `qcir_scan::scan_from` meets its contract: the tables that are lent are those of specs/Tables.antt.
 -- Assumes nothing.
-use mathlib.Core.Path.{refl}
 use borrow.Author.Needs.{needs}
-use Rattle.qcir_scan.specs.Tables.{moves, columns, weights}
+use Rattle.qcir_scan.specs.Tables.{moves, columns}
 use Rattle.qcir_scan.proofs.scan_from.Statement.{statement}
 use Rattle.qcir_scan.proofs.scan_from.Tie as tie
 
 walk-requires : tie.Need-walk-requires
-unfolding moves columns weights
-walk-requires c κs =
-    (record { moves-are = refl; columns-are = refl }, (record { weights-are = refl }, c .before .before .before .before .before .before .before .before .before .before .pre))
+unfolding moves columns
+walk-requires c κs = search needs
 
 same-length : tie.Need-same-length
 same-length c = search needs
