@@ -6,11 +6,11 @@ use mathlib.Core.Path.{_≡_, refl, sym, _∙_, ap}
 use Prim.Native.Nat.{ℕ, zero, suc}
 use lib.Dec.{eqb, leb}
 use borrow.Author.Tests.{eqb-true, not-true}
-use Rattle.lists.specs.Choice.{pick, pick-yes, pick-no, Is, is-true, is-false, look, clash, and-left, and-right, and-off-left, and-off-right, or-cases, or-neither}
+use Rattle.lists.specs.Choice.{pick-yes, pick-no, Is, is-true, is-false, look, clash, and-left, and-right, and-off-left, and-off-right, or-cases, or-neither}
 use Rattle.lists.specs.Members.{mem, all}
 use Rattle.qcir.specs.Spelling.{isSpace, isDigit}
 use Rattle.qcir_text.specs.Machine.{Place, dead, heading, headed, padded, counted, ready, inside, digits, comment, Row, row, Arrow, arrow, points, rowAt, point, arrowOf, someBegins, same, begins}
-use Rattle.qcir_scan.proofs.Effects.{Effect, effectAt, go, wordEffect, endEffect, betweenEffect}
+use Rattle.qcir_scan.proofs.Effects.{effectAt, go, wordEffect, betweenEffect}
 
 -- LF, and the bytes of the header and of words.
 unfoldable pub marks : List ℕ

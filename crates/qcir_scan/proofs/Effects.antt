@@ -1,7 +1,7 @@
 -- What a step of the machine does, apart from the numbers that its state holds: where it goes, the role in which it ends the pending
 -- name (0: none), and whether the byte is a name's first digit (1), a further digit (2) or none (0).
 -- Assumes nothing.
-use mathlib.Core.Bool.{Bool, true, false, not, _&&_, _||_}
+use mathlib.Core.Bool.{Bool, true, false, not, _&&_}
 use mathlib.Core.List.{List, [], _∷_, _++_}
 use mathlib.Core.Path.{_≡_, refl}
 use Prim.Native.Nat.{ℕ, _+_, _*_, _-_}
@@ -53,15 +53,15 @@ effectAt (digits c) b = pick (isDigit b) (digitTo (digits c) 2) (betweenEffect c
 effectAt (comment c) b = pick (eqb b 10) (go (ready c) 0) (go (comment c) 0)
 
 -- One byte more, which makes n the number of the pending name, if names may be so high.
-unfoldable pub number : ℕ → State → Place → ℕ → ℕ → State
-number most s p n position = pick (leb n most) (moveName s p (record { number = n; position = position })) (move s dead)
+unfoldable pub withNumber : ℕ → State → Place → ℕ → ℕ → State
+withNumber most s p n position = pick (leb n most) (moveName s p (record { number = n; position = position })) (move s dead)
 
 -- The state after a step with this effect.
 unfoldable pub apply : ℕ → State → ℕ → Effect → State
 apply most s b f =
     pick (eqb (f .digit) 0)
     (emit s (f .place) (f .role))
-    (number most s (f .place)
+    (withNumber most s (f .place)
     (pick (eqb (f .digit) 1) (b - 48) (10 * s .pending .number + (b - 48)))
     (pick (eqb (f .digit) 1) (s .taken) (s .pending .position)))
 
@@ -79,11 +79,11 @@ module _ {most : ℕ} {s : State} {b : ℕ} where
   emitted = record { is = refl }
 
   began : {c : ℕ} → Does most s b (readDigit most s c (b - 48) (s .taken)) (digitTo (digits c) 1)
-  unfolding readDigit number apply pick
+  unfolding readDigit withNumber apply pick
   began = record { is = refl }
 
   went-on : {c : ℕ} → Does most s b (readDigit most s c (10 * s .pending .number + (b - 48)) (s .pending .position)) (digitTo (digits c) 2)
-  unfolding readDigit number apply pick
+  unfolding readDigit withNumber apply pick
   went-on = record { is = refl }
 
   choose : (t : Bool) {x y : State} {f g : Effect} → Does most s b x f → Does most s b y g → Does most s b (pick t x y) (pick t f g)

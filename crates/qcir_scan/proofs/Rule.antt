@@ -1,6 +1,6 @@
 -- The table `moves` is right: at each place, on a byte of each class, its entry is the step's effect.
 -- Assumes nothing.
-use mathlib.Core.Bool.{Bool, true, false, not, _&&_, _||_}
+use mathlib.Core.Bool.{Bool, true, not, _&&_, _||_}
 use mathlib.Core.List.{List, [], _∷_}
 use mathlib.Core.Path.{_≡_, refl, sym, _∙_, ap}
 use Prim.Native.Nat.{ℕ, _+_, _*_, _-_, _/_, _%_, _≤_, _<_}
@@ -112,7 +112,7 @@ inName i = leb 59 i && ltb i 74
 unfoldable pub named : ℕ → ℕ → Bool
 named b e = leb (e / 256) 24 || (isDigit b && inName (e % 256))
 
--- A digit within a name goes on with it.
+-- A digit within a name goes on with it: the place stays, and 26 is done.
 unfoldable pub further : ℕ → ℕ → ℕ → Bool
 further i b e = not (inName i && isDigit b) || eqb e (6656 + i)
 

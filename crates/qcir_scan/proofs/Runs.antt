@@ -1,14 +1,12 @@
 -- Laws of runs: byte after byte, and once the machine is dead.
 -- Assumes nothing.
-use mathlib.Core.Bool.{Bool, true, false}
+use mathlib.Core.Bool.{true, false}
 use mathlib.Core.List.{List, [], _∷_, _++_}
 use mathlib.Core.Path.{_≡_, refl, sym, _∙_, ap}
-use Prim.Native.Nat.{ℕ, zero, suc, _+_, _≤_, _<_}
-use native.Mathlib.Nat.{add-zero, add-suc, suc-add}
+use Prim.Native.Nat.{ℕ, suc, _+_, _≤_, _<_}
 use native.Mathlib.Numerals.{add-one}
-use native.Mathlib.Omega.{arith}
 use lib.ListN.{length, getD, take, drop, take-append-drop, drop-of-length-le}
-use lib.Seq.{take-suc, take-all, drop-cons}
+use lib.Seq.{take-suc, drop-cons}
 use Rattle.lists.specs.Choice.{pick-yes, pick-no, clash}
 use Rattle.qcir_text.specs.Machine.{Place, dead, heading, headed, padded, counted, ready, inside, digits, comment, State, start, move, stepAt, step, run, isDead, isDone, alive, accepts}
 

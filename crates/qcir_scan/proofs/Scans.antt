@@ -1,20 +1,19 @@
 -- A scan as a whole: its start, and what it answers.
 -- Assumes nothing.
 use mathlib.Core.Bool.{Bool, true, false}
-use mathlib.Core.List.{List, [], _∷_}
+use mathlib.Core.List.{List}
 use mathlib.Core.Path.{_≡_, refl, sym, _∙_, ap}
 use Prim.Native.Nat.{ℕ, _+_, _-_, _/_, _%_, _≤_, _<_}
 use native.Mathlib.Nat.{zero-add}
 use native.Mathlib.Omega.{arith}
 use lib.Dec.{eqb}
-use lib.ListN.{length, take, drop}
+use lib.ListN.{length, take}
 use lib.Seq.{take-all}
 use borrow.Author.Tests.{eq-eqb}
 use Rattle.lists.specs.Choice.{pick-yes, clash}
 use Rattle.qcir_tokens.specs.Held.{tokensFrom}
 use Rattle.qcir_text.specs.Machine.{start, emit, step, run, alive, accepts, tokensOf, isDead, isDone}
 use Rattle.qcir_scan.specs.declared.Progress.{Progress}
-use Rattle.qcir_scan.specs.declared.Scanned.{Scanned}
 use Rattle.qcir_scan.specs.Places.{places, placeOf, spares, spare}
 use Rattle.qcir_scan.specs.Tables.{entryAt}
 use Rattle.qcir_scan.specs.Held.{highest, stateOf, Wide, Holds, Answers}

@@ -1,25 +1,25 @@
 -- One byte: what the code's variables and arrays hold after it.
 -- Assumes nothing.
-use mathlib.Core.Bool.{Bool, true, false}
+use mathlib.Core.Bool.{true, false}
 use mathlib.Core.List.{List, [], _∷_, _++_}
 use mathlib.Core.Path.{_≡_, refl, sym, _∙_, ap, subst}
-use Prim.Native.Nat.{ℕ, suc, _+_, _*_, _-_, _/_, _%_, _≤_, _<_}
+use Prim.Native.Nat.{ℕ, _+_, _*_, _-_, _/_, _%_, _≤_, _<_}
 use native.Mathlib.Nat.{mul-add-mod-self-left, mul-add-div, mod-eq-of-lt, div-eq-of-lt}
 use native.Mathlib.Numerals.{add-one}
 use native.Mathlib.Omega.{arith}
 use lib.Dec.{eqb, leb, ltb}
-use lib.ListN.{length, getD, set, take, drop, length-set}
-use borrow.Author.Tests.{eqb-true, eqb-false, leb-true, leb-false, eq-eqb, ne-eqb, le-leb, lt-leb, ltb-true, ltb-false}
+use lib.ListN.{length, getD, set, take, length-set}
+use borrow.Author.Tests.{eqb-true, eqb-false, eq-eqb, ne-eqb, le-leb, lt-leb, ltb-true, ltb-false}
 use Rattle.lists.specs.Choice.{pick, pick-yes, pick-no, Is, is-true, is-false, look, or-left, or-right, or-neither}
 use Rattle.qcir.specs.Spelling.{isDigit}
-use Rattle.qcir_tokens.specs.Tokens.{Token, token}
+use Rattle.qcir_tokens.specs.Tokens.{token}
 use Rattle.qcir_tokens.specs.Held.{tokensFrom}
-use Rattle.qcir_text.specs.Machine.{Place, dead, State, start, move, moveName, emit, step, stepAt, run, alive, isDead}
+use Rattle.qcir_text.specs.Machine.{dead, State, start, move, moveName, emit, step, run, isDead}
 use Rattle.qcir_scan.specs.declared.Progress.{Progress}
 use Rattle.qcir_scan.specs.Places.{places, placeOf, spares, spare}
 use Rattle.qcir_scan.specs.Tables.{entryAt}
 use Rattle.qcir_scan.specs.Held.{highest, stateOf, Wide, Lives, Holds, InName, numberAfter, beginAfter, countAfter}
-use Rattle.qcir_scan.proofs.Effects.{Effect, effectAt, number, apply, step-effect}
+use Rattle.qcir_scan.proofs.Effects.{withNumber, apply, step-effect}
 use Rattle.qcir_scan.proofs.Rule.{effectOf, tokenBytes, dead-number, entry-effect, next-low, next-spare, digit-value, further-digit}
 use Rattle.qcir_scan.proofs.Runs.{next-run, alive-next}
 use Rattle.qcir_scan.proofs.Tokens.{tokens-kept, tokens-more}
@@ -178,21 +178,21 @@ module _ (text rs ns ps : List ℕ) (q : Progress) (h : Holds text rs ns ps q) (
     unfolding beginAfter
     begin-is = ap (λ t. pick t (q .at) (q .begin)) (first-digit act d)
 
-    numbering : apply highest s b (effectOf e) ≡ number highest s (placeOf (e % 256)) n (beginAfter act (q .begin) (q .at))
+    numbering : apply highest s b (effectOf e) ≡ withNumber highest s (placeOf (e % 256)) n (beginAfter act (q .begin) (q .at))
     unfolding apply effectOf act s stateOf
     numbering =
         pick-no _ _ _ (ne-eqb (e / 256 - 24) 0 (λ z. omega arith))
-        ∙ ap (λ x. number highest s (placeOf (e % 256)) x (pick (eqb (e / 256 - 24) 1) (q .at) (q .begin))) number-is
-        ∙ ap (λ x. number highest s (placeOf (e % 256)) n x) begin-is
+        ∙ ap (λ x. withNumber highest s (placeOf (e % 256)) x (pick (eqb (e / 256 - 24) 1) (q .at) (q .begin))) number-is
+        ∙ ap (λ x. withNumber highest s (placeOf (e % 256)) n x) begin-is
 
     into-state : n ≤ highest → apply highest s b (effectOf e) ≡ stateOf into rs ns ps
-    unfolding number moveName s stateOf into
+    unfolding withNumber moveName s stateOf into
     into-state a =
         numbering ∙ pick-yes _ _ _ (le-leb n highest a)
         ∙ state-is (moveName s (placeOf (e % 256)) (record { number = n; position = beginAfter act (q .begin) (q .at) })) into rs ns ps refl (sym (add-one (q .at))) refl refl refl
 
     over-state : highest < n → apply highest s b (effectOf e) ≡ stateOf over rs ns ps
-    unfolding number move s stateOf placeOf places over
+    unfolding withNumber move s stateOf placeOf places over
     over-state a =
         numbering ∙ pick-no _ _ _ (lt-leb n highest a)
         ∙ state-is (move s dead) over rs ns ps refl (sym (add-one (q .at))) refl refl refl

@@ -1,14 +1,14 @@
 -- Tokens held in arrays: one more is stored after the last.
 -- Assumes nothing.
 use mathlib.Core.List.{List, [], _∷_, _++_}
-use mathlib.Core.Path.{_≡_, refl, sym, _∙_, ap}
+use mathlib.Core.Path.{_≡_, refl, _∙_, ap}
 use Prim.Native.Nat.{ℕ, zero, suc, _+_, _≤_, _<_}
 use native.Mathlib.Nat.{add-zero}
 use native.Mathlib.Numerals.{add-one}
 use native.Mathlib.Omega.{arith}
-use lib.ListN.{length, getD, set}
+use lib.ListN.{length, set}
 use lib.Seq.{getD-set-same, getD-set-other}
-use Rattle.qcir_tokens.specs.Tokens.{Token, token}
+use Rattle.qcir_tokens.specs.Tokens.{token}
 use Rattle.qcir_tokens.specs.Held.{tokenAt, tokensFrom}
 
 tokens-last : (rs ns ps : List ℕ) (i count : ℕ) → tokensFrom rs ns ps i (suc count) ≡ tokensFrom rs ns ps i count ++ (tokenAt rs ns ps (i + count) ∷ [])

@@ -1,11 +1,12 @@
 -- The machine's places, numbered.
 -- Assumes nothing.
 use mathlib.Core.List.{List, [], _∷_}
-use Prim.Native.Nat.{ℕ, zero, suc}
+use Prim.Native.Nat.{ℕ}
 use lib.ListN.{getD}
 use Rattle.qcir_text.specs.Machine.{Place, dead, heading, headed, padded, counted, ready, inside, digits, comment}
 
--- Those that a run from the start can be at.
+-- Those that a run from the start can be at: 0 is dead, 1 the start, 36 where a file may end, 59 to 73 within names or right after
+-- them.
 unfoldable pub places : List Place
 places =
     dead

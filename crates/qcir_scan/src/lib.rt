@@ -21,14 +21,14 @@ mod table;
 use table::COLUMNS;
 use table::MOVES;
 
-// The place's number where no file goes on, at the start, and where a file may end.
+// Numbers of places: where no file goes on, the start, and where a file may end.
 const DEAD: usize = 0;
 
 const START: usize = 1;
 
 const DONE: usize = 36;
 
-// What an entry of the table does: a name begins. Lower ones end the pending name in this role (0: they end none).
+// What an entry of the table does if a name begins; if less, the pending name ends in this role, or, if 0, nothing is done.
 const NAME: u8 = 25;
 
 // The highest number of a name.
@@ -53,6 +53,8 @@ pub struct Scanned {
 }
 
 // Scans a text. If it is a file, the arrays hold its tokens.
+//
+// The contract rules out a scanner that reports a spelling error late, and one that accepts a name above 65,535.
 pub fn scan(text: &[u8], roles: &mut [u8], numbers: &mut [u16], positions: &mut [u16]) -> Scanned
     requires { ⌜ length (now text) ≤ 65536 ⌝ }
     requires { ⌜ Wide (now roles) (now numbers) (now positions) ⌝ }
@@ -120,7 +122,7 @@ fn walk(
     }
 }
 
-// Takes one byte, or a whole name.
+// Takes one byte, or the digits of a name.
 fn advance(
     moves: &[u16; 4092],
     columns: &[u16; 256],
@@ -192,7 +194,7 @@ fn read_digits(text: &[u8], q: Progress) -> Progress
     q
 }
 
-// A digit more makes the pending name too high.
+// Takes a digit that makes the pending name too high.
 fn stopped(q: Progress) -> Progress
     requires { ⌜ q .at < 65536 ⌝ }
     ensures { λ r. ⌜ r ≡ record { at = q .at + 1; place = 0; number = q .number; begin = q .begin; count = q .count } ⌝ }
@@ -233,6 +235,7 @@ fn put_token(roles: &mut [u8], numbers: &mut [u16], positions: &mut [u16], q: Pr
     positions[count] = q.begin as u16;
 }
 
+// The pending number after a digit.
 fn number_after(act: u8, number: u32, digit: u8) -> u32
     requires { ⌜ number ≤ 65535 ⌝ }
     ensures { λ r. ⌜ r ≡ numberAfter act number digit ⌝ }
@@ -243,6 +246,7 @@ fn number_after(act: u8, number: u32, digit: u8) -> u32
     10 * number + digit as u32
 }
 
+// The position of the pending name.
 fn begin_after(act: u8, begin: u32, at: u32) -> u32
     ensures { λ r. ⌜ r ≡ beginAfter act begin at ⌝ }
 {
@@ -252,6 +256,7 @@ fn begin_after(act: u8, begin: u32, at: u32) -> u32
     begin
 }
 
+// How many tokens there are after a byte that ends the pending name in this role.
 fn count_after(role: u8, count: usize) -> usize
     requires { ⌜ count < 32768 ⌝ }
     ensures { λ r. ⌜ r ≡ countAfter role count ⌝ }

