@@ -3,7 +3,7 @@
 use mathlib.Core.Bool.{true}
 use mathlib.Core.List.{List}
 use mathlib.Core.Path.{_≡_, refl, sym, _∙_}
-use Prim.Native.Nat.{ℕ, _-_, _≤_, _<_}
+use Prim.Native.Nat.{ℕ, _+_, _*_, _-_, _%_, _≤_, _<_}
 use native.Mathlib.Omega.{arith}
 use lib.ListN.{length, getD}
 use borrow.Author.Tests.{not-false}
@@ -56,7 +56,8 @@ returns-2 c =
     let w : getD text (q .at) 0 < 256 = omega (arith, c .before .before .before .before .before .before .before .before .before .shared-slice-known .given (q .at)) in
     let g : 0 < q .place = omega (arith, turn .inv .0 .first) in
     let t : isDigit (getD text (q .at) 0) ≡ true = sym (c .before .before .before .before .is-digit .ensures) ∙ not-false _ (c .before .before .before .if2 .left) in
-    rw (c .stopped .ensures) (omega (arith, turn .inv .2), λ rs ns ps h. further-too-high text rs ns ps q (turn .inv .4 rs ns ps h) l g (start .pre .0) w (turn .inv .0) t refl (c .before .if3 .taken))
+    let over : 65535 < 10 * q .number + getD text (q .at) 0 % 16 = omega (arith, c .before .if3 .taken) in
+    rw (c .stopped .ensures) (omega (arith, turn .inv .2), λ rs ns ps h. further-too-high text rs ns ps q (turn .inv .4 rs ns ps h) l g (start .pre .0) w (turn .inv .0) t refl over)
 
 add-q : tie.Need-add-q Inv-loop μ-loop
 add-q c = search needs
@@ -74,7 +75,8 @@ loop-again c =
     let w : getD text (q .at) 0 < 256 = omega (arith, c .before .before .before .before .before .before .before .before .shared-slice-known .given (q .at)) in
     let g : 0 < q .place = omega (arith, turn .inv .0 .first) in
     let t : isDigit (getD text (q .at) 0) ≡ true = sym (c .before .before .before .is-digit .ensures) ∙ not-false _ (c .before .before .if2 .left) in
-    (turn .inv .0, c .if3 .left, omega (arith, turn .inv .2), omega arith, λ rs ns ps h. further-on text rs ns ps q (turn .inv .4 rs ns ps h) l g (start .pre .0) w (turn .inv .0) t refl (c .if3 .left))
+    let low : 10 * q .number + getD text (q .at) 0 % 16 ≤ 65535 = omega (arith, c .if3 .left) in
+    (turn .inv .0, low, omega (arith, turn .inv .2), omega arith, λ rs ns ps h. further-on text rs ns ps q (turn .inv .4 rs ns ps h) l g (start .pre .0) w (turn .inv .0) t refl low)
 
 returns-3 : tie.Need-returns-3 Inv-loop μ-loop
 returns-3 c = (c .before .before .loop .inv .2, c .before .before .loop .inv .4)
