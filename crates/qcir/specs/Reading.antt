@@ -71,7 +71,8 @@ outcome lim f words list =
     (pick (ltb (length words) (length ws) || ltb (length list) (length ls)) (refused 9 0 words list)
     (read ws ls words list))))))
 
--- What reading a text does. Of each text exactly one of the three holds, with one outcome (proofs/Unique.antt).
+-- What reading a text does. Of each text exactly one of the three holds, with one outcome (qcir_reader's
+-- proofs/Unique.antt).
 pub data Reading (lim : Limits) (text words list : List ℕ) : Outcome → Type 0 where
   -- "10 length, at 0"
   too-long : lim .bytes < length text → Reading lim text words list (refused 10 0 words list)

@@ -59,7 +59,11 @@ pub fn read_from<'a>(r: Reader<'a>, words: &mut [u32], list: &mut [u32]) -> Answ
     read_at(r.text, r.at, words, list)
 }
 
-// Reads a text into a formula table.
+// Reads a QCIR text into a formula table: its nodes to the start of `words`, its list to the start of
+// `list`.
+//
+// The contract rules out a reader that judges variables before gates (12 before 13), and one that
+// writes the words before the list's room is known.
 pub fn read(text: &[u8], words: &mut [u32], list: &mut [u32]) -> Answer
     ensures { λ s. ⌜ Reads (now (text .entry)) 0 (now (words .entry)) (now (list .entry)) (now (words .exit)) (now (list .exit)) s ⌝ }
 {

@@ -61,8 +61,8 @@ pub extern "C" fn wakubinryo_free_variables(
 
 // Reads a QCIR text into a formula table: number, position, words and list entries written.
 //
-// The contract rules out an answer whose sizes are exchanged, and a reading of the text without its
-// first byte.
+// The contract rules out an answer whose sizes are exchanged, and a reading with the two buffers
+// exchanged.
 #[no_mangle]
 pub extern "C" fn wakubinryo_read_qcir(
     text: &[u8],

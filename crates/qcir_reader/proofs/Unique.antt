@@ -1,0 +1,66 @@
+-- A text is read in one way: `Reading` allows one outcome.
+-- Assumes nothing.
+use mathlib.Core.List.{List, [], _++_, append-assoc, append-nil}
+use mathlib.Core.Path.{_≡_, refl, sym, _∙_, ap, subst}
+use Prim.Native.Nat.{ℕ, suc, _≤_, _<_}
+use native.Mathlib.Omega.{arith}
+use lib.Dec.{ltb}
+use borrow.Author.Tests.{ltb-true, ltb-false}
+use lib.ListN.{length, take, drop, take-append-drop}
+use lib.Seq.{take-take, take-length}
+use Rattle.lists.specs.Choice.{Is, is-true, is-false, look}
+use Rattle.qcir.specs.File.{File}
+use Rattle.qcir.specs.Spelling.{Spells, Viable, SpellingFault, at-byte, at-end}
+use Rattle.qcir.specs.Reading.{Limits, Outcome, outcome, refused, Reading, too-long, misspelled, spelled}
+use Rattle.qcir_text.proofs.Spelling.{unique}
+
+-- The start of a text with which a file begins is one.
+viable-start : (most : ℕ) (text : List ℕ) (p q : ℕ) → p ≤ q → Viable most (take q text) → Viable most (take p text)
+viable-start most text p q h v =
+    let e : take p text ++ drop p (take q text) ≡ take q text = ap (λ (t : List ℕ). t ++ drop p (take q text)) (sym (take-take p q text h)) ∙ take-append-drop p (take q text) in
+    record {
+      more = drop p (take q text) ++ v .more;
+      file = v .file;
+      spells = subst (λ (t : List ℕ). Spells most t (v .file)) (ap (λ (t : List ℕ). t ++ v .more) (sym e) ∙ append-assoc (take p text) (drop p (take q text)) (v .more)) (v .spells);
+    }
+
+-- A whole text as the start of itself.
+viable-whole : (most : ℕ) (text : List ℕ) (p : ℕ) → p ≤ length text → Viable most text → Viable most (take p text)
+viable-whole most text p h v = viable-start most text p (length text) h (subst (λ (t : List ℕ). Viable most t) (sym (take-length text)) v)
+
+-- A text that is a file begins one.
+viable-file : (most : ℕ) (text : List ℕ) (f : File) → Spells most text f → Viable most text
+viable-file most text f s = record { more = []; file = f; spells = subst (λ (t : List ℕ). Spells most t f) (sym (append-nil text)) s }
+
+-- Of two bytes where no file goes on, neither is before the other.
+not-before : (most : ℕ) (text : List ℕ) (p q : ℕ) → (Viable most (take (suc p) text) → ⊥) → Viable most (take q text) → q ≤ p
+not-before most text p q dead v = go (look (ltb p q))
+  where
+    go : Is (ltb p q) → q ≤ p
+    go (is-true h) = absurd (dead (viable-start most text (suc p) q (let l : p < q = ltb-true p q h in omega (arith, l)) v))
+    go (is-false h) = ltb-false p q h
+
+fault-unique : (most : ℕ) (text : List ℕ) (p q : ℕ) → SpellingFault most text p → SpellingFault most text q → p ≡ q
+fault-unique most text p q (at-byte r h v dead) (at-byte s k w gone) =
+    let a = not-before most text p q dead w in
+    let b = not-before most text q p gone v in
+    omega (arith, a, b)
+fault-unique most text p q (at-byte r h v dead) (at-end w none) = absurd (dead (viable-whole most text (suc p) (omega (arith, h)) w))
+fault-unique most text p q (at-end v none) (at-byte s k w gone) = absurd (gone (viable-whole most text (suc q) (omega (arith, k)) v))
+fault-unique most text p q (at-end v none) (at-end w never) = refl
+
+-- A file has no fault in its spelling.
+spelled-faultless : (most : ℕ) (text : List ℕ) (p : ℕ) (f : File) → Spells most text f → SpellingFault most text p → ⊥
+spelled-faultless most text p f s (at-byte r h v dead) = dead (viable-whole most text (suc p) (omega (arith, h)) (viable-file most text f s))
+spelled-faultless most text p f s (at-end v none) = none f s
+
+pub reading-unique : (lim : Limits) (text words list : List ℕ) (a b : Outcome) → Reading lim text words list a → Reading lim text words list b → a ≡ b
+reading-unique lim text words list a b (too-long h) (too-long k) = refl
+reading-unique lim text words list a b (too-long h) (misspelled k p e) = absurd (omega (arith, h, k))
+reading-unique lim text words list a b (too-long h) (spelled k f s) = absurd (omega (arith, h, k))
+reading-unique lim text words list a b (misspelled h p e) (too-long k) = absurd (omega (arith, h, k))
+reading-unique lim text words list a b (misspelled h p e) (misspelled k q g) = ap (λ (n : ℕ). refused 10 n words list) (fault-unique (lim .names) text p q e g)
+reading-unique lim text words list a b (misspelled h p e) (spelled k f s) = absurd (spelled-faultless (lim .names) text p f s e)
+reading-unique lim text words list a b (spelled h f s) (too-long k) = absurd (omega (arith, h, k))
+reading-unique lim text words list a b (spelled h f s) (misspelled k p e) = absurd (spelled-faultless (lim .names) text p f s e)
+reading-unique lim text words list a b (spelled h f s) (spelled k g t) = ap (λ (z : File). outcome lim z words list) (unique s t)
