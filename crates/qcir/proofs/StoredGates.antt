@@ -15,10 +15,9 @@ use Rattle.formula.specs.Words.{tableOf}
 use Rattle.formula.specs.Valuation.{Valuation}
 use Rattle.formula.specs.Truth.{bit, digit, operatorValue}
 use Rattle.formula.specs.Tree.{timesNamed}
-use Rattle.formula.specs.Form.{quantify}
 use Rattle.table_check.specs.Verdict.{isNumber}
 use Rattle.qcir.specs.File.{Name, Literal, Junction, conjunction, disjunction, Gate, junction-gate, xor-gate, quantified-gate, gateName, gateVariables, gateInputs, Line, lineVariables, numbersOf, namesOf}
-use Rattle.qcir.specs.Meaning.{Meaning, literalValue, junctionValue, gateValue, meaning, lineBlock}
+use Rattle.qcir.specs.Meaning.{Meaning, literalValue, junctionValue, gateValue, meaning, prefixValue}
 use Rattle.qcir.specs.Refusals.{inputNumbers}
 use Rattle.qcir.specs.Table.{Draft, Stored, store, storeName, storeLiteral, storeInputs, junctionTable, emptyValue, storeGate, storeGates, storePrefix, emptyDraft}
 use Rattle.qcir.proofs.Numbers.{lineNames}
@@ -335,14 +334,14 @@ module _ (R : Type 0) where
       (defined s uses m x (gateValue m g) (a .gate x ∙ none x fresh) used (a .holds) (a .stands))
 
   pub prefix-stores : (ls : List Line) → Prefix R ls → (d : Draft) (m : Meaning) (g : Valuation → Bool) (s : Stored) → Stores R d [] [] m g s
-      → Stores R d [] [] m (quantify (map lineBlock ls) g) (storePrefix s ls)
-  unfolding storePrefix quantify lineBlock
+      → Stores R d [] [] m (prefixValue ls g) (storePrefix s ls)
+  unfolding storePrefix prefixValue
   prefix-stores [] no-prefix d m g s p = p
   prefix-stores (l ∷ ls) (prefix-line apart ranged rest) d m g s p =
       let a = prefix-stores ls rest d m g s p in
       let e = storePrefix s ls in
       stores-after (a .kept) (a .gate)
-      (new-block R (e .draft) [] [] m (l .quantifier) (numbersOf (lineVariables l)) (e .node) (quantify (map lineBlock ls) g) apart
+      (new-block R (e .draft) [] [] m (l .quantifier) (numbersOf (lineVariables l)) (e .node) (prefixValue ls g) apart
       (λ r. all-intro isNumber _ (ranged r)) (a .holds) (a .stands))
 
   pub empty-holds : (uses : List ℕ) → Holds R emptyDraft [] uses (λ x u. u x)

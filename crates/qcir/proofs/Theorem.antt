@@ -18,12 +18,11 @@ use Rattle.formula.specs.Words.{width, nodeCount, nodeAt, tableOf}
 use Rattle.formula.specs.Valuation.{Valuation}
 use Rattle.formula.specs.Truth.{truth}
 use Rattle.formula.specs.Tree.{timesNamed, Tree}
-use Rattle.formula.specs.Form.{quantify}
 use Rattle.table_check.specs.Verdict.{limit, countAt, verdict, accepted}
 use Rattle.table_check.specs.Accepted.{Accepted}
 use Rattle.table_check.proofs.Accepted.{counts-below, holds-accepted}
 use Rattle.qcir.specs.File.{File}
-use Rattle.qcir.specs.Meaning.{Meaning, literalValue, meaning, lineBlock, fileTruth}
+use Rattle.qcir.specs.Meaning.{Meaning, literalValue, meaning, prefixValue, fileTruth}
 use Rattle.qcir.specs.Refusals.{misplaced, notUsedOnce}
 use Rattle.qcir.specs.Table.{Stored, storeLiteral, storeGates, storePrefix, emptyDraft, fileDraft, tableWords, tableList}
 use Rattle.qcir.specs.Reading.{crowded}
@@ -62,7 +61,7 @@ module _ (f : File) (placed : misplaced f ≡ []) (used : notUsedOnce f ≡ []) 
       (λ x h. refl) (empty-holds (Ranged f) _)
 
   stored : Stores (Ranged f) (storeGates emptyDraft (f .gates)) [] [] (fileMeaning f)
-      (quantify (map lineBlock (f .prefix)) (literalValue (fileMeaning f) (f .output))) (fileStored f)
+      (prefixValue (f .prefix) (literalValue (fileMeaning f) (f .output))) (fileStored f)
   stored =
       prefix-stores (Ranged f) (f .prefix) (prefix-proper f placed) (storeGates emptyDraft (f .gates)) (fileMeaning f) (literalValue (fileMeaning f) (f .output))
       (storeLiteral (storeGates emptyDraft (f .gates)) (f .output))

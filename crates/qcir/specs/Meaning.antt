@@ -1,12 +1,11 @@
 -- The truth value of a QCIR file, on what the file says.
 -- Assumes nothing.
 use mathlib.Core.Bool.{Bool, true, false, not, _&&_, _||_}
-use mathlib.Core.List.{List, [], _∷_, map}
+use mathlib.Core.List.{List, [], _∷_}
 use Prim.Native.Nat.{ℕ}
 use lib.Dec.{eqb}
 use Rattle.lists.specs.Choice.{pick}
 use Rattle.formula.specs.Valuation.{Valuation, quant}
-use Rattle.formula.specs.Form.{Block, quantify}
 use Rattle.qcir.specs.File.{Name, Literal, Junction, conjunction, disjunction, Gate, junction-gate, xor-gate, quantified-gate, gateName, Line, lineVariables, File, numbersOf}
 
 -- The value of each name under each valuation.
@@ -36,10 +35,11 @@ unfoldable pub meaning : Meaning → List Gate → Meaning
 meaning m [] = m
 meaning m (g ∷ gs) = meaning (λ x v. pick (eqb x (gateName g .number)) (gateValue m g v) (m x v)) gs
 
--- A prefix line as a prefix block.
-unfoldable pub lineBlock : Line → Block
-lineBlock l = record { quantifier = l .quantifier; variables = numbersOf (lineVariables l) }
+-- g under the prefix lines, the first line outermost.
+unfoldable pub prefixValue : List Line → (Valuation → Bool) → Valuation → Bool
+prefixValue [] g v = g v
+prefixValue (l ∷ ls) g v = quant (l .quantifier) (numbersOf (lineVariables l)) (prefixValue ls g) v
 
--- The output's value under the prefix lines, the first line outermost. A name that no gate line defines is a variable.
+-- The output's value under the prefix lines. A name that no gate line defines is a variable.
 unfoldable pub fileTruth : File → Valuation → Bool
-fileTruth f v = quantify (map lineBlock (f .prefix)) (literalValue (meaning (λ x u. u x) (f .gates)) (f .output)) v
+fileTruth f v = prefixValue (f .prefix) (literalValue (meaning (λ x u. u x) (f .gates)) (f .output)) v
