@@ -1,5 +1,5 @@
 /*
- * wakubinryo: quantified Boolean formulas to prenex form.
+ * wakubinryo: QCIR files to formula tables, and these to prenex form.
  *
  * FORMULA TABLES
  *
@@ -56,12 +56,47 @@
  * Order: 1, 2; then the nodes upward, each tested for 3 to 7 in this order;
  * then 8; then 9. Nothing else is ever refused.
  *
+ * QCIR TEXTS
+ *
+ * A QCIR text is read into a formula table within these limits: at most 65,536
+ * bytes; names are decimal numbers 1 to 65,535 without leading zeros; keywords
+ * are in lower case; `ite` is not read. Spaces and tabs may stand around words
+ * and signs, a line ends at LF or at the text's end, and blank lines and, after
+ * the header, lines whose first sign is # are skipped.
+ *
+ *   #QCIR-G14 or #QCIR-G14 and a count           the header, at byte 0
+ *   free(x, ..)                                  at most one
+ *   exists(x, ..), forall(x, ..)                 any number, first outermost
+ *   output(l)                                    one
+ *   g = and(l, ..), g = or(l, ..)                gates, with any number of
+ *   g = xor(l, l)                                inputs, with two,
+ *   g = exists(x, ..; l), g = forall(x, ..; l)   or quantified
+ *
+ * An input or the output l is a name, or a minus sign and a name. Its refusals
+ * are 2, 6 and 9 above, 2 for nodes only, and these:
+ *
+ *   number  given when                                                position
+ *   10      the text is over 65,536 bytes                             0
+ *           no file can go on here, or the text ends before a file    byte
+ *           does
+ *   11      a gate is defined twice, or its name stands in a list     byte
+ *           too; an input of a gate line names a gate of this or a
+ *           later line; a name stands twice in one list, or in the
+ *           free and prefix lines together: at the first digit of
+ *           the later place or early use, the lowest such byte
+ *   13      a gate is not used exactly once                           its name
+ *   12      no block above binds a variable, and no free line names   its name
+ *           it
+ *
+ * Order: 10, 11, 13, 12, 2, 6, 9; of several names the lowest is the position.
+ *
  * MEMORY
  *
- * All lengths count 32-bit words. A call reads the words and the list lent to
- * it, writes the answer and the buffers lent to it, and touches nothing else:
- * it allocates nothing and keeps nothing. It uses less than 256 KiB of stack;
- * this is measured, not proved. On refusal no buffer has changed, whatever the
+ * All lengths count elements: 32-bit words, or bytes of a text. A call reads
+ * what is lent to it as const, writes the answer and the buffers lent to it,
+ * and touches nothing else: it allocates nothing and keeps nothing. It uses
+ * less than 256 KiB of stack, reading a QCIR text less than 1 MiB; this is
+ * measured, not proved. On refusal no buffer has changed, whatever the
  * buffers held. If done, a buffer's words after the last one written keep
  * their content. Pointers are aligned and not null, even where the length is
  * 0, and what is written must not overlap anything else lent.
@@ -138,6 +173,29 @@ void wakubinryo_free_variables(const uint32_t *words, size_t words_len,
                                const uint32_t *list, size_t list_len,
                                uint32_t *names, size_t names_len,
                                uint32_t answer[3]);
+
+/*
+ * Reads a QCIR text into a formula table.
+ *
+ * Numbers 0, 2, 6 and 9 to 13. If done,
+ *
+ *   words  holds the table's nodes, answer[2] words, 4 to a node
+ *   list   holds its list,          answer[3] words
+ *
+ * in the order of the text: gate line by gate line, inputs from left to right,
+ * each with its not node, an operator right after its second operand; then the
+ * output; then the prefix lines as blocks, the last line lowest. Ranges follow
+ * one another in node order. It gives 9 exactly if the file is good and one of
+ * the two buffers is shorter than that; 16,384 and 4,096 words are always
+ * enough.
+ *
+ * The table is accepted by the calls above and has the file's truth value under
+ * every valuation.
+ */
+void wakubinryo_read_qcir(const uint8_t *text, size_t text_len,
+                          uint32_t *words, size_t words_len,
+                          uint32_t *list, size_t list_len,
+                          uint32_t answer[4]);
 
 #ifdef __cplusplus
 }
