@@ -3,13 +3,13 @@
 use mathlib.Core.Path.{_≡_, refl, sym, _∙_, ap, subst}
 use mathlib.Core.Bool.{Bool, true, false, not, _||_, true≢false, or-false}
 use mathlib.Core.List.{List, [], _∷_, _++_, flatMap}
-use Prim.Native.Nat.{ℕ, zero, suc, _<_}
+use Prim.Native.Nat.{ℕ, zero, suc, _+_, _<_}
 use native.Mathlib.Omega.{arith}
 use native.Mathlib.Nat.{le-of-suc-le-suc, not-suc-le-zero}
 use lib.Dec.{eqb}
 use lib.ListN.{length, getD}
 use borrow.Author.Tests.{eqb-true, eq-eqb, ne-eqb, not-true}
-use Rattle.lists.specs.Choice.{pick-yes, pick-no, Is, is-true, is-false, look, clash, and-left, and-right, and-both, or-left, or-right, or-neither-left, or-neither-right, or-neither, absent}
+use Rattle.lists.specs.Choice.{pick-yes, pick-no, Is, is-true, is-false, look, clash, and-left, and-right, and-both, or-left, or-right, or-neither-left, or-neither-right, or-neither, absent, same-test}
 use Rattle.lists.specs.Members.{mem, all, distinct, times, place}
 
 pub or-group : (a b c d : Bool) → b ≡ (c || d) → (a || b) ≡ ((a || c) || d)
@@ -168,3 +168,11 @@ times-positive x (y ∷ ys) h = times-positive-cons x y ys (found x y ys h) (tim
 pub distinct-append : (xs ys : List ℕ) → distinct xs ≡ true → distinct ys ≡ true → ((x : ℕ) → mem x xs ≡ true → mem x ys ≡ true → ⊥) → distinct (xs ++ ys) ≡ true
 distinct-append [] ys p q apart = q
 distinct-append (x ∷ xs) ys p q apart = distinct-cons x (xs ++ ys) (mem-neither x xs ys (distinct-head x xs p) (absent (mem x ys) (apart x (mem-head x xs)))) (distinct-append xs ys (distinct-tail x xs p) q (λ z m. apart z (mem-tail z x xs m)))
+
+pub times-append : (x : ℕ) (xs ys : List ℕ) → times x (xs ++ ys) ≡ times x xs + times x ys
+unfolding times
+times-append x [] ys = omega arith
+times-append x (y ∷ xs) ys = omega (arith, times-append x xs ys)
+
+pub eqb-swap : (x y : ℕ) → eqb x y ≡ eqb y x
+eqb-swap x y = same-test (eqb x y) (eqb y x) (λ q. eq-eqb y x (sym (eqb-true x y q))) (λ q. eq-eqb x y (sym (eqb-true y x q)))

@@ -10,10 +10,11 @@ use lib.ListN.{length}
 use borrow.Author.Tests.{eqb-true, not-false}
 use Rattle.lists.specs.Choice.{pick, pick-yes, pick-no, Is, is-true, is-false, look, clash, absent, and-both, or-neither, or-neither-right, or-right}
 use Rattle.lists.specs.Members.{mem, times, distinct}
-use Rattle.lists.proofs.Members.{mem-head, mem-left, mem-right, mem-tail, times-zero}
+use Rattle.lists.proofs.Members.{mem-head, mem-left, mem-right, mem-tail, times-zero, times-append}
 use Rattle.table_check.specs.Verdict.{isNumber}
 use Rattle.qcir.specs.File.{Name, Gate, gateName, gateVariables, gateInputs, Line, lineVariables, prefixVariables, File, numbersOf, namesOf}
 use Rattle.qcir.specs.Refusals.{keep, gateNames, outerNames, quantifiedNames, repeated, repeatedInGates, gatesListed, namingGates, without, earlyUses, misplaced, inputNumbers, usedNumbers, notUsedOnce}
+use Rattle.qcir.proofs.Keep.{keep-none}
 use Rattle.qcir.proofs.Numbers.{lineNames, linesNames, allNumbers, Ranged}
 
 -- The parts of an empty list are empty.
@@ -34,25 +35,10 @@ not-picked false p r e = (refl, e)
 differ : (p : ℕ → Bool) (x y : ℕ) → p x ≡ true → p y ≡ false → eqb x y ≡ false
 differ p x y h k = absent (eqb x y) (λ e. clash h (ap p (eqb-true x y e) ∙ k))
 
-pub times-append : (x : ℕ) (xs ys : List ℕ) → times x (xs ++ ys) ≡ times x xs + times x ys
-unfolding times
-times-append x [] ys = omega arith
-times-append x (y ∷ xs) ys = omega (arith, times-append x xs ys)
-
 pub numbers-append : (xs ys : List Name) → numbersOf (xs ++ ys) ≡ numbersOf xs ++ numbersOf ys
 unfolding numbersOf
 numbers-append [] ys = refl
 numbers-append (x ∷ xs) ys = ap (λ l. x .number ∷ l) (numbers-append xs ys)
-
-keep-none : (p : ℕ → Bool) (xs : List ℕ) → keep p xs ≡ [] → (x : ℕ) → mem x xs ≡ true → p x ≡ false
-unfolding keep mem
-keep-none p [] e x m = clash m refl
-keep-none p (y ∷ ys) e x m = go (look (p y)) (look (eqb x y)) (keep-none p ys)
-  where
-    go : Is (p y) → Is (eqb x y) → (keep p ys ≡ [] → (x : ℕ) → mem x ys ≡ true → p x ≡ false) → p x ≡ false
-    go (is-true t) q rest = absurd (omega (arith, ap length (sym (pick-yes _ _ _ t) ∙ e)))
-    go (is-false t) (is-true q) rest = ap p (eqb-true x y q) ∙ t
-    go (is-false t) (is-false q) rest = rest (sym (pick-no _ _ _ t) ∙ e) x (rw q at m)
 
 repeated-none : (before : List ℕ) (x : Name) (xs : List Name) → repeated before (x ∷ xs) ≡ []
     → (mem (x .number) before ≡ false) × (repeated (x .number ∷ before) xs ≡ [])

@@ -1,3 +1,4 @@
+pub mod Keep
 pub mod Numbers
 pub mod StoredWords
 pub mod StoredValues

@@ -61,17 +61,17 @@ whole-store d kind a b c k p =
     let e : length (d .entries) + pick (isBlockKind kind) b 0 ≡ length (d .entries) = rw (pick-no _ _ _ k) (omega arith) in
     subst (Counts (withNode (d .words) kind a b c)) e (counts-more (d .words) (length (d .entries)) kind a b c p)
 
-block-counts : (q : Quantifier) → isBlockKind (blockKind q) ≡ true
+pub block-kind : (q : Quantifier) → isBlockKind (blockKind q) ≡ true
 unfolding blockKind isBlockKind
-block-counts exists = refl
-block-counts for-all = refl
+block-kind exists = refl
+block-kind for-all = refl
 
 whole-block : (q : Quantifier) (xs : List ℕ) (s : Stored) → Whole (s .draft) → Whole (storeBlock q xs s .draft)
 unfolding storeBlock store
 whole-block q xs s p =
     let d = s .draft in
     let e : length (d .entries) + pick (isBlockKind (blockKind q)) (length xs) 0 ≡ length (d .entries ++ xs) =
-    rw (pick-yes _ _ _ (block-counts q)) (sym (length-append (d .entries) xs)) in
+    rw (pick-yes _ _ _ (block-kind q)) (sym (length-append (d .entries) xs)) in
     subst (Counts (withNode (d .words) (blockKind q) (length (d .entries)) (length xs) (s .node))) e
     (counts-more (d .words) (length (d .entries)) (blockKind q) (length (d .entries)) (length xs) (s .node) p)
 

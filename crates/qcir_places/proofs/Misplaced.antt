@@ -15,6 +15,7 @@ use Rattle.lists.proofs.Members.{mem-nil}
 use Rattle.qcir.specs.File.{Name, Literal, File, numbersOf}
 use Rattle.qcir.specs.Refusals.{gateNames, quantifiedNames, outerNames, repeated, repeatedInGates, gatesListed, namingGates, earlyUses, misplaced}
 use Rattle.qcir_tokens.specs.Tokens.{Token, token, outputRole, emptyRole, isOuter, isBound, isDefinition, isInput, freeTokens, prefixTokens, outputToken, gatesTokens, fileTokens, definitionFrom, definition, ascending}
+use Rattle.qcir_tokens.proofs.Tokens.{file-parts}
 use Rattle.qcir_tokens.specs.Held.{Definitions, foundOf}
 use Rattle.qcir_places.specs.Faults.{isEntry, fault, listsAfter, lineAfter, faults, firstOf}
 use Rattle.qcir_places.proofs.Turn.{faults-here, faults-later, faults-passed}
@@ -79,11 +80,6 @@ first-lowest gates [] lists line i p a = first-none
 first-lowest gates (t ∷ ts) lists line i p a =
     first-cons gates lists line i p t ts (look (eqb (t .role) emptyRole)) (look (fault (t .role) (gates (t .name .number)) (lists (t .name .number)) line i)) (first-lowest gates ts) a
 
--- the tokens of the lists before the gates, the output and the gate lines
-file-shape : (f : File) → fileTokens f ≡ (freeTokens (f .free) ++ prefixTokens (f .prefix)) ++ (outputToken (f .output) ∷ gatesTokens (f .gates))
-unfolding fileTokens
-file-shape f = sym (append-assoc (freeTokens (f .free)) (prefixTokens (f .prefix)) (outputToken (f .output) ∷ gatesTokens (f .gates)))
-
 record OutputRole (r : ℕ) : Type 0 where
   no-entry : isEntry r ≡ false
   no-definition : isDefinition r ≡ false
@@ -122,7 +118,7 @@ module _ (k : ℕ) (gates : ℕ → ℕ) (f : File) (defined : (x : ℕ) → gat
   marks = marked 1 (outerNames f) (λ x. 0)
 
   known-outer : Known gates 0 [] (outer ++ tail)
-  known-outer = known-start gates 0 (outer ++ tail) (λ y. defined y ∙ ap (λ (ts : List Token). definitionFrom 0 ts y) (file-shape f))
+  known-outer = known-start gates 0 (outer ++ tail) (λ y. defined y ∙ ap (λ (ts : List Token). definitionFrom 0 ts y) (file-parts f))
 
   known-gates : Known gates (suc index) [] (gatesTokens (f .gates))
   known-gates =
@@ -131,7 +127,7 @@ module _ (k : ℕ) (gates : ℕ → ℕ) (f : File) (defined : (x : ℕ) → gat
       ∙ defines-none index (outputToken (f .output)) (gatesTokens (f .gates)) y (output-role (f .output) .no-definition))
 
   ascent : Ascent 0 (outerNames f) tail
-  ascent = entries-ascend tail (λ r q. q .no-empty) 0 (outer-entries f) (subst (λ ts. ascending 0 ts ≡ true) (file-shape f) order)
+  ascent = entries-ascend tail (λ r q. q .no-empty) 0 (outer-entries f) (subst (λ ts. ascending 0 ts ≡ true) (file-parts f) order)
 
   outer-found : (Above k (faults gates (λ x. 0) 0 0 (outer ++ tail))
       ↔ (Above k (repeated [] (outerNames f)) × Above k (namingGates [] (outerNames f)) × Above k (faults gates marks 0 index tail)))
@@ -161,7 +157,7 @@ module _ (k : ℕ) (gates : ℕ → ℕ) (f : File) (defined : (x : ℕ) → gat
       let d = repeated [] (outerNames f) in
       let e = repeatedInGates gs in (
         λ z.
-            let o = outer-found .0 (subst (λ ts. Above k (faults gates (λ x. 0) 0 0 ts)) (file-shape f) z) in
+            let o = outer-found .0 (subst (λ ts. Above k (faults gates (λ x. 0) 0 0 ts)) (file-parts f) z) in
             let l = lines-found .0 (subst (Above k) output-passed (o .2)) in
             above-both k a (b ++ (c ++ (d ++ e))) (l .twice) (above-both k b (c ++ (d ++ e)) (l .listed) (above-both k c (d ++ e) (l .early) (above-both k d e (o .0) (l .repeats)))),
         λ z.
@@ -169,7 +165,7 @@ module _ (k : ℕ) (gates : ℕ → ℕ) (f : File) (defined : (x : ℕ) → gat
             let z2 = above-right k b (c ++ (d ++ e)) z1 in
             let z3 = above-right k c (d ++ e) z2 in
             let l : Clear k (outerNames f) [] gs = record { twice = above-left k a (b ++ (c ++ (d ++ e))) z; bound = naming-none k (quantifiedNames gs); listed = above-left k b (c ++ (d ++ e)) z1; early = above-left k c (d ++ e) z2; repeats = above-right k d e z3 } in
-            subst (λ ts. Above k (faults gates (λ x. 0) 0 0 ts)) (sym (file-shape f))
+            subst (λ ts. Above k (faults gates (λ x. 0) 0 0 ts)) (sym (file-parts f))
             (outer-found .1 (above-left k d e z3, naming-none k (outerNames f), subst (Above k) (sym output-passed) (lines-found .1 l))),
       )
 

@@ -10,6 +10,7 @@ use lib.Dec.{eqb, leb}
 use lib.ListN.{length, getD, length-map}
 use borrow.Author.Tests.{not-false, eq-eqb, ne-eqb, le-leb, lt-leb}
 use Rattle.lists.specs.Choice.{pick, pick-yes, pick-no, Is, is-true, is-false, look, and-both, and-off-left, and-off-right}
+use Rattle.lists.proofs.Members.{eqb-swap}
 use Rattle.lists.specs.Search.{lowest}
 use Rattle.formula.specs.Node.{Quantifier, exists, for-all}
 use Rattle.formula.specs.Words.{nodeCount, isBlockKind}
@@ -17,11 +18,11 @@ use Rattle.table_check.specs.Verdict.{limit}
 use Rattle.qcir.specs.File.{Name, Literal, Junction, Gate, junction-gate, xor-gate, quantified-gate, gateName, Line, lineVariables, File, numbersOf}
 use Rattle.qcir.specs.Table.{Draft, Stored, store, storeName, storeLiteral, storeInputs, blockKind, storeBlock, junctionTable, emptyValue, storeGate, storeGates, storePrefix, emptyDraft, fileDraft, tableWords, tableList}
 use Rattle.qcir.specs.Reading.{crowded}
+use Rattle.qcir.proofs.StoredCounts.{block-kind}
 use Rattle.qcir_tokens.specs.Tokens.{Token, token, lineRole, laterRole, outputRole, junctionRole, xorRole, quantifierRole, boundRole, inputRole, emptyRole, isOuter, isFree, isDefinition, isBound, isInput, isMinus, listTokens, freeTokens, prefixTokens, outputToken, inputsTokens, anyInputsTokens, gateTokens, gatesTokens, fileTokens, definitionFrom}
 use Rattle.qcir_tokens.specs.Held.{Definitions}
-use Rattle.qcir_uses.proofs.Passes.{eqb-turn}
-use Rattle.qcir_uses.proofs.Roles.{free-all, line-all, later-all, output-all, bound-all, input-all, output-minus, input-minus, output-no-definition, bound-no-definition, input-no-definition, junction-defines, xor-defines, quantifier-defines, Quiet, none, more, quiet-free, quiet-front, front-no-definition, gate-tokens}
-use Rattle.qcir_uses.proofs.Files.{file-parts}
+use Rattle.qcir_tokens.proofs.Roles.{free-all, line-all, later-all, output-all, bound-all, input-all, output-minus, input-minus, output-no-definition, bound-no-definition, input-no-definition, junction-defines, xor-defines, quantifier-defines, Quiet, none, more, quiet-free, quiet-front, front-no-definition, gate-tokens}
+use Rattle.qcir_tokens.proofs.Tokens.{file-parts}
 use Rattle.qcir_sizes.specs.declared.Pass.{Pass}
 use Rattle.qcir_sizes.specs.declared.TableSizes.{TableSizes}
 use Rattle.qcir_sizes.specs.Pass.{isEarlier, start, blockAdded, operandAdded, inputAdded, lineBegun, variableAdded, constantAdded, gateStep, gatesPass, outputAdded, outerStep, filePass, sizesOf}
@@ -47,11 +48,6 @@ operator-plain = refl
 constant-plain : isBlockKind 1 ≡ false
 unfolding isBlockKind
 constant-plain = refl
-
-block-kind : (q : Quantifier) → isBlockKind (blockKind q) ≡ true
-unfolding isBlockKind blockKind
-block-kind exists = refl
-block-kind for-all = refl
 
 -- A name and a literal add what their tests say.
 module _ (gate : ℕ → ℕ) (d : Draft) (n e k : ℕ) (m : Measured gate d n e k) where
@@ -333,14 +329,14 @@ placed-next g us first gate i x node p = go (look (eqb x (gateName g .number))) 
         let f : first ≡ suc i =
         e
         ∙ ap (λ (ts : List Token). definitionFrom i (ts ++ us) x) (gate-tokens g .are)
-        ∙ pick-yes _ _ _ (and-both (isDefinition (gate-tokens g .role)) (eqb (gateName g .number) x) (gate-tokens g .defines) (eqb-turn (gateName g .number) x ∙ t)) in
+        ∙ pick-yes _ _ _ (and-both (isDefinition (gate-tokens g .role)) (eqb (gateName g .number) x) (gate-tokens g .defines) (eqb-swap (gateName g .number) x ∙ t)) in
         earlier (ap (λ (v : ℕ). eqb v 0) (pick-yes _ _ _ t) ∙ ne-eqb (suc node) 0 (λ e. omega arith)) (omega arith) (omega (arith, ap length (gate-tokens g .are)))
     go (is-false t) (to-come a e) =
         let k : suc i + length (gate-tokens g .others) ≡ i + length (gateTokens g) = omega (arith, ap length (gate-tokens g .are)) in
         to-come (pick-no _ _ _ t ∙ a)
         (e
         ∙ ap (λ (ts : List Token). definitionFrom i (ts ++ us) x) (gate-tokens g .are)
-        ∙ pick-no _ _ _ (and-off-right (isDefinition (gate-tokens g .role)) (eqb (gateName g .number) x) (eqb-turn (gateName g .number) x ∙ t))
+        ∙ pick-no _ _ _ (and-off-right (isDefinition (gate-tokens g .role)) (eqb (gateName g .number) x) (eqb-swap (gateName g .number) x ∙ t))
         ∙ definition-quiet (suc i) us x (gate-tokens g .quiet)
         ∙ ap (λ (j : ℕ). definitionFrom j us x) k)
 

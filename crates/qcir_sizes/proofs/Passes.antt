@@ -13,7 +13,7 @@ use Rattle.lists.proofs.Parts.{pick-le}
 use Rattle.table_check.specs.Verdict.{limit}
 use Rattle.qcir_tokens.specs.Tokens.{Token, isOuter, isFree, isDefinition, isBound, isInput, isMinus}
 use Rattle.qcir_tokens.specs.Held.{tokenAt, tokensFrom}
-use Rattle.qcir_uses.proofs.Tokens.{tokens-end, tokens-next}
+use Rattle.qcir_tokens.proofs.Tokens.{tokens-end, tokens-next}
 use Rattle.qcir_sizes.specs.declared.Pass.{Pass}
 use Rattle.qcir_sizes.specs.Pass.{Small, Room, isEarlier, start, blockAdded, operandAdded, inputAdded, lineBegun, variableAdded, constantAdded, gateStep, gatesPass, outputAdded, outerStep, outerPass, filePass, sizesOf}
 

@@ -9,13 +9,15 @@ use lib.Dec.{eqb}
 use borrow.Author.Tests.{eqb-true, eq-eqb}
 use Rattle.lists.specs.Choice.{pick, pick-yes, pick-no, same-test, and-off-left}
 use Rattle.lists.specs.Members.{times}
+use Rattle.lists.proofs.Members.{times-append, eqb-swap}
 use Rattle.formula.specs.Node.{Quantifier}
 use Rattle.qcir.specs.File.{Name, Literal, Junction, Gate, junction-gate, xor-gate, quantified-gate, gateName, gateInputs, File, numbersOf, namesOf}
 use Rattle.qcir.specs.Refusals.{keep, gateNames, inputNumbers, usedNumbers, notUsedOnce}
+use Rattle.qcir.proofs.Keep.{keep-cong}
 use Rattle.qcir_tokens.specs.Tokens.{Token, token, outputRole, junctionRole, xorRole, quantifierRole, boundRole, inputRole, isOutput, isDefinition, isInput, isUse, listTokens, freeTokens, prefixTokens, outputToken, inputsTokens, anyInputsTokens, gateTokens, gatesTokens, fileTokens}
 use Rattle.qcir_uses.specs.Uses.{usesIn, definedIn, misusedIn}
-use Rattle.qcir_uses.proofs.Roles.{free-all, line-all, later-all, output-all, junction-all, quantifier-all, bound-all, input-all, output-no-definition, Quiet, none, more, quiet-list, quiet-front, front-no-definition, gate-tokens}
-use Rattle.qcir_uses.proofs.Passes.{eqb-turn}
+use Rattle.qcir_tokens.proofs.Roles.{free-all, line-all, later-all, output-all, junction-all, quantifier-all, bound-all, input-all, output-no-definition, Quiet, none, more, quiet-list, quiet-front, front-no-definition, gate-tokens}
+use Rattle.qcir_tokens.proofs.Tokens.{file-parts}
 
 uses-quiet : {ts : List Token} (us : List Token) (x : ℕ) → Quiet isUse ts → usesIn (ts ++ us) x ≡ usesIn us x
 unfolding usesIn
@@ -70,14 +72,9 @@ defined-gates (g ∷ gs) =
     ∙ ap (λ (xs : List ℕ). gateName g .number ∷ xs) (defined-quiet (gatesTokens gs) (r .quiet) ∙ defined-gates gs)
 
 -- The uses among the tokens.
-times-append : (x : ℕ) (xs ys : List ℕ) → times x (xs ++ ys) ≡ times x xs + times x ys
-unfolding times
-times-append x [] ys = omega arith
-times-append x (y ∷ xs) ys = omega (arith, times-append x xs ys)
-
 -- a token that is a use
 use-one : (r n x : ℕ) → isUse r ≡ true → _≡_ {A = ℕ} (pick (isUse r && eqb n x) 1 0) (pick (eqb x n) 1 0)
-use-one r n x h = ap (λ (b : Bool). pick (b && eqb n x) 1 0) h ∙ ap (λ (b : Bool). pick b 1 0) (eqb-turn n x)
+use-one r n x h = ap (λ (b : Bool). pick (b && eqb n x) 1 0) h ∙ ap (λ (b : Bool). pick b 1 0) (eqb-swap n x)
 
 uses-inputs : (l : Literal) (ls : List Literal) (us : List Token) (x : ℕ) → usesIn (inputsTokens l ls ++ us) x ≡ times x (numbersOf (namesOf (l ∷ ls))) + usesIn us x
 unfolding usesIn inputsTokens token numbersOf namesOf times
@@ -110,11 +107,6 @@ uses-gates (g ∷ gs) x =
     uses-gate g (gatesTokens gs) x
     ∙ omega (arith, uses-gates gs x, times-append x (numbersOf (namesOf (gateInputs g))) (inputNumbers gs))
 
--- The laws of a file: its tokens are those before the output, the output and the gates.
-pub file-parts : (f : File) → fileTokens f ≡ (freeTokens (f .free) ++ prefixTokens (f .prefix)) ++ (outputToken (f .output) ∷ gatesTokens (f .gates))
-unfolding fileTokens
-file-parts f = sym (append-assoc (freeTokens (f .free)) (prefixTokens (f .prefix)) (outputToken (f .output) ∷ gatesTokens (f .gates)))
-
 file-defined : (f : File) → definedIn (fileTokens f) ≡ numbersOf (gateNames (f .gates))
 unfolding outputToken token definedIn
 file-defined f =
@@ -136,11 +128,6 @@ once n u e =
     same-test (eqb n 1) (eqb u 1)
     (λ q. let a : n ≡ 1 = eqb-true n 1 q in eq-eqb u 1 (omega arith))
     (λ q. let a : u ≡ 1 = eqb-true u 1 q in eq-eqb n 1 (omega arith))
-
-keep-cong : (p q : ℕ → Bool) (xs : List ℕ) → ((x : ℕ) → p x ≡ q x) → keep p xs ≡ keep q xs
-unfolding keep
-keep-cong p q [] h = refl
-keep-cong p q (x ∷ xs) h = rw (h x, keep-cong p q xs h)
 
 pub file-misused : (f : File) (ts : List Token) (uses : ℕ → ℕ) → ts ≡ fileTokens f → ((x : ℕ) → uses x ≡ min 2 (usesIn ts x)) → misusedIn uses ts ≡ notUsedOnce f
 unfolding misusedIn notUsedOnce

@@ -1,4 +1,2 @@
-pub mod Tokens
-pub mod Roles
 pub mod Passes
 pub mod Files

@@ -10,13 +10,14 @@ use lib.Dec.{eqb, ltb}
 use lib.ListN.{length, getD, set}
 use borrow.Author.Tests.{eqb-true, eqb-false, eq-eqb, ne-eqb, ltb-false}
 use Rattle.lists.specs.Choice.{pick, pick-yes, pick-no, Is, is-true, is-false, look, clash, and-off-left, and-right, same-test}
+use Rattle.lists.proofs.Members.{eqb-swap}
 use Rattle.lists.proofs.Stores.{getD-set}
 use Rattle.qcir.specs.Refusals.{keep, least}
 use Rattle.qcir_tokens.specs.Tokens.{Token, isDefinition, isUse, definitionFrom}
 use Rattle.qcir_tokens.specs.Held.{tokenAt, tokensFrom, numberCount, Definitions, foundOf}
 use Rattle.qcir_tokens.specs.declared.Found.{Found}
 use Rattle.qcir_uses.specs.Uses.{usesIn, definedIn, misusedIn}
-use Rattle.qcir_uses.proofs.Tokens.{tokens-end, tokens-back, tokens-all}
+use Rattle.qcir_tokens.proofs.Tokens.{tokens-end, tokens-back, tokens-all}
 
 -- the first definitions among the tokens from token i on
 pub record Marked (roles numbers : List ℕ) (count : ℕ) (gates : List ℕ) (i : ℕ) : Type 0 where
@@ -152,15 +153,12 @@ least-new x (y ∷ ys) r e h =
     λ i. record { found = t i; lowest = m i }
 
 -- a test of equality turned round
-pub eqb-turn : (x y : ℕ) → eqb x y ≡ eqb y x
-eqb-turn x y = same-test (eqb x y) (eqb y x) (λ q. eq-eqb y x (sym (eqb-true x y q))) (λ q. eq-eqb x y (sym (eqb-true y x q)))
-
 -- one store where the test of a token passes
 pub store-where : (l after : List ℕ) (number v : ℕ) (t : Bool) → t ≡ true → number < length l → after ≡ set l number v → (x : ℕ) → getD after x 0 ≡ pick (t && eqb number x) v (getD l x 0)
 store-where l after number v t p h e x =
     ap (λ (m : List ℕ). getD m x 0) e
     ∙ getD-set l number v 0 h x
-    ∙ ap (λ (b : Bool). pick b v (getD l x 0)) (eqb-turn x number ∙ ap (λ (b : Bool). b && eqb number x) (sym p))
+    ∙ ap (λ (b : Bool). pick b v (getD l x 0)) (eqb-swap x number ∙ ap (λ (b : Bool). b && eqb number x) (sym p))
 
 -- and none where it does not
 pub no-store : (l : List ℕ) (number v : ℕ) (t : Bool) → t ≡ false → (x : ℕ) → getD l x 0 ≡ pick (t && eqb number x) v (getD l x 0)

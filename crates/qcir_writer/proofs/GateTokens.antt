@@ -30,6 +30,7 @@ use Rattle.qcir_tokens.specs.Tokens.{
   gateTokens,
   gatesTokens,
 }
+use Rattle.qcir_tokens.proofs.Roles.{junction-defines, xor-defines}
 use Rattle.qcir_writer.specs.declared.Progress.{Progress}
 use Rattle.qcir_writer.specs.Nodes.{
   Added,
@@ -314,11 +315,6 @@ defined w role g = record { draft = w .draft; progress = begun (w .progress) rol
 counted-defined : (w : Writing) (role g : ℕ) → isDefinition role ≡ true → Counted w → Counted (defined w role g)
 counted-defined w role g t k = record { words-counted = k .words-counted; entries-counted = k .entries-counted; first-in = omega arith }
 
-junction-definition : (j : Junction) → isDefinition (junctionRole j) ≡ true
-unfolding junctionRole isDefinition
-junction-definition conjunction = refl
-junction-definition disjunction = refl
-
 junction-kind : (j : Junction) → (leb 16 (junctionRole j) ≡ false) × (joinTable (junctionRole j) ≡ junctionTable j) × (emptyConstant (junctionRole j) ≡ emptyValue j)
 unfolding junctionRole joinTable junctionTable emptyConstant emptyValue pick
 junction-kind conjunction = (refl, refl, refl)
@@ -328,10 +324,6 @@ quantifier-kind : (q : Quantifier) → (isDefinition (quantifierRole q) ≡ true
 unfolding quantifierRole isDefinition gateBlockKind blockKind pick
 quantifier-kind exists = (refl, refl, refl)
 quantifier-kind for-all = (refl, refl, refl)
-
-xor-definition : isDefinition xorRole ≡ true
-unfolding isDefinition
-xor-definition = refl
 
 xor-table : joinTable xorRole ≡ 6
 unfolding joinTable pick
@@ -379,15 +371,15 @@ quantified-law q g x xs l w k =
 gate-law : (g : Gate) (w : Writing) → Counted w → writeTokens w (gateTokens g) .draft ≡ closed (storeGate (w .draft) g) (gateName g .number)
 unfolding writeTokens gateTokens anyInputsTokens token storeGate gateName
 gate-law (junction-gate j g []) w k =
-    ap (λ z. writeToken z emptyRole (g .number) .draft) (definition-token w (junctionRole j) (g .number) (junction-definition j))
+    ap (λ z. writeToken z emptyRole (g .number) .draft) (definition-token w (junctionRole j) (g .number) (junction-defines j))
     ∙ empty-law j g w k
 gate-law (junction-gate j g (l ∷ ls)) w k =
     let c = junction-kind j in
-    ap (λ z. writeTokens z (inputsTokens l ls) .draft) (definition-token w (junctionRole j) (g .number) (junction-definition j))
-    ∙ joined-law (junctionRole j) (junctionTable j) g l ls w k (junction-definition j) (c .0) (c .1)
+    ap (λ z. writeTokens z (inputsTokens l ls) .draft) (definition-token w (junctionRole j) (g .number) (junction-defines j))
+    ∙ joined-law (junctionRole j) (junctionTable j) g l ls w k (junction-defines j) (c .0) (c .1)
 gate-law (xor-gate g l r) w k =
-    ap (λ z. writeTokens z (inputsTokens l (r ∷ [])) .draft) (definition-token w xorRole (g .number) xor-definition)
-    ∙ joined-law xorRole 6 g l (r ∷ []) w k xor-definition refl xor-table
+    ap (λ z. writeTokens z (inputsTokens l (r ∷ [])) .draft) (definition-token w xorRole (g .number) xor-defines)
+    ∙ joined-law xorRole 6 g l (r ∷ []) w k xor-defines refl xor-table
 gate-law (quantified-gate q g x xs l) w k =
     let c = quantifier-kind q in
     ap (λ z. writeTokens z (listTokens boundRole boundRole x xs ++ inputsTokens l []) .draft) (definition-token w (quantifierRole q) (g .number) (c .0))

@@ -12,7 +12,7 @@ use lib.Seq.{take-suc, getD-take, getD-drop}
 use borrow.Author.Tests.{eqb-true, eqb-false, eq-eqb, ne-eqb, ltb-true, ltb-false}
 use Rattle.lists.specs.Choice.{Is, is-true, is-false, look, and-both}
 use Rattle.lists.specs.Members.{mem, all, distinct, place}
-use Rattle.lists.proofs.Members.{mem-append, mem-one, mem-getD, place-lt, getD-place}
+use Rattle.lists.proofs.Members.{mem-append, mem-one, mem-getD, place-lt, getD-place, eqb-swap}
 use Rattle.formula.specs.Words.{range}
 use Rattle.table_check.specs.Verdict.{isNumber}
 use Rattle.table_check.specs.Steps.{goodRange, isNew}
@@ -28,13 +28,6 @@ all-snoc : (p : ℕ → Bool) (xs : List ℕ) (x : ℕ) → all p (xs ++ (x ∷ 
 unfolding all
 all-snoc p [] x = and-true (p x)
 all-snoc p (y ∷ ys) x = ap (λ b. p y && b) (all-snoc p ys x) ∙ sym (and-assoc (p y) (all p ys) (p x))
-
-eqb-swap : (x y : ℕ) → eqb x y ≡ eqb y x
-eqb-swap x y = go (look (eqb x y))
-  where
-    go : Is (eqb x y) → eqb x y ≡ eqb y x
-    go (is-true e) = e ∙ sym (eq-eqb y x (sym (eqb-true x y e)))
-    go (is-false e) = e ∙ sym (ne-eqb y x (λ q. eqb-false x y e (sym q)))
 
 -- m: y stands in ys, e: x is y, d: ys is distinct, n: x stands in ys
 apart : (m e d n : Bool) → (not (m || e) && (d && not n)) ≡ ((not m && d) && not (e || n))

@@ -1,10 +1,12 @@
--- Tokens held in arrays: those from one of them on.
+-- Tokens held in arrays, those from one of them on; the tokens of a file in parts.
 -- Assumes nothing.
-use mathlib.Core.List.{List, [], _∷_}
-use mathlib.Core.Path.{_≡_, _∙_, ap}
+use mathlib.Core.List.{List, [], _∷_, _++_, append-assoc}
+use mathlib.Core.Path.{_≡_, sym, _∙_, ap}
 use Prim.Native.Nat.{ℕ, suc, _-_, _≤_, _<_}
 use native.Mathlib.Omega.{arith}
+use Rattle.qcir.specs.File.{File}
+use Rattle.qcir_tokens.specs.Tokens.{freeTokens, prefixTokens, outputToken, gatesTokens, fileTokens}
 use Rattle.qcir_tokens.specs.Held.{tokenAt, tokensFrom}
 
 module _ (roles numbers ps : List ℕ) (count i : ℕ) where
   -- none are left at the end
@@ -32,3 +34,8 @@ module _ (roles numbers ps : List ℕ) (count i : ℕ) where
   pub tokens-all : i ≡ 0 → tokensFrom roles numbers ps i (count - i) ≡ tokensFrom roles numbers ps 0 count
   tokens-all e =
       let n : count - i ≡ count = omega arith in rw (n, e)
+
+-- The tokens of a file: those before the output, the output and the gates.
+pub file-parts : (f : File) → fileTokens f ≡ (freeTokens (f .free) ++ prefixTokens (f .prefix)) ++ (outputToken (f .output) ∷ gatesTokens (f .gates))
+unfolding fileTokens
+file-parts f = sym (append-assoc (freeTokens (f .free)) (prefixTokens (f .prefix)) (outputToken (f .output) ∷ gatesTokens (f .gates)))
