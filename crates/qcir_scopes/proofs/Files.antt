@@ -1,30 +1,33 @@
 -- The whole walk: it stays within the arrays that hold a file's tokens, and finds the file's unbound variables.
 -- Assumes nothing.
 use mathlib.Core.Path.{_≡_, refl, sym, _∙_, ap, subst, fun-ext}
-use mathlib.Core.Bool.{Bool, true, false, not, _&&_, or-false}
+use mathlib.Core.Bool.{Bool, true, false, not, _&&_}
 use mathlib.Core.List.{List, [], _∷_, _++_, append-nil, append-assoc, append-eq-nil-iff}
 use Prim.Native.Nat.{ℕ, zero, suc, _+_, _*_, _-_, _≤_, _<_, min}
 use native.Mathlib.Omega.{arith}
 use lib.Dec.{eqb}
 use lib.ListN.{length, getD, replicate, length-append, length-replicate}
 use borrow.Author.Tests.{ne-eqb}
-use Rattle.lists.specs.Choice.{pick, pick-yes, pick-no, Is, is-true, is-false, look, clash, and-off-left}
+use Rattle.lists.specs.Choice.{pick, pick-yes, pick-no, Is, is-true, is-false, look, clash, and-off-left, or-neither-left}
 use Rattle.lists.specs.Members.{mem}
 use Rattle.lists.proofs.Members.{mem-nil}
 use Rattle.lists.proofs.Stores.{getD-filled}
 use Rattle.qcir.specs.File.{Literal, Name, Gate, gateName, gateVariables, gateInputs, File, numbersOf, prefixVariables}
-use Rattle.qcir.specs.Refusals.{keep, least, gateNames, outerNames, quantifiedNames, repeated, gatesListed, earlyUses, misplaced, notUsedOnce, openNames, unbound}
+use Rattle.qcir.specs.Refusals.{keep, least, gateNames, outerNames, quantifiedNames, repeated, gatesListed, earlyUses, misplaced, inputNumbers, usedNumbers, notUsedOnce, openNames, unbound}
 use Rattle.qcir_tokens.specs.declared.Found.{Found}
-use Rattle.qcir_tokens.specs.Tokens.{Token, token, isUse, isDefinition, outputToken, outputRole, freeTokens, prefixTokens, inputsTokens, anyInputsTokens, gateTokens, gatesTokens, fileTokens, definitionFrom, definition}
+use Rattle.qcir_tokens.specs.Tokens.{Token, token, isOuter, isBound, isUse, isDefinition, outputToken, outputRole, freeTokens, prefixTokens, inputsTokens, anyInputsTokens, gateTokens, gatesTokens, fileTokens, definitionFrom, definition}
 use Rattle.qcir_tokens.specs.Held.{tokenAt, tokensFrom, numberCount, foundOf}
 use Rattle.qcir_scopes.specs.declared.Walk.{Walk}
 use Rattle.qcir_scopes.specs.Judged.{Judged, tokenLimit}
-use Rattle.qcir_scopes.specs.Steps.{Tokens, tokensOf, stateOf, isEnd, isAbove, moved, noted, run, first, Within, Walking}
+use Rattle.qcir_scopes.specs.Outer.{outerFrom, Outer, AllMarked}
+use Rattle.qcir_scopes.specs.Steps.{Tokens, tokensOf, stateOf, isEntry, isEnd, isAbove, moved, noted, run, first, Within, Walking}
 use Rattle.qcir_scopes.proofs.Run.{stand, run-two, run-still, step-above, notedAll, listed, keep-cong}
 use Rattle.qcir_scopes.proofs.Roles.{input-tests, empty-tests, output-tests, Each, each-none, each-more, each-append, each-map, OuterEntry, free-each, prefix-each, boundTokens, gate-line, tokenNumbers, numbers-append, free-numbers, prefix-numbers, names-append, Held, held-none, held-more, held-left, held-right}
-use Rattle.qcir_scopes.proofs.Lines.{past-end, marked, marked-is, savedAll, entries-run, Good, use-run}
-use Rattle.qcir_scopes.proofs.Gates.{weights, skip-definitions, passed-all}
+use Rattle.qcir_scopes.proofs.Lines.{past-end, numbers-length, Good, use-run}
+use Rattle.qcir_scopes.proofs.Gates.{weights, skip-definitions, no-definition, passed-all}
 use Rattle.qcir_scopes.proofs.Linear.{output-le}
+use Rattle.qcir_scopes.proofs.Variables.{none-unbound}
+use Rattle.qcir_scopes.proofs.Marks.{outer-held, Uses, held-uses, of-cons, gates-used}
 
 -- What is noted is what is found.
 found-more : (xs : List ℕ) (w : Walk) → w .found ≡ true → (notedAll xs w .found ≡ true) × (notedAll xs w .lowest ≡ least (w .lowest ∷ xs))
@@ -167,13 +170,13 @@ within roles numbers count gates j =
       stops = λ i h. held-ended (tokensOf roles numbers gates) (fileTokens f) 0 i (ended-file f) held (omega arith);
     }
 
--- It starts with new arrays.
-pub walk-starts : (count : ℕ) → 0 < count → Walking count first (replicate numberCount false) (replicate tokenLimit false) (replicate tokenLimit 0)
-walk-starts count h =
+-- It starts with new arrays but the marks.
+pub walk-starts : (count output : ℕ) (marks : List Bool) → output < count → length marks ≡ numberCount → Walking count (first output) marks (replicate tokenLimit false) (replicate tokenLimit 0)
+walk-starts count output marks h w =
     record {
       at-low = h;
-      callers-low = λ i. subst (λ v. v < count) (sym (getD-filled tokenLimit i 0)) h;
-      marks-wide = length-replicate {A = Bool} numberCount false;
+      callers-low = λ i. subst (λ v. v < count) (sym (getD-filled tokenLimit i 0)) (omega arith);
+      marks-wide = w;
       saved-wide = length-replicate {A = Bool} tokenLimit false;
       callers-wide = length-replicate {A = ℕ} tokenLimit 0;
     }
@@ -187,87 +190,134 @@ gates-apart f e =
     (a .0, append-eq-nil-iff {p = earlyUses [] (f .gates)} .0 (b .1) .0)
 
 -- The walk finds the unbound variables.
-module _ (t : Tokens) (f : File) (held : Held t 0 (fileTokens f)) (defined : (x : ℕ) → t .gate x ≡ definition (fileTokens f) x)
-    (placed : misplaced f ≡ []) (once : notUsedOnce f ≡ []) (s : ℕ → Bool) (c : ℕ → ℕ) where
+module _ (t : Tokens) (f : File) (held : Held t 0 (fileTokens f)) where
   held-output : Held t (length (outerTokens f)) (outputToken (f .output) ∷ gatesTokens (f .gates))
   held-output =
       subst (λ p. Held t p (outputToken (f .output) ∷ gatesTokens (f .gates))) (let e : 0 + length (outerTokens f) ≡ length (outerTokens f) = omega arith in e)
       (held-right t 0 (outerTokens f) (outputToken (f .output) ∷ gatesTokens (f .gates)) (subst (Held t 0) (file-tokens f) held))
 
-  names-good : Held t (suc (length (outerTokens f))) (gatesTokens (f .gates))
-      → (x : ℕ) → Good t (suc (length (outerTokens f)) + length (gatesTokens (f .gates))) (openNames (λ y. y ∷ []) (f .gates) x) (weights (λ y. 0) (f .gates) x) x
-  names-good h =
-      let apart = gates-apart f placed in
-      passed-all t (f .gates) (suc (length (outerTokens f))) [] (λ y. y ∷ []) (λ y. 0) h (apart .0) (apart .1)
-      (record { later = λ x e. defined x ∙ file-definition f x; known = λ x e. clash e (mem-nil x); alone = λ x e. refl; light = λ x e. refl })
+  module _ (defined : (x : ℕ) → t .gate x ≡ definition (fileTokens f) x) (placed : misplaced f ≡ []) (once : notUsedOnce f ≡ [])
+      (m s : ℕ → Bool) (c : ℕ → ℕ) (outer : (x : ℕ) → m x ≡ mem x (numbersOf (outerNames f))) where
+    names-good : Held t (suc (length (outerTokens f))) (gatesTokens (f .gates))
+        → (x : ℕ) → Good t (suc (length (outerTokens f)) + length (gatesTokens (f .gates))) (openNames (λ y. y ∷ []) (f .gates) x) (weights (λ y. 0) (f .gates) x) x
+    names-good h =
+        let apart = gates-apart f placed in
+        passed-all t (f .gates) (suc (length (outerTokens f))) [] (λ y. y ∷ []) (λ y. 0) h (apart .0) (apart .1)
+        (record { later = λ x e. defined x ∙ file-definition f x; known = λ x e. clash e (mem-nil x); alone = λ x e. refl; light = λ x e. refl })
 
-  -- the marks where the output stands: what the lines above it bind
-  outer-marks : ℕ → Bool
-  outer-marks = marked (λ x. false) (tokenNumbers (outerTokens f))
+    ends : (w : Walk) → Held t (length (outerTokens f)) (outputToken (f .output) ∷ gatesTokens (f .gates))
+        → run t (2 * length (fileTokens f)) (stand (moved (length (outerTokens f)) false w) m s c) .walk
+        ≡ moved (length (outerTokens f)) true (notedAll (unbound f) w)
+    unfolding outputToken token listed unbound
+    ends w (held-more r n h) =
+        let i : ℕ = length (outerTokens f) in
+        let y : ℕ = f .output .name .number in
+        let xs : List ℕ = openNames (λ z. z ∷ []) (f .gates) y in
+        let k : ℕ = weights (λ z. 0) (f .gates) y in
+        let q : ℕ = suc i + length (gatesTokens (f .gates)) in
+        let tests = output-tests (f .output .minus) in
+        let good = subst (λ z. Good t q xs k z) (sym n) (names-good h y) in
+        let d = use-run t q xs k i (ap isUse r ∙ tests .use-is) good w m s c in
+        let v : Walk = listed m xs w in
+        let halt = run-still t (2 * length (fileTokens f) - suc k) (stand (moved i true v) m (d .saves) (d .calls))
+        (step-above t i v m (d .saves) (d .calls) (ap isAbove r ∙ tests .above-is)) in
+        let parts = ap length (file-tokens f) ∙ length-append (outerTokens f) (outputToken (f .output) ∷ gatesTokens (f .gates)) in
+        let few = output-le f once in
+        let a : 2 * length (fileTokens f) ≡ suc k + (2 * length (fileTokens f) - suc k) = omega arith in
+        ap (λ u. u .walk)
+        (ap (λ j. run t j (stand (moved i false w) m s c)) a
+        ∙ run-two t (suc k) (2 * length (fileTokens f) - suc k) _ (stand (moved i true v) m (d .saves) (d .calls)) _
+        (d .runs ∙ ap (λ u. stand u m (d .saves) (d .calls)) (past-end (t .role i) i v (ap isEnd r ∙ tests .end-is)))
+        halt)
+        ∙ ap (λ zs. moved i true (notedAll zs w)) (keep-cong (λ z. not (m z)) (λ z. not (mem z (numbersOf (outerNames f)))) xs (λ z. ap not (outer z)))
 
-  unbound-listed : (xs : List ℕ) → keep (λ y. not (outer-marks y)) xs ≡ keep (λ y. not (mem y (numbersOf (outerNames f)))) xs
-  unfolding outer-marks
-  unbound-listed xs =
-      keep-cong (λ y. not (outer-marks y)) (λ y. not (mem y (numbersOf (outerNames f)))) xs
-      (λ y. ap not (marked-is (λ x. false) (tokenNumbers (outerTokens f)) y ∙ or-false (mem y (tokenNumbers (outerTokens f))) ∙ ap (mem y) (outer-numbers f)))
-
-  ends : Held t (length (outerTokens f)) (outputToken (f .output) ∷ gatesTokens (f .gates))
-      → run t (2 * length (fileTokens f)) (stand (moved 0 false first) (λ x. false) s c) .walk
-      ≡ moved (length (outerTokens f)) true (notedAll (unbound f) first)
-  unfolding outputToken token listed unbound outer-marks
-  ends (held-more r n h) =
-      let i : ℕ = length (outerTokens f) in
-      let y : ℕ = f .output .name .number in
-      let xs : List ℕ = openNames (λ z. z ∷ []) (f .gates) y in
-      let k : ℕ = weights (λ z. 0) (f .gates) y in
-      let q : ℕ = suc i + length (gatesTokens (f .gates)) in
-      let tests = output-tests (f .output .minus) in
-      let good = subst (λ z. Good t q xs k z) (sym n) (names-good h y) in
-      let through = entries-run t (outerTokens f) (outer-each f) 0 (held-left t 0 (outerTokens f) (outputToken (f .output) ∷ gatesTokens (f .gates)) (subst (Held t 0) (file-tokens f) held)) first (λ x. false) s c in
-      let saved = savedAll 0 (λ x. false) s (tokenNumbers (outerTokens f)) in
-      let d = use-run t q xs k i (ap isUse r ∙ tests .use-is) good first outer-marks saved c in
-      let v : Walk = listed outer-marks xs first in
-      let halt = run-still t (2 * length (fileTokens f) - (i + suc k)) (stand (moved i true v) outer-marks (d .saves) (d .calls))
-      (step-above t i v outer-marks (d .saves) (d .calls) (ap isAbove r ∙ tests .above-is)) in
-      let parts = ap length (file-tokens f) ∙ length-append (outerTokens f) (outputToken (f .output) ∷ gatesTokens (f .gates)) in
-      let few = output-le f once in
-      let a : 2 * length (fileTokens f) ≡ i + (suc k + (2 * length (fileTokens f) - (i + suc k))) = omega arith in
-      let e : 0 + i ≡ i = omega arith in
-      ap (λ u. u .walk)
-      (ap (λ j. run t j (stand (moved 0 false first) (λ x. false) s c)) a
-      ∙ run-two t i (suc k + (2 * length (fileTokens f) - (i + suc k))) _ (stand (moved i false first) outer-marks saved c) _
-      (through ∙ ap (λ j. stand (moved j false first) outer-marks saved c) e)
-      (run-two t (suc k) (2 * length (fileTokens f) - (i + suc k)) _ (stand (moved i true v) outer-marks (d .saves) (d .calls)) _
-      (d .runs ∙ ap (λ u. stand u outer-marks (d .saves) (d .calls)) (past-end (t .role i) i v (ap isEnd r ∙ tests .end-is)))
-      halt))
-      ∙ ap (λ zs. moved i true (notedAll zs first)) (unbound-listed xs)
-
-  walk-found : (w : Walk) → w ≡ run t (2 * length (fileTokens f)) (stand first (λ x. false) s c) .walk
-      → _≡_ {A = Found} (record { found = w .found; lowest = w .lowest }) (foundOf (unbound f))
-  unfolding moved
-  walk-found w e =
-      ap (λ u. record { found = u .found; lowest = u .lowest }) (e ∙ ends held-output) ∙ found-all (unbound f) first refl refl
+    walk-found : (w : Walk) → w ≡ run t (2 * length (fileTokens f)) (stand (first (length (outerTokens f))) m s c) .walk
+        → _≡_ {A = Found} (record { found = w .found; lowest = w .lowest }) (foundOf (unbound f))
+    unfolding moved
+    walk-found w e =
+        ap (λ u. record { found = u .found; lowest = u .lowest }) (e ∙ ends (first (length (outerTokens f))) held-output)
+        ∙ found-all (unbound f) (first (length (outerTokens f))) refl refl
 
 -- The same of the arrays.
-pub unbound-found : (roles numbers : List ℕ) (count : ℕ) (gates : List ℕ) → Judged roles numbers count gates
-    → (marks saved : List Bool) (callers : List ℕ) → ((x : ℕ) → getD marks x false ≡ false)
-    → (w : Walk) → w ≡ run (tokensOf roles numbers gates) (2 * count) (stateOf first marks saved callers) .walk
-    → (f : File) (ps : List ℕ) → tokensFrom roles numbers ps 0 count ≡ fileTokens f → misplaced f ≡ [] → notUsedOnce f ≡ []
-    → _≡_ {A = Found} (record { found = w .found; lowest = w .lowest }) (foundOf (unbound f))
-unfolding stateOf tokensOf
-unbound-found roles numbers count gates j marks saved callers clear w e f ps tokens placed once =
-    let t : Tokens = tokensOf roles numbers gates in
-    let long : length (fileTokens f) ≡ count = sym (ap length tokens) ∙ tokens-length roles numbers ps 0 count in
-    walk-found t f (subst (Held t 0) tokens (tokens-held roles numbers gates ps 0 count))
-    gate-at
-    placed once (λ i. getD saved i false) (λ i. getD callers i 0) w
-    (e
-    ∙ ap (λ m. run t (2 * count) (stand first m (λ i. getD saved i false) (λ i. getD callers i 0)) .walk) (fun-ext clear)
-    ∙ ap (λ n. run t (2 * n) (stand first (λ x. false) (λ i. getD saved i false) (λ i. getD callers i 0)) .walk) (sym long))
-  where
-    gate-at : (x : ℕ) → getD gates x 0 ≡ definition (fileTokens f) x
-    gate-at x =
-        j .defined .holds x
-        ∙ ap (λ ks. definition ks x) (sym (j .tokens))
-        ∙ definition-same roles numbers (j .positions) ps 0 0 count x
-        ∙ ap (λ ks. definition ks x) tokens
+module _ (roles numbers : List ℕ) (count : ℕ) (gates : List ℕ) (f : File) (ps : List ℕ) (tokens : tokensFrom roles numbers ps 0 count ≡ fileTokens f) where
+  t : Tokens
+  t = tokensOf roles numbers gates
+
+  long : length (fileTokens f) ≡ count
+  long = sym (ap length tokens) ∙ tokens-length roles numbers ps 0 count
+
+  held : Held t 0 (fileTokens f)
+  unfolding t
+  held = subst (Held (tokensOf roles numbers gates) 0) tokens (tokens-held roles numbers gates ps 0 count)
+
+  gate-at : Judged roles numbers count gates → (x : ℕ) → getD gates x 0 ≡ definition (fileTokens f) x
+  gate-at j x =
+      j .defined .holds x
+      ∙ ap (λ ks. definition ks x) (sym (j .tokens))
+      ∙ definition-same roles numbers (j .positions) ps 0 0 count x
+      ∙ ap (λ ks. definition ks x) tokens
+
+  outer-tokens : outerFrom roles numbers 0 count ≡ tokenNumbers (outerTokens f)
+  unfolding t outputToken token isEntry
+  outer-tokens =
+      let e : length (outerTokens f ++ (outputToken (f .output) ∷ gatesTokens (f .gates))) ≡ count = sym (ap length (file-tokens f)) ∙ long in
+      ap (outerFrom roles numbers 0) (sym e)
+      ∙ outer-held roles numbers gates (outerTokens f) (outputToken (f .output)) (gatesTokens (f .gates)) 0 (outer-each f)
+      (or-neither-left (isOuter (outputRole (f .output .minus))) (isBound (outputRole (f .output .minus))) (output-tests (f .output .minus) .entry-is))
+      (subst (Held (tokensOf roles numbers gates) 0) (file-tokens f) held)
+
+  module _ {output : ℕ} {marks : List Bool} (o : Outer roles numbers count output marks) where
+    output-at : output ≡ length (outerTokens f)
+    output-at = o .output-is ∙ ap length outer-tokens ∙ numbers-length (outerTokens f)
+
+    marked-outer : (x : ℕ) → getD marks x false ≡ mem x (numbersOf (outerNames f))
+    marked-outer x = o .marked x ∙ ap (mem x) (outer-tokens ∙ outer-numbers f)
+
+    -- the output's token
+    pub output-low : output < count
+    output-low =
+        let e = output-at in
+        let parts = ap length (file-tokens f) ∙ length-append (outerTokens f) (outputToken (f .output) ∷ gatesTokens (f .gates)) in
+        let l = long in omega arith
+
+    pub output-above : isAbove (getD roles output 0) ≡ true
+    unfolding t tokensOf outputToken token
+    output-above = ap (λ i. isAbove (getD roles i 0)) output-at ∙ go (held-output t f held)
+      where
+        go : Held t (length (outerTokens f)) (outputToken (f .output) ∷ gatesTokens (f .gates)) → isAbove (getD roles (length (outerTokens f)) 0) ≡ true
+        go (held-more r n h) = ap isAbove r ∙ output-tests (f .output .minus) .above-is
+
+    -- what the walk finds
+    pub unbound-found : Judged roles numbers count gates → (saved : List Bool) (callers : List ℕ)
+        → (w : Walk) → w ≡ run (tokensOf roles numbers gates) (2 * count) (stateOf (first output) marks saved callers) .walk
+        → misplaced f ≡ [] → notUsedOnce f ≡ []
+        → _≡_ {A = Found} (record { found = w .found; lowest = w .lowest }) (foundOf (unbound f))
+    unfolding stateOf tokensOf t
+    unbound-found j saved callers w e placed once =
+        walk-found t f held (gate-at j) placed once (λ x. getD marks x false) (λ i. getD saved i false) (λ i. getD callers i 0) marked-outer w
+        (e
+        ∙ ap (λ i. run t (2 * count) (stand (first i) (λ x. getD marks x false) (λ k. getD saved k false) (λ k. getD callers k 0)) .walk) output-at
+        ∙ ap (λ n. run t (2 * n) (stand (first (length (outerTokens f))) (λ x. getD marks x false) (λ k. getD saved k false) (λ k. getD callers k 0)) .walk) (sym long))
+
+    -- where every variable used is marked, none is unbound
+    pub none-found : Judged roles numbers count gates → AllMarked roles numbers gates marks output count → misplaced f ≡ []
+        → _≡_ {A = Found} (record { found = false; lowest = 0 }) (foundOf (unbound f))
+    unfolding t tokensOf outputToken token foundOf least usedNumbers
+    none-found j a placed = ap foundOf (sym (none-unbound f (gates-apart f placed .1) (λ x m n. sym (marked-outer x) ∙ used x m (no-gate x n))))
+      where
+        R : ℕ → Type 0
+        R x = getD gates x 0 ≡ 0 → getD marks x false ≡ true
+
+        no-gate : (x : ℕ) → mem x (numbersOf (gateNames (f .gates))) ≡ false → getD gates x 0 ≡ 0
+        no-gate x n = gate-at j x ∙ file-definition f x ∙ no-definition (f .gates) (suc (length (outerTokens f))) x n
+
+        go : Each (Uses R) (outputToken (f .output) ∷ gatesTokens (f .gates)) → (x : ℕ) → mem x (f .output .name .number ∷ inputNumbers (f .gates)) ≡ true → R x
+        go (each-more u b) = of-cons R (f .output .name .number) (inputNumbers (f .gates)) (u (output-tests (f .output .minus) .use-is)) (gates-used R (f .gates) b)
+
+        used : (x : ℕ) → mem x (usedNumbers f) ≡ true → R x
+        used =
+            let e = output-at in
+            let parts = ap length (file-tokens f) ∙ length-append (outerTokens f) (outputToken (f .output) ∷ gatesTokens (f .gates)) in
+            let l = long in
+            go (held-uses R t (outputToken (f .output) ∷ gatesTokens (f .gates)) (length (outerTokens f)) count (omega arith) (held-output t f held)
+            (λ k h q u. a k (omega arith) q u))

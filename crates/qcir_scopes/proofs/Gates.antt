@@ -55,7 +55,7 @@ definition-line g ls p x =
     ∙ ap (pick (eqb (gateName g .number) x) (suc p)) (skip-definitions ks ls (inner-each g) (suc p) x ∙ ap (λ i. definitionFrom i ls x) e)
     ∙ ap (λ k. pick (eqb (gateName g .number) x) (suc p) (definitionFrom (p + k) ls x)) (sym (ap length (gate-line g)))
 
-no-definition : (gs : List Gate) (p x : ℕ) → mem x (numbersOf (gateNames gs)) ≡ false → definitionFrom p (gatesTokens gs) x ≡ 0
+pub no-definition : (gs : List Gate) (p x : ℕ) → mem x (numbersOf (gateNames gs)) ≡ false → definitionFrom p (gatesTokens gs) x ≡ 0
 unfolding gatesTokens gateNames numbersOf mem definitionFrom
 no-definition [] p x h = refl
 no-definition (g ∷ gs) p x h =
@@ -77,7 +77,7 @@ without-new names before y ys b e =
     (pick-empty (mem (y .number) names) (y .position) (both .0), both .1)
 
 -- an input that names no gate of an earlier line names none
-not-early : (names before : List ℕ) (xs : List Name) → namingGates names (without before xs) ≡ []
+pub not-early : (names before : List ℕ) (xs : List Name) → namingGates names (without before xs) ≡ []
     → (x : ℕ) → mem x (numbersOf xs) ≡ true → mem x before ≡ false → mem x names ≡ false
 unfolding numbersOf mem
 not-early names before [] e x h n = clash h (mem-nil x)

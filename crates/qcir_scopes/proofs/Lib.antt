@@ -4,4 +4,6 @@ pub mod Roles
 pub mod Lines
 pub mod Gates
 pub mod Linear
+pub mod Variables
+pub mod Marks
 pub mod Files

@@ -37,7 +37,7 @@ unfoldable pub savedAll : ℕ → (ℕ → Bool) → (ℕ → Bool) → List ℕ
 savedAll p m s [] = s
 savedAll p m s (x ∷ xs) = savedAll (suc p) (put m x true) (put s p (m x)) xs
 
-marked-put : (m : ℕ → Bool) (x y : ℕ) (b : Bool) → Is (eqb y x) → (b || put m x true y) ≡ ((eqb y x || b) || m y)
+pub marked-put : (m : ℕ → Bool) (x y : ℕ) (b : Bool) → Is (eqb y x) → (b || put m x true y) ≡ ((eqb y x || b) || m y)
 unfolding put
 marked-put m x y b (is-true e) = rw e (ap (λ v. b || v) (pick-yes true true (m y) refl) ∙ last b)
   where
@@ -269,7 +269,7 @@ module _ (t : Tokens) (q : ℕ) where
         (ap (λ i. moved i true (listed m (openInputs o (l ∷ ls)) w)) b)
         (inputs-run l ls p held good w m s c)
 
-numbers-length : (ks : List Token) → length (tokenNumbers ks) ≡ length ks
+pub numbers-length : (ks : List Token) → length (tokenNumbers ks) ≡ length ks
 unfolding tokenNumbers
 numbers-length [] = refl
 numbers-length (k ∷ ks) = ap suc (numbers-length ks)

@@ -15,6 +15,7 @@ use Rattle.qcir_tokens.specs.Held.{numberCount}
 use Rattle.qcir_scopes.specs.declared.Walk.{Walk}
 use Rattle.qcir_scopes.specs.Judged.{tokenLimit}
 use Rattle.qcir_scopes.specs.Steps.{Tokens, tokensOf, State, stateOf, put, isEntry, isEnd, isAbove, moved, past, judged, bound, used, onward, freed, back, step, run, Within, Walking}
+use Rattle.qcir_scopes.proofs.Run.{run-still}
 
 pub state-same : {w w' : Walk} {m m' s s' : ℕ → Bool} {c c' : ℕ → ℕ} → w ≡ w' → m ≡ m' → s ≡ s' → c ≡ c'
     → _≡_ {A = State} (record { walk = w; marks = m; saved = s; callers = c }) (record { walk = w'; marks = m'; saved = s'; callers = c' })
@@ -46,6 +47,21 @@ pub run-none : (t : Tokens) (n : ℕ) (s z : State) → n ≤ 0 → run t n s �
 unfolding run
 run-none t zero s z l e = e
 run-none t (suc n) s z l e = absurd (omega arith)
+
+-- back above the gates the walk has ended
+still : (roles numbers gates : List ℕ) (w : Walk) (marks saved : List Bool) (callers : List ℕ) → w .leaving ≡ true → isAbove (getD roles (w .at) 0) ≡ true
+    → step (tokensOf roles numbers gates) (stateOf w marks saved callers) ≡ stateOf w marks saved callers
+unfolding step back stateOf tokensOf
+still roles numbers gates w marks saved callers l a = pick-yes _ _ _ l ∙ pick-yes _ _ _ a
+
+pub run-ended : (roles numbers gates : List ℕ) (w : Walk) (output : ℕ) (marks saved : List Bool) (callers : List ℕ)
+    → (w .leaving && eqb (w .at) output) ≡ true → isAbove (getD roles output 0) ≡ true
+    → (n : ℕ) {z : State} → run (tokensOf roles numbers gates) n (stateOf w marks saved callers) ≡ z → stateOf w marks saved callers ≡ z
+run-ended roles numbers gates w output marks saved callers e a n r =
+    let i : w .at ≡ output = eqb-true (w .at) output (and-right (w .leaving) (eqb (w .at) output) e) in
+    sym (run-still (tokensOf roles numbers gates) n (stateOf w marks saved callers)
+    (still roles numbers gates w marks saved callers (and-left (w .leaving) (eqb (w .at) output) e) (ap (λ k. isAbove (getD roles k 0)) i ∙ a)))
+    ∙ r
 
 module _ {roles numbers gates : List ℕ} {count : ℕ} (h : Within roles numbers count gates) where
   past-low : (w : Walk) (i : ℕ) → i < count → past (getD roles i 0) i w .at < count

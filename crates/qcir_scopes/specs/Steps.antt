@@ -1,5 +1,5 @@
--- The walk through a file's tokens, from the first to the output and from there through the gates: at a use of a gate it enters the
--- gate's line, and past the line's last token it goes back through the line and returns to the use.
+-- The walk through a file's tokens, from the output through the gates: at a use of a gate it enters the gate's line, and past the
+-- line's last token it goes back through the line and returns to the use.
 -- Assumes nothing.
 use mathlib.Core.Bool.{Bool, true, false, _||_}
 use mathlib.Core.List.{List}
@@ -104,9 +104,9 @@ unfoldable pub run : Tokens → ℕ → State → State
 run t zero s = s
 run t (suc n) s = run t n (step t s)
 
--- The walk starts at the first token.
-abbrev pub first : Walk
-first = record { at = 0; leaving = false; found = false; lowest = 0 }
+-- The walk starts at the output.
+abbrev pub first : ℕ → Walk
+first output = record { at = output; leaving = false; found = false; lowest = 0 }
 
 -- What keeps the walk within the arrays.
 pub record Within (roles numbers : List ℕ) (count : ℕ) (gates : List ℕ) : Type 0 where

@@ -1,19 +1,23 @@
 // Refusal 12 of a QCIR file: the lowest variable that no block above binds and no free line names.
 //
-// The gates are a tree, and a walk goes through it, token by token: from the first token to the output, and at each use of
-// a gate through the gate's line and back to the use. An entry marks its number as bound, and on the way back through the
-// line the mark is again what it was before; so a variable's mark says, at each use, whether a block above binds it.
-// Each token of a gate line is come by twice and every other once: the walk ends within two steps a token.
+// Where the free and prefix lines name every variable that is used, none is unbound. Otherwise a walk goes through the tree
+// of the gates, token by token: it starts at the output, and at each use of a gate it goes through the gate's line and back
+// to the use. An entry marks its number as bound, and on the way back through the line the mark is again what it was
+// before; so a variable's mark says, at each use, whether a block above binds it. Each token of a gate line is come by twice:
+// the walk ends within two steps a token.
+ghost use mathlib.Core.Bool.{true, false, not, _&&_};
 ghost use mathlib.Core.List.{List, []};
 ghost use mathlib.Core.Path.{_≡_};
-ghost use Prim.Native.Nat.{ℕ, _*_, _<_, min};
-ghost use lib.ListN.{getD};
+ghost use Prim.Native.Nat.{ℕ, _*_, _≤_, _<_, min};
+ghost use lib.Dec.{eqb};
+ghost use lib.ListN.{length, getD};
 ghost use Rattle.lists.specs.Choice.{pick};
 ghost use Rattle.qcir.specs.File.{File};
 ghost use Rattle.qcir.specs.Refusals.{misplaced, notUsedOnce, unbound};
-ghost use Rattle.qcir_tokens.specs.Tokens.{fileTokens};
-ghost use Rattle.qcir_tokens.specs.Held.{tokensFrom, foundOf};
+ghost use Rattle.qcir_tokens.specs.Tokens.{isUse, fileTokens};
+ghost use Rattle.qcir_tokens.specs.Held.{tokensFrom, numberCount, foundOf};
 ghost use Rattle.qcir_scopes.specs.Judged.{Judged, tokenLimit};
+ghost use Rattle.qcir_scopes.specs.Outer.{Outer, AllMarked};
 ghost use Rattle.qcir_scopes.specs.Steps.{tokensOf, stateOf, isEntry, isEnd, isAbove, moved, past, noted, judged, bound, used, onward, back, step, run, first, Within, Walking};
 use qcir_tokens::Found;
 use qcir_tokens::NUMBERS;
@@ -36,6 +40,78 @@ pub fn lowest_unbound(roles: &[u8], numbers: &[u16], count: usize, gates: &[u16]
     ensures { λ r. ⌜ ((f : File) (ps : List ℕ) → tokensFrom (now (roles .entry)) (now (numbers .entry)) ps 0 count ≡ fileTokens f → misplaced f ≡ [] → notUsedOnce f ≡ [] → r ≡ foundOf (unbound f)) ⌝ }
 {
     let mut marks = [false; NUMBERS];
+    let output = mark_outer(roles, numbers, count, &mut marks);
+    if all_marked(roles, numbers, output, count, gates, &marks) {
+        return Found {
+            found: false,
+            lowest: 0,
+        };
+    }
+    walk_gates(roles, numbers, count, gates, output, &mut marks)
+}
+
+// Marks the numbers that the free and prefix lines name. The result is the output's token, the first after theirs.
+fn mark_outer(roles: &[u8], numbers: &[u16], count: usize, marks: &mut [bool]) -> usize
+    requires { ⌜ (count ≤ length (now roles)) × (count ≤ length (now numbers)) ⌝ }
+    requires { ⌜ length (now marks) ≡ numberCount ⌝ }
+    requires { ⌜ ((x : ℕ) → getD (now marks) x false ≡ false) ⌝ }
+    ensures { λ r. ⌜ Outer (now (roles .entry)) (now (numbers .entry)) count r (now (marks .exit)) ⌝ }
+{
+    let mut i: usize = 0;
+    while i < count {
+        if !qcir_tokens::is_outer(roles[i]) {
+            return i;
+        }
+        marks[numbers[i] as usize] = true;
+        i += 1;
+    }
+    i
+}
+
+// Whether every variable used at a token from `first` on is marked.
+fn all_marked(
+    roles: &[u8],
+    numbers: &[u16],
+    first: usize,
+    count: usize,
+    gates: &[u16],
+    marks: &[bool],
+) -> bool
+    requires { ⌜ (count ≤ length (now roles)) × (count ≤ length (now numbers)) ⌝ }
+    requires { ⌜ (length (now gates) ≡ numberCount) × (length (now marks) ≡ numberCount) ⌝ }
+    ensures { λ r. ⌜ (r ≡ true → AllMarked (now (roles .entry)) (now (numbers .entry)) (now (gates .entry)) (now (marks .entry)) first count) ⌝ }
+{
+    let mut i = first;
+    while i < count {
+        let x = numbers[i] as usize;
+        if is_unmarked(roles[i], gates[x], marks[x]) {
+            return false;
+        }
+        i += 1;
+    }
+    true
+}
+
+// A use of a variable that is not marked.
+fn is_unmarked(role: u8, gate: u16, marked: bool) -> bool
+    ensures { λ r. ⌜ r ≡ (isUse role && (eqb gate 0 && not marked)) ⌝ }
+{
+    qcir_tokens::is_use(role) & ((gate == 0) & !marked)
+}
+
+// Walks from the output, with the numbers marked that the free and prefix lines name.
+fn walk_gates(
+    roles: &[u8],
+    numbers: &[u16],
+    count: usize,
+    gates: &[u16],
+    output: usize,
+    marks: &mut [bool],
+) -> Found
+    requires { ⌜ Judged (now roles) (now numbers) count (now gates) ⌝ }
+    requires { ⌜ Outer (now roles) (now numbers) count output (now marks) ⌝ }
+    ensures { λ r. ⌜ ((f : File) (ps : List ℕ) → tokensFrom (now (roles .entry)) (now (numbers .entry)) ps 0 count ≡ fileTokens f → misplaced f ≡ [] → notUsedOnce f ≡ [] → r ≡ foundOf (unbound f)) ⌝ }
+{
     let mut saved = [false; TOKENS];
     let mut callers = [0u16; TOKENS];
     let walk = walk_tokens(
@@ -43,7 +119,8 @@ pub fn lowest_unbound(roles: &[u8], numbers: &[u16], count: usize, gates: &[u16]
         numbers,
         count,
         gates,
-        &mut marks,
+        output,
+        marks,
         &mut saved,
         &mut callers,
     );
@@ -53,28 +130,33 @@ pub fn lowest_unbound(roles: &[u8], numbers: &[u16], count: usize, gates: &[u16]
     }
 }
 
-// Walks two steps for each token.
+// Walks from the output until it is back there: two steps for each token at most.
 fn walk_tokens(
     roles: &[u8],
     numbers: &[u16],
     count: usize,
     gates: &[u16],
+    output: usize,
     marks: &mut [bool],
     saved: &mut [bool],
     callers: &mut [u16],
 ) -> Walk
     requires { ⌜ Within (now roles) (now numbers) count (now gates) ⌝ }
-    requires { ⌜ Walking count first (now marks) (now saved) (now callers) ⌝ }
-    ensures { λ r. ⌜ r ≡ run (tokensOf (now (roles .entry)) (now (numbers .entry)) (now (gates .entry))) (2 * count) (stateOf first (now (marks .entry)) (now (saved .entry)) (now (callers .entry))) .walk ⌝ }
+    requires { ⌜ isAbove (getD (now roles) output 0) ≡ true ⌝ }
+    requires { ⌜ Walking count (first output) (now marks) (now saved) (now callers) ⌝ }
+    ensures { λ r. ⌜ r ≡ run (tokensOf (now (roles .entry)) (now (numbers .entry)) (now (gates .entry))) (2 * count) (stateOf (first output) (now (marks .entry)) (now (saved .entry)) (now (callers .entry))) .walk ⌝ }
 {
     let mut walk = Walk {
-        at: 0,
+        at: output,
         leaving: false,
         found: false,
         lowest: 0,
     };
     let mut left = 2 * count;
     while 0 < left {
+        if walk.leaving & (walk.at == output) {
+            return walk;
+        }
         left -= 1;
         walk = take_step(roles, numbers, count, gates, marks, saved, callers, walk);
     }

@@ -1,41 +1,54 @@
--- `qcir_scopes::lowest_unbound` meets its contract: the walk, with new arrays, finds the file's unbound variables.
+-- `qcir_scopes::lowest_unbound` meets its contract: where every variable used is marked, none is unbound; else the walk finds those that are.
 -- Assumes nothing.
-use mathlib.Core.Bool.{false}
-use lib.ListN.{replicate}
+use mathlib.Core.Bool.{Bool, false}
+use native.Mathlib.Omega.{arith}
 use borrow.Author.Needs.{needs}
 use Rattle.lists.proofs.Stores.{getD-filled}
 use Rattle.qcir_tokens.specs.Held.{numberCount}
-use Rattle.qcir_scopes.specs.Judged.{tokenLimit}
-use Rattle.qcir_scopes.proofs.Files.{within, walk-starts, unbound-found}
+use Rattle.qcir_scopes.proofs.Files.{none-found}
 use Rattle.qcir_scopes.proofs.lowest_unbound.Statement.{statement}
 use Rattle.qcir_scopes.proofs.lowest_unbound.Tie as tie
 
-slice-aggregate-walk-tokens : tie.Need-slice-aggregate-walk-tokens
-slice-aggregate-walk-tokens c = search needs
+slice-aggregate-mark-outer : tie.Need-slice-aggregate-mark-outer
+slice-aggregate-mark-outer c = search needs
 
-slice-aggregate-walk-tokens-2 : tie.Need-slice-aggregate-walk-tokens-2
-slice-aggregate-walk-tokens-2 c = search needs
+mark-outer-requires : tie.Need-mark-outer-requires
+mark-outer-requires c κs =
+    let j = c .before .before .before .before .pre in
+    ((j .roles-hold, j .numbers-hold), (search needs, λ x. getD-filled {A = Bool} numberCount x false))
 
-slice-aggregate-walk-tokens-3 : tie.Need-slice-aggregate-walk-tokens-3
-slice-aggregate-walk-tokens-3 c = search needs
+slice-aggregate-all-marked : tie.Need-slice-aggregate-all-marked
+slice-aggregate-all-marked c = search needs
 
-walk-tokens-requires : tie.Need-walk-tokens-requires
-walk-tokens-requires c κs =
-    let s = c .before .before .before .before .before .before in
-    let h = within (s .args .roles .now) (s .args .numbers .now) (s .args .count) (s .args .gates .now) (s .pre) in
-    (h, walk-starts (s .args .count) (h .some))
+all-marked-requires : tie.Need-all-marked-requires
+all-marked-requires c κs =
+    let j = c .before .before .before .before .before .before .before .pre in
+    ((j .roles-hold, j .numbers-hold), (j .defined .wide, c .before .before .mark-outer .ensures .wide))
 
 returns : tie.Need-returns
-returns c =
-    let s = c .before .before .before .before .before .before .before .before .before .before in
-    unbound-found (s .args .roles .now) (s .args .numbers .now) (s .args .count) (s .args .gates .now) (s .pre) (replicate numberCount false) (replicate tokenLimit false) (replicate tokenLimit 0) (λ x. getD-filled numberCount x false) (c .before .before .before .walk-tokens .result) (c .before .before .before .walk-tokens .ensures)
+returns c f ps tokens placed once =
+    let s = c .before .before .before .before .before .before .before .before .before in
+    let a = s .args in
+    none-found (a .roles .now) (a .numbers .now) (a .count) (a .gates .now) f ps tokens (c .before .before .before .before .mark-outer .ensures) (s .pre) (c .before .all-marked .ensures (c .if1 .taken)) placed
+
+slice-aggregate-walk-gates : tie.Need-slice-aggregate-walk-gates
+slice-aggregate-walk-gates c = search needs
+
+walk-gates-requires : tie.Need-walk-gates-requires
+walk-gates-requires c κs = search needs
+
+returns-2 : tie.Need-returns-2
+returns-2 c = search needs
 
 pub lowest-unbound-spec : {M : Type 1} → statement M
 lowest-unbound-spec =
     tie.close
     (tie.spec
-    slice-aggregate-walk-tokens
-    slice-aggregate-walk-tokens-2
-    slice-aggregate-walk-tokens-3
-    walk-tokens-requires
-    returns)
+    slice-aggregate-mark-outer
+    mark-outer-requires
+    slice-aggregate-all-marked
+    all-marked-requires
+    returns
+    slice-aggregate-walk-gates
+    walk-gates-requires
+    returns-2)
