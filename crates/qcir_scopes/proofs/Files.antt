@@ -1,6 +1,6 @@
 -- The whole walk: it stays within the arrays that hold a file's tokens, and finds the file's unbound variables.
 -- Assumes nothing.
-use mathlib.Core.Path.{_≡_, refl, sym, _∙_, ap, subst, fun-ext}
+use mathlib.Core.Path.{_≡_, refl, sym, _∙_, ap, subst}
 use mathlib.Core.Bool.{Bool, true, false, not, _&&_}
 use mathlib.Core.List.{List, [], _∷_, _++_, append-nil, append-assoc, append-eq-nil-iff}
 use Prim.Native.Nat.{ℕ, zero, suc, _+_, _*_, _-_, _≤_, _<_, min}
@@ -8,21 +8,21 @@ use native.Mathlib.Omega.{arith}
 use lib.Dec.{eqb}
 use lib.ListN.{length, getD, replicate, length-append, length-replicate}
 use borrow.Author.Tests.{ne-eqb}
-use Rattle.lists.specs.Choice.{pick, pick-yes, pick-no, Is, is-true, is-false, look, clash, and-off-left, or-neither-left}
+use Rattle.lists.specs.Choice.{pick, pick-yes, pick-no, Is, is-true, is-false, look, clash, and-off-left}
 use Rattle.lists.specs.Members.{mem}
 use Rattle.lists.proofs.Members.{mem-nil}
 use Rattle.lists.proofs.Stores.{getD-filled}
 use Rattle.qcir.specs.File.{Literal, Name, Gate, gateName, gateVariables, gateInputs, File, numbersOf, prefixVariables}
-use Rattle.qcir.specs.Refusals.{keep, least, gateNames, outerNames, quantifiedNames, repeated, gatesListed, earlyUses, misplaced, inputNumbers, usedNumbers, notUsedOnce, openNames, unbound}
+use Rattle.qcir.specs.Refusals.{least, gateNames, outerNames, quantifiedNames, repeated, gatesListed, earlyUses, misplaced, inputNumbers, usedNumbers, notUsedOnce, openNames, unbound}
 use Rattle.qcir_tokens.specs.declared.Found.{Found}
-use Rattle.qcir_tokens.specs.Tokens.{Token, token, isOuter, isBound, isUse, isDefinition, outputToken, outputRole, freeTokens, prefixTokens, inputsTokens, anyInputsTokens, gateTokens, gatesTokens, fileTokens, definitionFrom, definition}
+use Rattle.qcir_tokens.specs.Tokens.{Token, token, isUse, isDefinition, outputToken, outputRole, freeTokens, prefixTokens, inputsTokens, anyInputsTokens, gateTokens, gatesTokens, fileTokens, definitionFrom, definition}
 use Rattle.qcir_tokens.specs.Held.{tokenAt, tokensFrom, numberCount, foundOf}
 use Rattle.qcir_scopes.specs.declared.Walk.{Walk}
 use Rattle.qcir_scopes.specs.Judged.{Judged, tokenLimit}
 use Rattle.qcir_scopes.specs.Outer.{outerFrom, Outer, AllMarked}
-use Rattle.qcir_scopes.specs.Steps.{Tokens, tokensOf, stateOf, isEntry, isEnd, isAbove, moved, noted, run, first, Within, Walking}
+use Rattle.qcir_scopes.specs.Steps.{Tokens, tokensOf, stateOf, isEnd, isAbove, moved, noted, run, first, Within, Walking}
 use Rattle.qcir_scopes.proofs.Run.{stand, run-two, run-still, step-above, notedAll, listed, keep-cong}
-use Rattle.qcir_scopes.proofs.Roles.{input-tests, empty-tests, output-tests, Each, each-none, each-more, each-append, each-map, OuterEntry, free-each, prefix-each, boundTokens, gate-line, tokenNumbers, numbers-append, free-numbers, prefix-numbers, names-append, Held, held-none, held-more, held-left, held-right}
+use Rattle.qcir_scopes.proofs.Roles.{input-tests, empty-tests, output-tests, Each, each-none, each-more, each-append, each-map, OuterEntry, free-each, prefix-each, boundTokens, gate-line, tokenNumbers, numbers-append, free-numbers, prefix-numbers, names-append, Held, held-none, held-more, held-right}
 use Rattle.qcir_scopes.proofs.Lines.{past-end, numbers-length, Good, use-run}
 use Rattle.qcir_scopes.proofs.Gates.{weights, skip-definitions, no-definition, passed-all}
 use Rattle.qcir_scopes.proofs.Linear.{output-le}
@@ -258,12 +258,12 @@ module _ (roles numbers : List ℕ) (count : ℕ) (gates : List ℕ) (f : File) 
       ∙ ap (λ ks. definition ks x) tokens
 
   outer-tokens : outerFrom roles numbers 0 count ≡ tokenNumbers (outerTokens f)
-  unfolding t outputToken token isEntry
+  unfolding t outputToken token
   outer-tokens =
       let e : length (outerTokens f ++ (outputToken (f .output) ∷ gatesTokens (f .gates))) ≡ count = sym (ap length (file-tokens f)) ∙ long in
       ap (outerFrom roles numbers 0) (sym e)
       ∙ outer-held roles numbers gates (outerTokens f) (outputToken (f .output)) (gatesTokens (f .gates)) 0 (outer-each f)
-      (or-neither-left (isOuter (outputRole (f .output .minus))) (isBound (outputRole (f .output .minus))) (output-tests (f .output .minus) .entry-is))
+      (output-tests (f .output .minus) .outer-is)
       (subst (Held (tokensOf roles numbers gates) 0) (file-tokens f) held)
 
   module _ {output : ℕ} {marks : List Bool} (o : Outer roles numbers count output marks) where

@@ -14,7 +14,7 @@ use Rattle.qcir.specs.File.{Name, Literal, Gate, gateName, gateVariables, gateI
 use Rattle.qcir.specs.Refusals.{keep, Open, openInputs}
 use Rattle.qcir_tokens.specs.Tokens.{Token, token, isUse, isBound, isDefinition, inputsTokens, anyInputsTokens, gateTokens}
 use Rattle.qcir_scopes.specs.declared.Walk.{Walk}
-use Rattle.qcir_scopes.specs.Steps.{Tokens, State, put, isEntry, isEnd, isAbove, moved, past, run}
+use Rattle.qcir_scopes.specs.Steps.{Tokens, State, put, isEnd, isAbove, moved, past, run}
 use Rattle.qcir_scopes.proofs.Within.{state-same}
 use Rattle.qcir_scopes.proofs.Run.{stand, put-same, put-other, put-back, run-two, run-one, step-plain, step-entry, step-variable, step-call, step-return, step-free, step-back, listed, notedAll, listed-append, listed-none, keep-cong, keep-two, judged-one, past-judged}
 use Rattle.qcir_scopes.proofs.Roles.{Tests, definitionRole, definition-tests, input-tests, empty-tests, Each, each-none, each-more, GateEntry, Plain, boundTokens, bound-each, any-each, gate-line, tokenNumbers, bound-numbers, Held, held-none, held-more, held-left, held-right}
@@ -28,12 +28,12 @@ unfolding past
 past-end r i w e = pick-yes _ _ _ e
 
 -- The marks once these numbers are bound.
-unfoldable pub marked : (ℕ → Bool) → List ℕ → ℕ → Bool
+unfoldable marked : (ℕ → Bool) → List ℕ → ℕ → Bool
 marked m [] = m
 marked m (x ∷ xs) = marked (put m x true) xs
 
 -- What the entries from token p on leave of the marks before them.
-unfoldable pub savedAll : ℕ → (ℕ → Bool) → (ℕ → Bool) → List ℕ → ℕ → Bool
+unfoldable savedAll : ℕ → (ℕ → Bool) → (ℕ → Bool) → List ℕ → ℕ → Bool
 savedAll p m s [] = s
 savedAll p m s (x ∷ xs) = savedAll (suc p) (put m x true) (put s p (m x)) xs
 
@@ -46,7 +46,7 @@ marked-put m x y b (is-true e) = rw e (ap (λ v. b || v) (pick-yes true true (m 
     last false = refl
 marked-put m x y b (is-false e) = rw e (ap (λ v. b || v) (pick-no false true (m y) refl))
 
-pub marked-is : (m : ℕ → Bool) (xs : List ℕ) (y : ℕ) → marked m xs y ≡ (mem y xs || m y)
+marked-is : (m : ℕ → Bool) (xs : List ℕ) (y : ℕ) → marked m xs y ≡ (mem y xs || m y)
 unfolding marked mem
 marked-is m [] y = refl
 marked-is m (x ∷ xs) y = marked-is (put m x true) xs y ∙ marked-put m x y (mem y xs) (look (eqb y x))
@@ -78,14 +78,14 @@ saves-kept s u (x ∷ xs) p m k (saves-more e h) = saves-more (k p (omega arith)
 
 module _ (t : Tokens) where
   -- onward through entries
-  pub entries-run : {above bound : Bool} (ks : List Token) → Each (λ k. Tests (k .role) false true false above false bound) ks → (p : ℕ) → Held t p ks
+  entries-run : (ks : List Token) → Each GateEntry ks → (p : ℕ) → Held t p ks
       → (w : Walk) (m s : ℕ → Bool) (c : ℕ → ℕ)
       → run t (length ks) (stand (moved p false w) m s c) ≡ stand (moved (p + length ks) false w) (marked m (tokenNumbers ks)) (savedAll p m s (tokenNumbers ks)) c
   unfolding run marked savedAll tokenNumbers
   entries-run [] each-none p held-none w m s c = let e : p ≡ p + 0 = omega arith in ap (λ i. stand (moved i false w) m s c) e
   entries-run (k ∷ ks) (each-more h hs) p (held-more r n g) w m s c =
       let u = ap isUse r ∙ h .use-is in
-      let v = ap isEntry r ∙ h .entry-is in
+      let v = ap isBound r ∙ h .bound-is in
       let d = ap isEnd r ∙ h .end-is in
       let x : ℕ = k .name .number in
       let e : suc p + length ks ≡ p + suc (length ks) = omega arith in
@@ -256,7 +256,7 @@ module _ (t : Tokens) (q : ℕ) where
           saves = s;
           calls = c;
           runs =
-              step-plain t p w m s c (ap isUse r ∙ h .use-is) (ap isEntry r ∙ h .entry-is)
+              step-plain t p w m s c (ap isUse r ∙ h .use-is) (ap isBound r ∙ h .bound-is)
               ∙ ap (λ v. stand v m s c)
               (past-end (t .role p) p w (ap isEnd r ∙ h .end-is) ∙ ap (λ i. moved i true w) b ∙ ap (moved (p + 1 - 1) true) (sym (listed-none m w)));
           saved-kept = λ i z. refl;
@@ -304,7 +304,7 @@ module _ (t : Tokens) (o : Open) (n : ℕ → ℕ) (r : ℕ) (tests : Tests r fa
       let a : 1 + (length vs + ((length es + tot) + (length es + (length vs + 1)))) ≡ 2 * suc (length (vs ++ es)) + tot
       = omega (arith, length-append vs es) in
       let into : run t 1 (stand (moved p false w) m s c) ≡ stand (moved (suc p) false w) m s c
-      = run-one t _ _ (step-plain t p w m s c (ap isUse role ∙ tests .use-is) (ap isEntry role ∙ tests .entry-is)
+      = run-one t _ _ (step-plain t p w m s c (ap isUse role ∙ tests .use-is) (ap isBound role ∙ tests .bound-is)
       ∙ ap (λ u. stand u m s c) (past-on (t .role p) p w (ap isEnd role ∙ tests .end-is))) in
       let out : run t 1 (stand (moved p true v) m (d .saves) (d .calls)) ≡ stand (past (t .role (c p)) (c p) v) m (d .saves) (d .calls)
       = run-one t _ _ (step-return t p v m (d .saves) (d .calls) (ap isAbove role ∙ tests .above-is) (ap isDefinition role ∙ tests .definition-is)

@@ -1,23 +1,23 @@
 -- Marks of the numbers that the free and prefix lines name: how they are set, and what they say of a file.
 -- Assumes nothing.
-use mathlib.Core.Path.{_≡_, refl, sym, _∙_, ap, subst}
+use mathlib.Core.Path.{_≡_, sym, _∙_, ap, subst}
 use mathlib.Core.Bool.{Bool, true, false, not, _&&_, _||_, or-false}
 use mathlib.Core.List.{List, [], _∷_, _++_}
 use Prim.Native.Nat.{ℕ, suc, _+_, _-_, _≤_, _<_}
 use native.Mathlib.Omega.{arith}
 use lib.Dec.{eqb}
 use lib.ListN.{length, getD, set, length-set}
-use borrow.Author.Tests.{eqb-true, eqb-false, eq-eqb, not-false}
-use Rattle.lists.specs.Choice.{pick, pick-yes, pick-no, Is, is-true, is-false, look, clash, and-both, or-cases, absent}
+use borrow.Author.Tests.{eqb-true, eqb-false, eq-eqb}
+use Rattle.lists.specs.Choice.{pick-yes, pick-no, Is, is-true, is-false, look, clash, and-both, or-cases}
 use Rattle.lists.specs.Members.{mem}
 use Rattle.lists.proofs.Members.{mem-nil, mem-append}
 use Rattle.lists.proofs.Stores.{getD-set}
 use Rattle.qcir.specs.File.{Name, Literal, Gate, gateName, gateVariables, gateInputs, numbersOf, namesOf}
 use Rattle.qcir.specs.Refusals.{inputNumbers}
-use Rattle.qcir_tokens.specs.Tokens.{Token, token, isOuter, isBound, isUse, inputsTokens, anyInputsTokens, gateTokens, gatesTokens}
+use Rattle.qcir_tokens.specs.Tokens.{Token, token, isOuter, isUse, inputsTokens, anyInputsTokens, gateTokens, gatesTokens}
 use Rattle.qcir_tokens.specs.Held.{numberCount}
 use Rattle.qcir_scopes.specs.Outer.{outerFrom, Outer, AllMarked}
-use Rattle.qcir_scopes.specs.Steps.{Tokens, tokensOf, put, isEntry}
+use Rattle.qcir_scopes.specs.Steps.{Tokens, tokensOf, put}
 use Rattle.qcir_scopes.proofs.Roles.{definitionRole, input-tests, Each, each-none, each-more, OuterEntry, boundTokens, gate-line, tokenNumbers, Held, held-none, held-more}
 use Rattle.qcir_scopes.proofs.Lines.{marked-put}
 
@@ -108,16 +108,12 @@ module _ (roles numbers gates : List ℕ) (marks : List Bool) (i : ℕ) where
       go (is-false q) = let d = eqb-false k n q in a k l (omega arith) u z
 
 -- The entries of the free and prefix lines are those up to the output.
-outer-role : (k : Token) → OuterEntry k → isOuter (k .role) ≡ true
-unfolding isEntry
-outer-role k h = or-cases (isOuter (k .role)) (isBound (k .role)) (h .entry-is) (λ e. e) (λ e. clash e (h .bound-is))
-
 pub outer-held : (roles numbers gates : List ℕ) (ks : List Token) (k : Token) (ls : List Token) (p : ℕ) → Each OuterEntry ks → isOuter (k .role) ≡ false
     → Held (tokensOf roles numbers gates) p (ks ++ (k ∷ ls)) → outerFrom roles numbers p (length (ks ++ (k ∷ ls))) ≡ tokenNumbers ks
 unfolding outerFrom tokenNumbers tokensOf
 outer-held roles numbers gates [] k ls p each-none e (held-more r n h) = pick-no _ _ _ (ap isOuter r ∙ e)
 outer-held roles numbers gates (j ∷ ks) k ls p (each-more a b) e (held-more r n h) =
-    pick-yes _ _ _ (ap isOuter r ∙ outer-role j a)
+    pick-yes _ _ _ (ap isOuter r ∙ a .outer-is)
     ∙ ap (λ x. x ∷ outerFrom roles numbers (suc p) (length (ks ++ (k ∷ ls)))) n
     ∙ ap (λ xs. j .name .number ∷ xs) (outer-held roles numbers gates ks k ls (suc p) b e h)
 

@@ -9,12 +9,12 @@ use lib.ListN.{length}
 use Rattle.formula.specs.Node.{Quantifier, exists, for-all}
 use Rattle.qcir.specs.File.{Name, Literal, conjunction, disjunction, Gate, junction-gate, xor-gate, quantified-gate, gateName, gateVariables, gateInputs, Line, numbersOf, prefixVariables, lineVariables}
 use Rattle.qcir_tokens.specs.Tokens.{Token, token, freeRole, lineRole, laterRole, outputRole, junctionRole, xorRole, quantifierRole, boundRole, inputRole, emptyRole, isOuter, isOutput, isDefinition, isBound, isInput, isUse, isLast, listTokens, freeTokens, prefixTokens, inputsTokens, anyInputsTokens, gateTokens}
-use Rattle.qcir_scopes.specs.Steps.{Tokens, isEntry, isEnd, isAbove}
+use Rattle.qcir_scopes.specs.Steps.{Tokens, isEnd, isAbove}
 
 -- The answers to the tests of a role.
-pub record Tests (r : ℕ) (uses entry end above definition bound : Bool) : Type 0 where
+pub record Tests (r : ℕ) (uses outer end above definition bound : Bool) : Type 0 where
   pub use-is : isUse r ≡ uses
-  pub entry-is : isEntry r ≡ entry
+  pub outer-is : isOuter r ≡ outer
   pub end-is : isEnd r ≡ end
   pub above-is : isAbove r ≡ above
   pub definition-is : isDefinition r ≡ definition
@@ -26,52 +26,52 @@ definitionRole (xor-gate g l r) = xorRole
 definitionRole (quantified-gate q g x xs l) = quantifierRole q
 
 pub definition-tests : (g : Gate) → Tests (definitionRole g) false false false false true false
-unfolding definitionRole junctionRole quantifierRole isUse isInput isOutput isEntry isOuter isBound isEnd isLast isAbove isDefinition
-definition-tests (junction-gate conjunction g ls) = record { use-is = refl; entry-is = refl; end-is = refl; above-is = refl; definition-is = refl; bound-is = refl }
-definition-tests (junction-gate disjunction g ls) = record { use-is = refl; entry-is = refl; end-is = refl; above-is = refl; definition-is = refl; bound-is = refl }
-definition-tests (xor-gate g l r) = record { use-is = refl; entry-is = refl; end-is = refl; above-is = refl; definition-is = refl; bound-is = refl }
-definition-tests (quantified-gate exists g x xs l) = record { use-is = refl; entry-is = refl; end-is = refl; above-is = refl; definition-is = refl; bound-is = refl }
-definition-tests (quantified-gate for-all g x xs l) = record { use-is = refl; entry-is = refl; end-is = refl; above-is = refl; definition-is = refl; bound-is = refl }
+unfolding definitionRole junctionRole quantifierRole isUse isInput isOutput isOuter isBound isEnd isLast isAbove isDefinition
+definition-tests (junction-gate conjunction g ls) = record { use-is = refl; outer-is = refl; end-is = refl; above-is = refl; definition-is = refl; bound-is = refl }
+definition-tests (junction-gate disjunction g ls) = record { use-is = refl; outer-is = refl; end-is = refl; above-is = refl; definition-is = refl; bound-is = refl }
+definition-tests (xor-gate g l r) = record { use-is = refl; outer-is = refl; end-is = refl; above-is = refl; definition-is = refl; bound-is = refl }
+definition-tests (quantified-gate exists g x xs l) = record { use-is = refl; outer-is = refl; end-is = refl; above-is = refl; definition-is = refl; bound-is = refl }
+definition-tests (quantified-gate for-all g x xs l) = record { use-is = refl; outer-is = refl; end-is = refl; above-is = refl; definition-is = refl; bound-is = refl }
 
-bound-tests : (last : Bool) → Tests (boundRole last) false true false false false true
-unfolding boundRole isUse isInput isOutput isEntry isOuter isBound isEnd isLast isAbove isDefinition
-bound-tests false = record { use-is = refl; entry-is = refl; end-is = refl; above-is = refl; definition-is = refl; bound-is = refl }
-bound-tests true = record { use-is = refl; entry-is = refl; end-is = refl; above-is = refl; definition-is = refl; bound-is = refl }
+bound-tests : (last : Bool) → Tests (boundRole last) false false false false false true
+unfolding boundRole isUse isInput isOutput isOuter isBound isEnd isLast isAbove isDefinition
+bound-tests false = record { use-is = refl; outer-is = refl; end-is = refl; above-is = refl; definition-is = refl; bound-is = refl }
+bound-tests true = record { use-is = refl; outer-is = refl; end-is = refl; above-is = refl; definition-is = refl; bound-is = refl }
 
 pub input-tests : (minus last : Bool) → Tests (inputRole minus last) true false last false false false
-unfolding inputRole isUse isInput isOutput isEntry isOuter isBound isEnd isLast isAbove isDefinition
-input-tests false false = record { use-is = refl; entry-is = refl; end-is = refl; above-is = refl; definition-is = refl; bound-is = refl }
-input-tests true false = record { use-is = refl; entry-is = refl; end-is = refl; above-is = refl; definition-is = refl; bound-is = refl }
-input-tests false true = record { use-is = refl; entry-is = refl; end-is = refl; above-is = refl; definition-is = refl; bound-is = refl }
-input-tests true true = record { use-is = refl; entry-is = refl; end-is = refl; above-is = refl; definition-is = refl; bound-is = refl }
+unfolding inputRole isUse isInput isOutput isOuter isBound isEnd isLast isAbove isDefinition
+input-tests false false = record { use-is = refl; outer-is = refl; end-is = refl; above-is = refl; definition-is = refl; bound-is = refl }
+input-tests true false = record { use-is = refl; outer-is = refl; end-is = refl; above-is = refl; definition-is = refl; bound-is = refl }
+input-tests false true = record { use-is = refl; outer-is = refl; end-is = refl; above-is = refl; definition-is = refl; bound-is = refl }
+input-tests true true = record { use-is = refl; outer-is = refl; end-is = refl; above-is = refl; definition-is = refl; bound-is = refl }
 
 pub empty-tests : Tests emptyRole false false true false false false
-unfolding isUse isInput isOutput isEntry isOuter isBound isEnd isLast isAbove isDefinition
-empty-tests = record { use-is = refl; entry-is = refl; end-is = refl; above-is = refl; definition-is = refl; bound-is = refl }
+unfolding isUse isInput isOutput isOuter isBound isEnd isLast isAbove isDefinition
+empty-tests = record { use-is = refl; outer-is = refl; end-is = refl; above-is = refl; definition-is = refl; bound-is = refl }
 
 pub output-tests : (minus : Bool) → Tests (outputRole minus) true false true true false false
-unfolding outputRole isUse isInput isOutput isEntry isOuter isBound isEnd isLast isAbove isDefinition
-output-tests false = record { use-is = refl; entry-is = refl; end-is = refl; above-is = refl; definition-is = refl; bound-is = refl }
-output-tests true = record { use-is = refl; entry-is = refl; end-is = refl; above-is = refl; definition-is = refl; bound-is = refl }
+unfolding outputRole isUse isInput isOutput isOuter isBound isEnd isLast isAbove isDefinition
+output-tests false = record { use-is = refl; outer-is = refl; end-is = refl; above-is = refl; definition-is = refl; bound-is = refl }
+output-tests true = record { use-is = refl; outer-is = refl; end-is = refl; above-is = refl; definition-is = refl; bound-is = refl }
 
 free-tests : (head last : Bool) → Tests (freeRole head last) false true false true false false
-unfolding freeRole isUse isInput isOutput isEntry isOuter isBound isEnd isLast isAbove isDefinition
-free-tests true false = record { use-is = refl; entry-is = refl; end-is = refl; above-is = refl; definition-is = refl; bound-is = refl }
-free-tests true true = record { use-is = refl; entry-is = refl; end-is = refl; above-is = refl; definition-is = refl; bound-is = refl }
-free-tests false false = record { use-is = refl; entry-is = refl; end-is = refl; above-is = refl; definition-is = refl; bound-is = refl }
-free-tests false true = record { use-is = refl; entry-is = refl; end-is = refl; above-is = refl; definition-is = refl; bound-is = refl }
+unfolding freeRole isUse isInput isOutput isOuter isBound isEnd isLast isAbove isDefinition
+free-tests true false = record { use-is = refl; outer-is = refl; end-is = refl; above-is = refl; definition-is = refl; bound-is = refl }
+free-tests true true = record { use-is = refl; outer-is = refl; end-is = refl; above-is = refl; definition-is = refl; bound-is = refl }
+free-tests false false = record { use-is = refl; outer-is = refl; end-is = refl; above-is = refl; definition-is = refl; bound-is = refl }
+free-tests false true = record { use-is = refl; outer-is = refl; end-is = refl; above-is = refl; definition-is = refl; bound-is = refl }
 
 line-tests : (q : Quantifier) (last : Bool) → Tests (lineRole q last) false true false true false false
-unfolding lineRole isUse isInput isOutput isEntry isOuter isBound isEnd isLast isAbove isDefinition
-line-tests exists false = record { use-is = refl; entry-is = refl; end-is = refl; above-is = refl; definition-is = refl; bound-is = refl }
-line-tests exists true = record { use-is = refl; entry-is = refl; end-is = refl; above-is = refl; definition-is = refl; bound-is = refl }
-line-tests for-all false = record { use-is = refl; entry-is = refl; end-is = refl; above-is = refl; definition-is = refl; bound-is = refl }
-line-tests for-all true = record { use-is = refl; entry-is = refl; end-is = refl; above-is = refl; definition-is = refl; bound-is = refl }
+unfolding lineRole isUse isInput isOutput isOuter isBound isEnd isLast isAbove isDefinition
+line-tests exists false = record { use-is = refl; outer-is = refl; end-is = refl; above-is = refl; definition-is = refl; bound-is = refl }
+line-tests exists true = record { use-is = refl; outer-is = refl; end-is = refl; above-is = refl; definition-is = refl; bound-is = refl }
+line-tests for-all false = record { use-is = refl; outer-is = refl; end-is = refl; above-is = refl; definition-is = refl; bound-is = refl }
+line-tests for-all true = record { use-is = refl; outer-is = refl; end-is = refl; above-is = refl; definition-is = refl; bound-is = refl }
 
 later-tests : (last : Bool) → Tests (laterRole last) false true false true false false
-unfolding laterRole isUse isInput isOutput isEntry isOuter isBound isEnd isLast isAbove isDefinition
-later-tests false = record { use-is = refl; entry-is = refl; end-is = refl; above-is = refl; definition-is = refl; bound-is = refl }
-later-tests true = record { use-is = refl; entry-is = refl; end-is = refl; above-is = refl; definition-is = refl; bound-is = refl }
+unfolding laterRole isUse isInput isOutput isOuter isBound isEnd isLast isAbove isDefinition
+later-tests false = record { use-is = refl; outer-is = refl; end-is = refl; above-is = refl; definition-is = refl; bound-is = refl }
+later-tests true = record { use-is = refl; outer-is = refl; end-is = refl; above-is = refl; definition-is = refl; bound-is = refl }
 
 -- Of each token of a list.
 pub data Each (P : Token → Type 0) : List Token → Type 0 where
@@ -91,7 +91,7 @@ abbrev pub OuterEntry : Token → Type 0
 OuterEntry k = Tests (k .role) false true false true false false
 
 abbrev pub GateEntry : Token → Type 0
-GateEntry k = Tests (k .role) false true false false false true
+GateEntry k = Tests (k .role) false false false false false true
 
 -- A token of a gate line after its entries.
 pub record Plain (k : Token) : Type 0 where

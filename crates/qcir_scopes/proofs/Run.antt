@@ -11,7 +11,7 @@ use Rattle.lists.specs.Choice.{pick, pick-yes, pick-no, Is, is-true, is-false, 
 use Rattle.qcir.specs.Refusals.{keep}
 use Rattle.qcir_tokens.specs.Tokens.{isUse, isBound, isDefinition}
 use Rattle.qcir_scopes.specs.declared.Walk.{Walk}
-use Rattle.qcir_scopes.specs.Steps.{Tokens, State, put, isEntry, isAbove, moved, past, noted, judged, bound, used, onward, freed, back, step, run}
+use Rattle.qcir_scopes.specs.Steps.{Tokens, State, put, isAbove, moved, past, noted, judged, bound, used, onward, freed, back, step, run}
 
 abbrev pub stand : Walk → (ℕ → Bool) → (ℕ → Bool) → (ℕ → ℕ) → State
 stand w m s c = record { walk = w; marks = m; saved = s; callers = c }
@@ -53,11 +53,11 @@ module _ (t : Tokens) where
   run-still (suc n) s e = ap (run t n) e ∙ run-still n s e
 
   module _ (i : ℕ) (w : Walk) (m s : ℕ → Bool) (c : ℕ → ℕ) where
-    pub step-plain : isUse (t .role i) ≡ false → isEntry (t .role i) ≡ false → step t (stand (moved i false w) m s c) ≡ stand (past (t .role i) i w) m s c
+    pub step-plain : isUse (t .role i) ≡ false → isBound (t .role i) ≡ false → step t (stand (moved i false w) m s c) ≡ stand (past (t .role i) i w) m s c
     unfolding step onward moved past pick
     step-plain u e = pick-no _ _ _ u ∙ pick-no _ _ _ e
 
-    pub step-entry : isUse (t .role i) ≡ false → isEntry (t .role i) ≡ true
+    pub step-entry : isUse (t .role i) ≡ false → isBound (t .role i) ≡ true
         → step t (stand (moved i false w) m s c) ≡ stand (past (t .role i) i w) (put m (t .number i) true) (put s i (m (t .number i))) c
     unfolding step onward bound moved past pick
     step-entry u e = pick-no _ _ _ u ∙ pick-yes _ _ _ e

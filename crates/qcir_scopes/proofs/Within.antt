@@ -14,7 +14,7 @@ use Rattle.qcir_tokens.specs.Tokens.{isUse, isBound, isDefinition}
 use Rattle.qcir_tokens.specs.Held.{numberCount}
 use Rattle.qcir_scopes.specs.declared.Walk.{Walk}
 use Rattle.qcir_scopes.specs.Judged.{tokenLimit}
-use Rattle.qcir_scopes.specs.Steps.{Tokens, tokensOf, State, stateOf, put, isEntry, isEnd, isAbove, moved, past, judged, bound, used, onward, freed, back, step, run, Within, Walking}
+use Rattle.qcir_scopes.specs.Steps.{Tokens, tokensOf, State, stateOf, put, isEnd, isAbove, moved, past, judged, bound, used, onward, freed, back, step, run, Within, Walking}
 use Rattle.qcir_scopes.proofs.Run.{run-still}
 
 pub state-same : {w w' : Walk} {m m' s s' : ℕ → Bool} {c c' : ℕ → ℕ} → w ≡ w' → m ≡ m' → s ≡ s' → c ≡ c'
@@ -180,7 +180,7 @@ module _ {roles numbers gates : List ℕ} {count : ℕ} (h : Within roles number
       unfolding onward tokensOf
       onward-used t e = e ∙ sym (pick-yes _ _ _ t)
 
-      pub onward-bound : isUse (getD roles (w .at) 0) ≡ false → isEntry (getD roles (w .at) 0) ≡ true
+      pub onward-bound : isUse (getD roles (w .at) 0) ≡ false → isBound (getD roles (w .at) 0) ≡ true
           → u ≡ bound (getD roles (w .at) 0) (w .at) (getD numbers (w .at) 0) (stateOf w marks saved callers)
           → u ≡ onward (tokensOf roles numbers gates) (w .at) (stateOf w marks saved callers)
       unfolding onward tokensOf
@@ -196,7 +196,7 @@ module _ {roles numbers gates : List ℕ} {count : ℕ} (h : Within roles number
       unfolding step stateOf
       step-onward t e = e ∙ sym (pick-no _ _ _ t)
 
-    pub onward-past : (r : Walk) → isUse (getD roles (w .at) 0) ≡ false → isEntry (getD roles (w .at) 0) ≡ false → r ≡ past (getD roles (w .at) 0) (w .at) w
+    pub onward-past : (r : Walk) → isUse (getD roles (w .at) 0) ≡ false → isBound (getD roles (w .at) 0) ≡ false → r ≡ past (getD roles (w .at) 0) (w .at) w
         → stateOf r marks saved callers ≡ onward (tokensOf roles numbers gates) (w .at) (stateOf w marks saved callers)
     unfolding onward tokensOf stateOf
     onward-past r n t e = sym (pick-no _ _ _ n ∙ pick-no _ _ _ t ∙ state-same (sym e) refl refl refl)

@@ -38,10 +38,6 @@ stateOf w marks saved callers =
 unfoldable pub put : {A : Type 0} → (ℕ → A) → ℕ → A → ℕ → A
 put f i v j = pick (eqb j i) v (f j)
 
--- A variable that a free line, a prefix line or a gate binds.
-unfoldable pub isEntry : ℕ → Bool
-isEntry r = isOuter r || isBound r
-
 -- Nothing comes right after such a token: it is a gate line's last, or the output.
 unfoldable pub isEnd : ℕ → Bool
 isEnd r = isLast r || isOutput r
@@ -81,7 +77,7 @@ used r i x g s =
 unfoldable pub onward : Tokens → ℕ → State → State
 onward t i s =
     pick (isUse (t .role i)) (used (t .role i) i (t .number i) (t .gate (t .number i)) s)
-    (pick (isEntry (t .role i)) (bound (t .role i) i (t .number i) s)
+    (pick (isBound (t .role i)) (bound (t .role i) i (t .number i) s)
     (record { walk = past (t .role i) i (s .walk); marks = s .marks; saved = s .saved; callers = s .callers }))
 
 -- An entry's number is again what it was before.

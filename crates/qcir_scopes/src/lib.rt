@@ -18,7 +18,7 @@ ghost use Rattle.qcir_tokens.specs.Tokens.{isUse, fileTokens};
 ghost use Rattle.qcir_tokens.specs.Held.{tokensFrom, numberCount, foundOf};
 ghost use Rattle.qcir_scopes.specs.Judged.{Judged, tokenLimit};
 ghost use Rattle.qcir_scopes.specs.Outer.{Outer, AllMarked};
-ghost use Rattle.qcir_scopes.specs.Steps.{tokensOf, stateOf, isEntry, isEnd, isAbove, moved, past, noted, judged, bound, used, onward, back, step, run, first, Within, Walking};
+ghost use Rattle.qcir_scopes.specs.Steps.{tokensOf, stateOf, isEnd, isAbove, moved, past, noted, judged, bound, used, onward, back, step, run, first, Within, Walking};
 use qcir_tokens::Found;
 use qcir_tokens::NUMBERS;
 use qcir_tokens::TOKENS;
@@ -205,7 +205,7 @@ fn go_on(
     if qcir_tokens::is_use(role) {
         return use_number(roles, numbers, count, gates, marks, saved, callers, walk);
     }
-    if is_entry(role) {
+    if qcir_tokens::is_bound(role) {
         return bind_number(roles, numbers, count, gates, marks, saved, callers, walk);
     }
     pass(role, i, walk)
@@ -291,13 +291,6 @@ fn go_back(
         return move_to(i - 1, true, walk);
     }
     move_to(i - 1, true, walk)
-}
-
-// A variable that a free line, a prefix line or a gate binds.
-fn is_entry(role: u8) -> bool
-    ensures { λ r. ⌜ r ≡ isEntry role ⌝ }
-{
-    qcir_tokens::is_outer(role) | qcir_tokens::is_bound(role)
 }
 
 // Not of a gate line.

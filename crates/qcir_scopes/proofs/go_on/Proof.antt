@@ -33,8 +33,8 @@ returns c =
       onward-used h w _ (sym (c .before .before .before .before .before .before .before .before .before .before .before .is-use .ensures) ∙ c .before .before .before .before .before .before .before .before .before .before .if1 .taken) (c .before .before .before .before .before .before .use-number .ensures .1),
     )
 
-is-entry-requires : tie.Need-is-entry-requires
-is-entry-requires c κs = search needs
+is-bound-requires : tie.Need-is-bound-requires
+is-bound-requires c κs = search needs
 
 bind-number-requires : tie.Need-bind-number-requires
 bind-number-requires c κs = search needs
@@ -54,7 +54,7 @@ returns-2 c =
     let h = s .pre .0 in
     let w = s .pre .1 in (
       c .before .before .before .before .before .before .bind-number .ensures .0,
-      onward-bound h w _ (sym (c .before .before .before .before .before .before .before .before .before .before .before .before .before .is-use .ensures) ∙ c .before .before .before .before .before .before .before .before .before .before .before .before .if1 .left) (sym (c .before .before .before .before .before .before .before .before .before .before .before .is-entry .ensures) ∙ c .before .before .before .before .before .before .before .before .before .before .if2 .taken) (c .before .before .before .before .before .before .bind-number .ensures .1),
+      onward-bound h w _ (sym (c .before .before .before .before .before .before .before .before .before .before .before .before .before .is-use .ensures) ∙ c .before .before .before .before .before .before .before .before .before .before .before .before .if1 .left) (sym (c .before .before .before .before .before .before .before .before .before .before .before .is-bound .ensures) ∙ c .before .before .before .before .before .before .before .before .before .before .if2 .taken) (c .before .before .before .before .before .before .bind-number .ensures .1),
     )
 
 pass-requires : tie.Need-pass-requires
@@ -66,7 +66,7 @@ returns-3 c =
     let h = s .pre .0 in
     let w = s .pre .1 in (
       past-walks h w _ _ _ (w .at-low) (c .pass .ensures),
-      onward-past h w _ (sym (c .before .before .before .before .is-use .ensures) ∙ c .before .before .before .if1 .left) (sym (c .before .before .is-entry .ensures) ∙ c .before .if2 .left) (c .pass .ensures),
+      onward-past h w _ (sym (c .before .before .before .before .is-use .ensures) ∙ c .before .before .before .if1 .left) (sym (c .before .before .is-bound .ensures) ∙ c .before .if2 .left) (c .pass .ensures),
     )
 
 pub go-on-spec : {M : Type 1} → statement M
@@ -80,7 +80,7 @@ go-on-spec =
     same-length-2
     same-length-3
     returns
-    is-entry-requires
+    is-bound-requires
     bind-number-requires
     same-length-4
     same-length-5

@@ -1,7 +1,6 @@
 -- `qcir_scopes::lowest_unbound` meets its contract: where every variable used is marked, none is unbound; else the walk finds those that are.
 -- Assumes nothing.
 use mathlib.Core.Bool.{Bool, false}
-use native.Mathlib.Omega.{arith}
 use borrow.Author.Needs.{needs}
 use Rattle.lists.proofs.Stores.{getD-filled}
 use Rattle.qcir_tokens.specs.Held.{numberCount}
