@@ -158,14 +158,28 @@ alike-effect x y p t h =
     let r₃ = and-right c (d && e) r₂ in
     place-alike x y (not-true _ (and-left a _ r)) (not-true _ (and-left b _ r₁)) (agreed _ _ (and-left c _ r₂)) (agreed _ _ (and-left d _ r₃)) (agreed _ _ (and-right d e r₃)) p h)
 
-pub alike-digit : (x y : ℕ) → alike x y ≡ true → isDigit x ≡ isDigit y
+-- What is the same of two bytes that are alike.
+pub record Signs (x y : ℕ) : Type 0 where
+  pub space : isSpace x ≡ isSpace y
+  pub digit : isDigit x ≡ isDigit y
+  pub end : eqb x 10 ≡ eqb y 10
+
+pub alike-signs : (x y : ℕ) → alike x y ≡ true → Signs x y
 unfolding alike
-alike-digit x y t =
-    or-cases _ _ t (λ e. ap isDigit (eqb-true x y e))
+alike-signs x y t =
+    or-cases _ _ t
+    (λ e.
+    let z : x ≡ y = eqb-true x y e in
+    record { space = ap isSpace z; digit = ap isDigit z; end = ap (λ b. eqb b 10) z })
     (λ r.
     let a = not (mem x marks) in
     let b = not (mem y marks) in
     let c = agree (isSpace x) (isSpace y) in
     let d = agree (isDigit x) (isDigit y) in
     let e = agree (leb 49 x && leb x 57) (leb 49 y && leb y 57) in
-    agreed _ _ (and-left d e (and-right c (d && e) (and-right b (c && (d && e)) (and-right a (b && (c && (d && e))) r)))))
+    let r₁ = and-right a (b && (c && (d && e))) r in
+    let r₂ = and-right b (c && (d && e)) r₁ in
+    let r₃ = and-right c (d && e) r₂ in
+    let s = agreed _ _ (and-left c _ r₂) in
+    let i = agreed _ _ (and-left d _ r₃) in
+    record { space = s; digit = i; end = lf x y (not-true _ (and-left a _ r)) (not-true _ (and-left b _ r₁)) s i (agreed _ _ (and-right d e r₃)) })

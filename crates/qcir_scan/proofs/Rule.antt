@@ -1,6 +1,6 @@
 -- The table `moves` is right: at each place, on a byte of each class, its entry is the step's effect.
 -- Assumes nothing.
-use mathlib.Core.Bool.{Bool, true, not, _&&_, _||_}
+use mathlib.Core.Bool.{Bool, true, false, not, _&&_, _||_}
 use mathlib.Core.List.{List, [], _∷_}
 use mathlib.Core.Path.{_≡_, refl, sym, _∙_, ap}
 use Prim.Native.Nat.{ℕ, _+_, _*_, _-_, _/_, _%_, _≤_, _<_}
@@ -9,15 +9,15 @@ use native.Mathlib.Omega.{arith}
 use lib.Dec.{eqb, leb, ltb}
 use lib.ListN.{length, getD}
 use borrow.Author.Tests.{eqb-true, leb-true, ltb-true, le-leb, lt-leb, lt-ltb, not-true}
-use Rattle.lists.specs.Choice.{pick, clash, and-left, and-right, and-both, or-cases}
+use Rattle.lists.specs.Choice.{pick, clash, and-left, and-right, and-both, or-left, or-right, or-cases}
 use Rattle.lists.specs.Members.{mem}
 use Rattle.qcir.specs.Spelling.{isSpace, isDigit}
 use Rattle.qcir_text.specs.Machine.{Place, dead, heading, headed, padded, counted, ready, inside, digits, comment, row, arrow, points, rowAt, arrowOf, someBegins, same, begins, isDead, isDone}
 use Rattle.qcir_scan.specs.Places.{places, placeOf, spares, spare}
 use Rattle.qcir_scan.specs.Tables.{moves, columns, entryAt}
-use Rattle.qcir_scan.specs.Held.{InName}
+use Rattle.qcir_scan.specs.Held.{InName, Between, InComment}
 use Rattle.qcir_scan.proofs.Effects.{Effect, effectAt, wordEffect, endEffect, betweenEffect}
-use Rattle.qcir_scan.proofs.Alike.{marks, agree, agreed, alike, headMarked, alike-effect, alike-digit}
+use Rattle.qcir_scan.proofs.Alike.{marks, agree, agreed, alike, headMarked, alike-effect, Signs, alike-signs}
 use Rattle.qcir_scan.proofs.Every.{every, at}
 
 -- A byte of each class.
@@ -116,14 +116,22 @@ named b e = leb (e / 256) 24 || (isDigit b && inName (e % 256))
 unfoldable pub further : ℕ → ℕ → ℕ → Bool
 further i b e = not (inName i && isDigit b) || eqb e (6656 + i)
 
+-- A space between two signs, or a byte of a comment line.
+unfoldable pub passed : ℕ → ℕ → Bool
+passed i b = ((leb 13 i && ltb i 59) && isSpace b) || ((leb 74 i && ltb i 77) && not (eqb b 10))
+
+-- It leaves the place as it is, and nothing is done.
+unfoldable pub stayed : ℕ → ℕ → ℕ → Bool
+stayed i b e = not (passed i b) || eqb e i
+
 unfoldable pub rightAt : ℕ → ℕ → ℕ → Bool
-rightAt i b e = sameEffect (effectAt (placeOf i) b) (effectOf e) && (spared i e && (named b e && further i b e))
+rightAt i b e = sameEffect (effectAt (placeOf i) b) (effectOf e) && (spared i e && (named b e && (further i b e && stayed i b e)))
 
 unfoldable pub right : ℕ → ℕ → Bool
 right n e = rightAt (n % 124) (getD samples (n / 124) 0) e
 
 all-right : every right 0 moves ≡ true
-unfolding right rightAt sameEffect spared inName named further tokenBytes effectOf code samples moves places placeOf spares spare effectAt wordEffect endEffect betweenEffect pick isSpace isDigit row arrow points rowAt arrowOf someBegins same begins
+unfolding right rightAt sameEffect spared inName named further passed stayed tokenBytes effectOf code samples moves places placeOf spares spare effectAt wordEffect endEffect betweenEffect pick isSpace isDigit row arrow points rowAt arrowOf someBegins same begins
 all-right = refl
 
 -- A byte is like the sample of its column, which begins where a column does; the value of a digit.
@@ -229,12 +237,15 @@ module _ (i : ℕ) (low : i < 124) where
     unfolding right y e
     entry-parts = rw (in-column, of-column) at entry-right
 
-    entry-rest : (spared i e && (named y e && further i y e)) ≡ true
+    entry-rest : (spared i e && (named y e && (further i y e && stayed i y e))) ≡ true
     unfolding rightAt
     entry-rest = and-right (sameEffect (effectAt (placeOf i) y) (effectOf e)) _ entry-parts
 
-    entry-last : (named y e && further i y e) ≡ true
+    entry-last : (named y e && (further i y e && stayed i y e)) ≡ true
     entry-last = and-right (spared i e) _ entry-rest
+
+    entry-same : (further i y e && stayed i y e) ≡ true
+    entry-same = and-right (named y e) _ entry-last
 
     -- the entry is the effect of the step
     pub entry-effect : effectAt (placeOf i) b ≡ effectOf (entryAt i b)
@@ -251,9 +262,12 @@ module _ (i : ℕ) (low : i < 124) where
     unfolding spared e
     next-spare = leb-true _ _ (and-right (ltb (e % 256) 124) _ (and-left (spared i e) _ entry-rest))
 
-    digit-alike : isDigit b ≡ isDigit y
+    signs : Signs b y
     unfolding y
-    digit-alike = alike-digit b y like
+    signs = alike-signs b y like
+
+    digit-alike : isDigit b ≡ isDigit y
+    digit-alike = signs .digit
 
     -- a byte that belongs to a name
     digit-named : 24 < e / 256 → (isDigit y && inName (e % 256)) ≡ true
@@ -279,6 +293,30 @@ module _ (i : ℕ) (low : i < 124) where
     pub further-digit : InName i → isDigit b ≡ true → entryAt i b ≡ 6656 + i
     unfolding e further inName
     further-digit n d =
-        or-cases (not (inName i && isDigit y)) (eqb e (6656 + i)) (and-right (named y e) _ entry-last)
+        or-cases (not (inName i && isDigit y)) (eqb e (6656 + i)) (and-left (further i y e) _ entry-same)
         (λ t. clash (and-both (inName i) (isDigit y) (and-both (leb 59 i) (ltb i 74) (le-leb 59 i (n .first)) (lt-ltb i 74 (n .last))) (sym digit-alike ∙ d)) (not-true _ t))
         (λ t. eqb-true _ _ t)
+
+    passed-alike : passed i b ≡ passed i y
+    unfolding passed
+    passed-alike = rw (signs .space, signs .end)
+
+    -- a space between two signs, or a byte of a comment line
+    pub stays : passed i b ≡ true → entryAt i b ≡ i
+    unfolding e stayed
+    stays h =
+        or-cases (not (passed i y)) (eqb e i) (and-right (further i y e) _ entry-same)
+        (λ t. clash (sym passed-alike ∙ h) (not-true _ t))
+        (λ t. eqb-true _ _ t)
+
+-- a space between two signs
+pub passed-space : (i b : ℕ) → Between i → isSpace b ≡ true → passed i b ≡ true
+unfolding passed
+passed-space i b p h =
+    or-left _ _ (and-both _ _ (and-both (leb 13 i) (ltb i 59) (le-leb 13 i (p .first)) (lt-ltb i 59 (p .last))) h)
+
+-- a byte of a comment line
+pub passed-comment : (i b : ℕ) → InComment i → eqb b 10 ≡ false → passed i b ≡ true
+unfolding passed
+passed-comment i b p h =
+    or-right ((leb 13 i && ltb i 59) && isSpace b) _ (and-both _ _ (and-both (leb 74 i) (ltb i 77) (le-leb 74 i (p .first)) (lt-ltb i 77 (p .last))) (ap not h))

@@ -20,7 +20,7 @@ use Rattle.qcir_scan.specs.Places.{places, placeOf, spares, spare}
 use Rattle.qcir_scan.specs.Tables.{entryAt}
 use Rattle.qcir_scan.specs.Held.{highest, stateOf, Wide, Lives, Holds, InName, numberAfter, beginAfter, countAfter}
 use Rattle.qcir_scan.proofs.Effects.{withNumber, apply, step-effect}
-use Rattle.qcir_scan.proofs.Rule.{effectOf, tokenBytes, dead-number, entry-effect, next-low, next-spare, digit-value, further-digit}
+use Rattle.qcir_scan.proofs.Rule.{effectOf, tokenBytes, dead-number, entry-effect, next-low, next-spare, digit-value, further-digit, passed, stays}
 use Rattle.qcir_scan.proofs.Runs.{next-run, alive-next}
 use Rattle.qcir_scan.proofs.Tokens.{tokens-kept, tokens-more}
 
@@ -156,6 +156,24 @@ module _ (text rs ns ps : List ℕ) (q : Progress) (h : Holds text rs ns ps q) (
         let m = next-spare (q .place) (h .place-low) (getD text (q .at) 0) byte in
         record { state = next-state ∙ on-state; lives = lives-on; within = omega arith; place-low = next-low (q .place) (h .place-low) (getD text (q .at) 0) byte; number-low = h .number-low; begin-low = h .begin-low; room = omega arith; wide = wide' }
 
+  -- an entry that does nothing leaves the arrays as they are
+  module _ (z : act ≡ 0) where
+    idle : Progress
+    idle = record { at = q .at + 1; place = e % 256; number = q .number; begin = q .begin; count = q .count }
+
+    idle-state : apply highest s b (effectOf e) ≡ stateOf idle rs ns ps
+    unfolding emit s stateOf idle
+    idle-state =
+        emitting (omega arith)
+        ∙ state-is (emit s (placeOf (e % 256)) act) idle rs ns ps refl (sym (add-one (q .at))) refl refl (pick-yes _ _ _ (eq-eqb act 0 z))
+
+    went-idle : Holds text rs ns ps idle
+    unfolding idle e
+    went-idle =
+        let r = h .room in
+        let m = next-spare (q .place) (h .place-low) (getD text (q .at) 0) byte in
+        record { state = next-state ∙ idle-state; lives = lives-on; within = omega arith; place-low = next-low (q .place) (h .place-low) (getD text (q .at) 0) byte; number-low = h .number-low; begin-low = h .begin-low; room = omega arith; wide = h .wide }
+
   -- an entry that begins a name, or goes on with it
   module _ (d : 24 < act) where
     n : ℕ
@@ -267,3 +285,13 @@ module _ (text rs ns ps : List ℕ) (q : Progress) (h : Holds text rs ns ps q) (
 
       pub further-too-high : highest < m → Holds text rs ns ps (record { at = q .at + 1; place = 0; number = q .number; begin = q .begin; count = q .count })
       further-too-high a = after-too-high (6656 + q .place) same-name above number-on a
+
+  -- a space between two signs, or a byte of a comment line
+  pub passes : passed (q .place) (getD text (q .at) 0) ≡ true → Holds text rs ns ps (record { at = q .at + 1; place = q .place; number = q .number; begin = q .begin; count = q .count })
+  unfolding act e idle
+  passes t =
+      let low = h .place-low in
+      let r : entryAt (q .place) (getD text (q .at) 0) ≡ q .place = stays (q .place) (h .place-low) (getD text (q .at) 0) byte t in
+      let z : entryAt (q .place) (getD text (q .at) 0) / 256 ≡ 0 = ap (λ x. x / 256) r ∙ div-eq-of-lt (omega arith) in
+      let p : entryAt (q .place) (getD text (q .at) 0) % 256 ≡ q .place = ap (λ x. x % 256) r ∙ mod-eq-of-lt (omega arith) in
+      subst (λ x. Holds text rs ns ps (record { at = q .at + 1; place = x; number = q .number; begin = q .begin; count = q .count })) p (went-idle z)

@@ -63,6 +63,20 @@ pub record InName (place : ℕ) : Type 0 where
   pub first : 59 ≤ place
   pub last : place < 74
 
+-- Between two signs.
+pub record Between (place : ℕ) : Type 0 where
+  pub first : 13 ≤ place
+  pub last : place < 59
+
+-- Within a comment line.
+pub record InComment (place : ℕ) : Type 0 where
+  pub first : 74 ≤ place
+  pub last : place < 77
+
+-- From q to r, arrays that hold the state go on to hold it.
+abbrev pub GoesOn : List ℕ → Progress → Progress → Type 0
+GoesOn text q r = (q .at ≤ r .at) × ((roles numbers positions : List ℕ) → Holds text roles numbers positions q → Holds text roles numbers positions r)
+
 -- What scanning a text answers, and leaves in the arrays.
 pub record Answers (text roles numbers positions : List ℕ) (r : Scanned) : Type 0 where
   pub spelled-is : r .spelled ≡ accepts highest text

@@ -4,12 +4,15 @@ ghost use mathlib.Core.Path.{_≡_};
 ghost use Prim.Native.Nat.{ℕ, _+_, _%_, _≤_, _<_};
 ghost use lib.Dec.{eqb};
 ghost use lib.ListN.{length, getD, set};
-ghost use Rattle.qcir.specs.Spelling.{isDigit};
+ghost use Rattle.qcir.specs.Spelling.{isSpace, isDigit};
 ghost use Rattle.qcir_scan.specs.Tables.{Tables, entryAt};
 ghost use Rattle.qcir_scan.specs.Held.{
   Holds,
   Wide,
   InName,
+  Between,
+  InComment,
+  GoesOn,
   Answers,
   numberAfter,
   beginAfter,
@@ -28,13 +31,26 @@ const START: usize = 1;
 
 const DONE: usize = 36;
 
+// From here on the places between two signs, those of names, of comment lines and of words.
+const BETWEEN: usize = 13;
+
+const NAMES: usize = 59;
+
+const COMMENTS: usize = 74;
+
+const WORDS: usize = 77;
+
 // What an entry of the table does if a name begins; if less, the pending name ends in this role, or, if 0, nothing is done.
 const NAME: u8 = 25;
 
 // The highest number of a name.
 const HIGHEST: u32 = 65535;
 
+const TAB: u8 = 9;
+
 const LF: u8 = 10;
+
+const SPACE: u8 = 32;
 
 // The bytes so far, the place's number, the pending name, and how many tokens there are.
 pub struct Progress {
@@ -60,23 +76,7 @@ pub fn scan(text: &[u8], roles: &mut [u8], numbers: &mut [u16], positions: &mut 
     requires { ⌜ Wide (now roles) (now numbers) (now positions) ⌝ }
     ensures { λ r. ⌜ Answers (now (text .entry)) (now (roles .exit)) (now (numbers .exit)) (now (positions .exit)) r ⌝ }
 {
-    scan_from(text, 0, roles, numbers, positions)
-}
-
-// The same, for a text that begins at byte `at`.
-pub fn scan_from(
-    text: &[u8],
-    at: usize,
-    roles: &mut [u8],
-    numbers: &mut [u16],
-    positions: &mut [u16],
-) -> Scanned
-    requires { ⌜ length (now text) ≤ 65536 ⌝ }
-    requires { ⌜ at ≡ 0 ⌝ }
-    requires { ⌜ Wide (now roles) (now numbers) (now positions) ⌝ }
-    ensures { λ r. ⌜ Answers (now (text .entry)) (now (roles .exit)) (now (numbers .exit)) (now (positions .exit)) r ⌝ }
-{
-    walk(&MOVES, &COLUMNS, text, at, roles, numbers, positions)
+    walk(&MOVES, &COLUMNS, text, roles, numbers, positions)
 }
 
 // Takes the bytes one after the other, up to the first where no file goes on.
@@ -84,19 +84,17 @@ fn walk(
     moves: &[u16; 4092],
     columns: &[u16; 256],
     text: &[u8],
-    at: usize,
     roles: &mut [u8],
     numbers: &mut [u16],
     positions: &mut [u16],
 ) -> Scanned
     requires { ⌜ Tables (now moves) (now columns) ⌝ }
     requires { ⌜ length (now text) ≤ 65536 ⌝ }
-    requires { ⌜ at ≡ 0 ⌝ }
     requires { ⌜ Wide (now roles) (now numbers) (now positions) ⌝ }
     ensures { λ r. ⌜ Answers (now (text .entry)) (now (roles .exit)) (now (numbers .exit)) (now (positions .exit)) r ⌝ }
 {
     let mut q = Progress {
-        at,
+        at: 0,
         place: START,
         number: 0,
         begin: 0,
@@ -122,7 +120,7 @@ fn walk(
     }
 }
 
-// Takes one byte, or the digits of a name.
+// Takes one byte, and spaces or a comment line after it; or the digits of a name.
 fn advance(
     moves: &[u16; 4092],
     columns: &[u16; 256],
@@ -146,13 +144,16 @@ fn advance(
     if act < NAME {
         put_token(roles, numbers, positions, q, act);
         let count = count_after(act, q.count);
-        return Progress {
-            at: at + 1,
-            place,
-            number: q.number,
-            begin: q.begin,
-            count,
-        };
+        return skip_run(
+            text,
+            Progress {
+                at: at + 1,
+                place,
+                number: q.number,
+                begin: q.begin,
+                count,
+            },
+        );
     }
     let number = number_after(act, q.number, byte % 16);
     if HIGHEST < number {
@@ -171,11 +172,62 @@ fn advance(
     )
 }
 
+// Takes the bytes that leave the place as it is: spaces between two signs, or what is left of a comment line.
+fn skip_run(text: &[u8], q: Progress) -> Progress
+    requires { ⌜ length (now text) ≤ 65536 ⌝ }
+    requires { ⌜ q .at ≤ length (now text) ⌝ }
+    ensures { λ r. ⌜ GoesOn (now (text .entry)) q r ⌝ }
+{
+    if (BETWEEN <= q.place) & (q.place < NAMES) {
+        return skip_spaces(text, q);
+    }
+    if (COMMENTS <= q.place) & (q.place < WORDS) {
+        return skip_comment(text, q);
+    }
+    q
+}
+
+// Takes spaces and tabs between two signs.
+fn skip_spaces(text: &[u8], q: Progress) -> Progress
+    requires { ⌜ length (now text) ≤ 65536 ⌝ }
+    requires { ⌜ Between (q .place) × (q .at ≤ length (now text)) ⌝ }
+    ensures { λ r. ⌜ GoesOn (now (text .entry)) q r ⌝ }
+{
+    let mut q = q;
+    while q.at < text.len() {
+        let at = q.at;
+        let byte = text[at];
+        if !is_space(byte) {
+            return q;
+        }
+        q.at = at + 1;
+    }
+    q
+}
+
+// Takes what is left of a comment line.
+fn skip_comment(text: &[u8], q: Progress) -> Progress
+    requires { ⌜ length (now text) ≤ 65536 ⌝ }
+    requires { ⌜ InComment (q .place) × (q .at ≤ length (now text)) ⌝ }
+    ensures { λ r. ⌜ GoesOn (now (text .entry)) q r ⌝ }
+{
+    let mut q = q;
+    while q.at < text.len() {
+        let at = q.at;
+        let byte = text[at];
+        if byte == LF {
+            return q;
+        }
+        q.at = at + 1;
+    }
+    q
+}
+
 // Takes the further digits of the pending name.
 fn read_digits(text: &[u8], q: Progress) -> Progress
     requires { ⌜ length (now text) ≤ 65536 ⌝ }
     requires { ⌜ InName (q .place) × (q .number ≤ 65535) × (q .at ≤ length (now text)) ⌝ }
-    ensures { λ r. ⌜ (q .at ≤ r .at) × ((roles numbers positions : List ℕ) → Holds (now (text .entry)) roles numbers positions q → Holds (now (text .entry)) roles numbers positions r) ⌝ }
+    ensures { λ r. ⌜ GoesOn (now (text .entry)) q r ⌝ }
 {
     let mut q = q;
     while q.at < text.len() {
@@ -206,6 +258,12 @@ fn stopped(q: Progress) -> Progress
         begin: q.begin,
         count: q.count,
     }
+}
+
+fn is_space(byte: u8) -> bool
+    ensures { λ r. ⌜ r ≡ isSpace byte ⌝ }
+{
+    (byte == SPACE) | (byte == TAB)
 }
 
 fn is_digit(byte: u8) -> bool

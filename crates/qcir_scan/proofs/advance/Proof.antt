@@ -31,6 +31,12 @@ count-after-requires c κs = search needs
 add-t27 : tie.Need-add-t27
 add-t27 c = search needs
 
+skip-run-requires : tie.Need-skip-run-requires
+skip-run-requires c κs =
+    let start = c .before .before .before .before .before .before .before .before .before .before .before .before .before .before .before .before .before .before in
+    let l = start .pre .1 .1 .0 .0 in
+    (start .pre .1 .0, omega arith)
+
 same-length : tie.Need-same-length
 same-length c = search needs
 
@@ -42,17 +48,18 @@ same-length-3 c = search needs
 
 returns : tie.Need-returns
 returns c =
-    let start = c .before .before .before .before .before .before .before .before .before .before .before .before .before .before .before .before .before .before in
+    let start = c .before .before .before .before .before .before .before .before .before .before .before .before .before .before .before .before .before .before .before in
     let a = start .args in
     let text = a .text .now in
     let q = a .q in
     let h = start .pre .1 .1 .1 in
     let l = start .pre .1 .1 .0 .0 in
-    let w : getD text (q .at) 0 < 256 = omega (arith, c .before .before .before .before .before .before .before .before .before .before .before .before .before .before .before .before .before .shared-slice-known .given (q .at)) in
-    let entry = c .before .before .before .before .before .before .before .before .before .before .before .before .entry-at in
-    let put = c .before .before .before .before .before .before .before .put-token .ensures in
-    let low : entry .result / 256 ≤ 24 = omega (arith, c .before .before .before .before .before .before .before .before .before .before .before .if1 .taken) in
-    (after-byte text (a .roles .now) (a .numbers .now) (a .positions .now) q h l (start .pre .1 .1 .0 .1) (start .pre .1 .0) w (entry .result) (entry .ensures) low (put .0) (put .1) (put .2) (c .count-after .ensures), omega arith)
+    let w : getD text (q .at) 0 < 256 = omega (arith, c .before .before .before .before .before .before .before .before .before .before .before .before .before .before .before .before .before .before .shared-slice-known .given (q .at)) in
+    let entry = c .before .before .before .before .before .before .before .before .before .before .before .before .before .entry-at in
+    let put = c .before .before .before .before .before .before .before .before .put-token .ensures in
+    let low : entry .result / 256 ≤ 24 = omega (arith, c .before .before .before .before .before .before .before .before .before .before .before .before .if1 .taken) in
+    let r = c .skip-run .ensures in
+    (r .1 _ _ _ (after-byte text (a .roles .now) (a .numbers .now) (a .positions .now) q h l (start .pre .1 .1 .0 .1) (start .pre .1 .0) w (entry .result) (entry .ensures) low (put .0) (put .1) (put .2) (c .before .count-after .ensures)), omega (arith, r .0))
 
 number-after-requires : tie.Need-number-after-requires
 number-after-requires c κs = search needs
@@ -79,8 +86,8 @@ cast-begin-after c = search needs
 begin-after-requires : tie.Need-begin-after-requires
 begin-after-requires c κs = search needs
 
-add-t29 : tie.Need-add-t29
-add-t29 c = search needs
+add-t30 : tie.Need-add-t30
+add-t30 c = search needs
 
 read-digits-requires : tie.Need-read-digits-requires
 read-digits-requires c κs =
@@ -121,6 +128,7 @@ advance-spec =
     put-token-requires
     count-after-requires
     add-t27
+    skip-run-requires
     same-length
     same-length-2
     same-length-3
@@ -130,6 +138,6 @@ advance-spec =
     returns-2
     cast-begin-after
     begin-after-requires
-    add-t29
+    add-t30
     read-digits-requires
     returns-3)

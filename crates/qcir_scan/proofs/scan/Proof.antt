@@ -1,9 +1,9 @@
--- `qcir_scan::scan_from` meets its contract: the tables that are lent are those of specs/Tables.antt.
+-- `qcir_scan::scan` meets its contract: the tables that are lent are those of specs/Tables.antt.
 -- Assumes nothing.
 use borrow.Author.Needs.{needs}
 use Rattle.qcir_scan.specs.Tables.{moves, columns}
-use Rattle.qcir_scan.proofs.scan_from.Statement.{statement}
-use Rattle.qcir_scan.proofs.scan_from.Tie as tie
+use Rattle.qcir_scan.proofs.scan.Statement.{statement}
+use Rattle.qcir_scan.proofs.scan.Tie as tie
 
 walk-requires : tie.Need-walk-requires
 unfolding moves columns
@@ -21,5 +21,5 @@ same-length-3 c = search needs
 returns : tie.Need-returns
 returns c = search needs
 
-pub scan-from-spec : {M : Type 1} → statement M
-scan-from-spec = tie.close (tie.spec walk-requires same-length same-length-2 same-length-3 returns)
+pub scan-spec : {M : Type 1} → statement M
+scan-spec = tie.close (tie.spec walk-requires same-length same-length-2 same-length-3 returns)
