@@ -1,11 +1,13 @@
 -- The pass that chains the nodes of an accepted table, step by step.
 -- Assumes nothing.
-use mathlib.Core.Path.{_≡_, _∙_}
+use mathlib.Core.Path.{_≡_, sym, _∙_}
 use mathlib.Core.Bool.{true, false}
 use mathlib.Core.List.{List}
 use Prim.Native.Nat.{ℕ, suc, _+_, _-_, _<_, _≤_, max}
 use native.Mathlib.Numerals.{add-one}
 use native.Mathlib.Omega.{arith}
+use mir.Syntax.{w16}
+use mir.Val.{Fits}
 use lib.ListN.{length, getD, set, length-set}
 use lib.Seq.{getD-set-same, getD-set-other}
 use Rattle.lists.specs.Choice.{clash}
@@ -145,10 +147,10 @@ module _ (ws ls : List ℕ) (ok : verdict ws ls ≡ accepted) (i : ℕ) (h : i <
 
       pub block-passed : (lfs' lns' : List ℕ) → length lfs' ≡ length lfs → length lns' ≡ length lns → LevelsFrom (tableOf ws ls) i lfs' lns'
           → (w : NodeWords) → ReadAt ws i w → isBlock (nodeAt ws ls i) ≡ true
-          → ChainedFrom (tableOf ws ls) i lfs' lns' mfs' mns' (set starts i (p .start - w .b))
-          (record { start = p .start - w .b; highest = max (p .highest) (maximum (range ls (w .a) (w .b))) })
+          → (x y : ℕ) → x ≡ maximum (range ls (w .a) (w .b)) → y ≡ max (p .highest) x
+          → ChainedFrom (tableOf ws ls) i lfs' lns' mfs' mns' (set starts i (p .start - w .b)) (record { start = p .start - w .b; highest = y })
       unfolding tableOf
-      block-passed lfs' lns' fl' nl' levels w r e =
+      block-passed lfs' lns' fl' nl' levels w r e x y ex ey =
           let v : p .start - w .b ≡ boundBelow (tableOf ws ls) i = omega (arith, s .start-here, start-before w r e) in
           record {
             level-firsts-length = fl' ∙ s .level-firsts-length;
@@ -163,12 +165,15 @@ module _ (ws ls : List ℕ) (ok : verdict ws ls ≡ accepted) (i : ℕ) (h : i <
                 (λ y. getD-set-same starts i (p .start - w .b) 0 (omega (arith, s .starts-length, nodes-few ws ls ok)) ∙ v)
                 (λ j k l y. getD-set-other starts i j (p .start - w .b) 0 (λ q. omega arith) ∙ s .start-is j (omega arith) l y);
             start-here = v;
-            highest-is = highest-with (maximum (range ls (w .a) (w .b))) (block-highest ws ls i w r e);
+            highest-is = rw ey (highest-with x (block-highest ws ls i w r e ∙ sym ex));
           }
 
     -- the block's entries are among those counted
     pub start-fits : (w : NodeWords) → ReadAt ws i w → isBlock (nodeAt ws ls i) ≡ true → (w .b ≤ p .start) × (p .start ≤ limit)
     start-fits w r e = (omega (arith, s .start-here, start-before w r e), omega (arith, s .start-here, start-small))
+
+    pub start-narrow : (w : NodeWords) → ReadAt ws i w → isBlock (nodeAt ws ls i) ≡ true → Fits w16 (p .start - w .b)
+    start-narrow w r e = omega (arith, start-fits w r e .1)
 
 module _ (ws ls : List ℕ) (lfs lns mfs mns starts : List ℕ) where
   pub passed-none : (q : ℕ) → q ≡ boundCount (tableOf ws ls) → Cleared lfs lns mfs mns starts

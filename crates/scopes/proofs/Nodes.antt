@@ -3,8 +3,11 @@
 use mathlib.Core.Path.{_≡_, refl, sym, _∙_, ap}
 use mathlib.Core.Bool.{true, false}
 use mathlib.Core.List.{List, [], _∷_}
-use Prim.Native.Nat.{ℕ, _<_, _≤_}
+use Prim.Native.Nat.{ℕ, _*_, _<_, _≤_}
 use native.Mathlib.Omega.{arith}
+use mir.Syntax.{w64}
+use mir.Val.{Fits}
+use lib.ListN.{length}
 use Rattle.lists.specs.Choice.{pick, clash}
 use Rattle.lists.specs.Members.{mem}
 use Rattle.formula.specs.Node.{Node, constant, variable, negation, operator, block, operands, isBlock}
@@ -90,6 +93,13 @@ module _ (ws ls : List ℕ) (ok : verdict ws ls ≡ accepted) where
   pub nodes-some : 0 < nodeCount ws
   unfolding tableOf
   nodes-some = accepted-tree .nonempty
+
+  -- nodes index the arrays
+  pub index-lt : (i : ℕ) (l : List ℕ) → i < nodeCount ws → length l ≡ limit → i < length l
+  index-lt i l h e = omega (arith, nodes-few)
+
+  pub index-fits : (i : ℕ) → i < nodeCount ws → Fits w64 (i * 2)
+  index-fits i h = omega (arith, nodes-few)
 
   -- operands index the arrays
   pub operand-lt : (i a : ℕ) (xs : List ℕ) → i < nodeCount ws → operands (nodeAt ws ls i) ≡ xs → mem a xs ≡ true → a < limit
