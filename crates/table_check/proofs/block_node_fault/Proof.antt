@@ -21,13 +21,13 @@ block-fault-requires : tie.Need-block-fault-requires
 block-fault-requires c κs = search needs
 
 same-length : tie.Need-same-length
-same-length c = search needs
+same-length c = c .before .before .before .before .block-fault .kept .1 .0
 
 same-length-2 : tie.Need-same-length-2
-same-length-2 c = search needs
+same-length-2 c = c .before .before .before .before .block-fault .kept .1 .1 .0
 
 same-length-3 : tie.Need-same-length-3
-same-length-3 c = search needs
+same-length-3 c = c .before .before .before .before .before .before .before .before .before .count-name .kept .1 .0
 
 returns-2 : tie.Need-returns-2
 returns-2 c =

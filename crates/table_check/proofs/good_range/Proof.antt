@@ -33,10 +33,10 @@ enter-requires : tie.Need-enter-requires Inv-loop μ-loop
 enter-requires c κs = search needs
 
 same-length : tie.Need-same-length Inv-loop μ-loop
-same-length c = search needs
+same-length c = c .before .before .before .before .before .enter .kept .1 .0 ∙ c .before .before .before .before .before .before .before .before .before .loop .inv .2 .heads-wide ∙ sym (c .before .before .before .before .before .before .before .before .before .before .before .before .before .pre .1 .heads-wide)
 
 same-length-2 : tie.Need-same-length-2 Inv-loop μ-loop
-same-length-2 c = search needs
+same-length-2 c = c .before .before .before .before .before .enter .kept .1 .1 .0 ∙ c .before .before .before .before .before .before .before .before .before .loop .inv .2 .prevs-wide ∙ sym (c .before .before .before .before .before .before .before .before .before .before .before .before .before .pre .1 .prevs-wide)
 
 returns : tie.Need-returns Inv-loop μ-loop
 returns c =
@@ -56,10 +56,10 @@ loop-again c =
     (omega arith, good-more _ _ _ (in-list (c .before .before .before .before .before .before .before .before)) (c .before .before .before .before .before .before .before .before .before .loop .inv .1) (sym (r .0) ∙ t), r .1 t)
 
 same-length-3 : tie.Need-same-length-3 Inv-loop μ-loop
-same-length-3 c = search needs
+same-length-3 c = c .before .loop .inv .2 .heads-wide ∙ sym (c .before .before .before .before .before .pre .1 .heads-wide)
 
 same-length-4 : tie.Need-same-length-4 Inv-loop μ-loop
-same-length-4 c = search needs
+same-length-4 c = c .before .loop .inv .2 .prevs-wide ∙ sym (c .before .before .before .before .before .pre .1 .prevs-wide)
 
 returns-2 : tie.Need-returns-2 Inv-loop μ-loop
 returns-2 c =

@@ -32,7 +32,7 @@ operator-fault-requires : tie.Need-operator-fault-requires
 operator-fault-requires c κs = counted-room _ _ _ (omega (arith, c .before .before .before .before .before .before .before .before .before .before .before .pre .0)) (c .before .before .before .before .before .before .before .before .before .before .before .pre .1 .1 .1)
 
 same-length : tie.Need-same-length
-same-length c = search needs
+same-length c = c .before .before .operator-fault .kept .1 .1 .1 .1 .0
 
 returns-2 : tie.Need-returns-2
 unfolding isBlockKind
@@ -56,13 +56,13 @@ add-before : tie.Need-add-before
 add-before c = omega (arith, c .before .before .before .before .before .before .before .before .before .before .before .before .before .before .before .before .before .before .before .before .before .before .before .before .pre .1 .0 .1, c .struct-known3)
 
 same-length-2 : tie.Need-same-length-2
-same-length-2 c = search needs
+same-length-2 c = c .before .before .before .before .before .before .before .block-node-fault .kept .1 .0
 
 same-length-3 : tie.Need-same-length-3
-same-length-3 c = search needs
+same-length-3 c = c .before .before .before .before .before .before .before .block-node-fault .kept .1 .1 .0
 
 same-length-4 : tie.Need-same-length-4
-same-length-4 c = search needs
+same-length-4 c = c .before .before .before .before .before .before .before .block-node-fault .kept .1 .1 .1 .0
 
 returns-3 : tie.Need-returns-3
 returns-3 c =
@@ -78,7 +78,7 @@ negation-fault-requires : tie.Need-negation-fault-requires
 negation-fault-requires c κs = counted-room _ _ _ (omega (arith, c .before .before .before .before .before .before .before .before .before .before .before .before .before .before .before .pre .0)) (c .before .before .before .before .before .before .before .before .before .before .before .before .before .before .before .pre .1 .1 .1)
 
 same-length-5 : tie.Need-same-length-5
-same-length-5 c = search needs
+same-length-5 c = c .before .before .negation-fault .kept .1 .1 .1 .1 .0
 
 returns-4 : tie.Need-returns-4
 unfolding isBlockKind
