@@ -2,7 +2,7 @@
 -- measure is i.
 -- Assumes nothing.
 use mathlib.Core.Path.{_≡_, refl, sym, _∙_, subst}
-use Prim.Native.Nat.{_+_, _-_, _≤_}
+use Prim.Native.Nat.{ℕ, _+_, _-_, _≤_, _<_}
 use native.Mathlib.Omega.{arith}
 use lib.ListN.{length, length-set}
 use Rattle.formula.specs.Words.{nodeCount, tableOf}
@@ -21,6 +21,19 @@ Inv-loop words list parents₀ levels₀ i₀ counts₀ parents levels i counts 
 
 abbrev μ-loop : tie.MeasureT-loop
 μ-loop words list parents₀ levels₀ i₀ counts₀ parents levels i counts = i
+
+-- a turn goes one node down
+down-lt : (i : ℕ) → 0 < i → i - 1 < i
+down-lt i h = omega arith
+
+down-le : (i n : ℕ) → i ≤ n → i - 1 ≤ n
+down-le i n h = omega arith
+
+below : (i n : ℕ) → 0 < i → i ≤ n → i - 1 < n
+below i n h k = omega arith
+
+down-back : (i : ℕ) → 0 < i → i ≡ i - 1 + 1
+down-back i h = omega arith
 
 cast-parents : tie.Need-cast-parents Inv-loop μ-loop
 cast-parents c =
@@ -76,20 +89,20 @@ fill-node-requires : tie.Need-fill-node-requires Inv-loop μ-loop
 fill-node-requires c κs =
     let s = c .before .before .before .before .before .before .before .before in
     let l = c .before .before .before .loop in
-    let e : l .i ≡ l .i - 1 + 1 = omega arith in
+    let h = c .before .before .loop-test .taken in
+    let e = down-back (l .i) h in
     let p = subst (λ k. ScopesFrom (tableOf (s .args .words .now) (s .args .list .now)) k (l .parents) (l .levels)) e (l .inv .3) in
     let q = subst (λ k. CountsFrom (tableOf (s .args .words .now) (s .args .list .now)) k (l .counts)) e (l .inv .4) in
-    (s .pre .0, (omega arith, ((l .inv .1, l .inv .2), (p, q))))
+    (s .pre .0, (below (l .i) _ h (l .inv .0), ((l .inv .1, l .inv .2), (p, q))))
 
 loop-less : tie.Need-loop-less Inv-loop μ-loop
-loop-less c =
-    omega arith
+loop-less c = down-lt _ (c .before .before .before .before .before .before .before .loop-test .taken)
 
 loop-again : tie.Need-loop-again Inv-loop μ-loop
 loop-again c =
     let l = c .before .before .before .before .before .before .before .before .loop in
     let f = c .before .before .before .before .fill-node in
-    (omega arith, f .kept .1 .1 .0 ∙ l .inv .1, f .kept .1 .1 .1 .0 ∙ l .inv .2, f .ensures .0, f .ensures .1)
+    (down-le _ _ (l .inv .0), f .kept .1 .1 .0 ∙ l .inv .1, f .kept .1 .1 .1 .0 ∙ l .inv .2, f .ensures .0, f .ensures .1)
 
 same-length : tie.Need-same-length Inv-loop μ-loop
 same-length c =
