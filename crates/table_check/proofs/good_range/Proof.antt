@@ -9,6 +9,7 @@ use lib.ListN.{length}
 use borrow.Author.Needs.{needs}
 use borrow.Author.Tests.{not-true, not-false}
 use Rattle.lists.specs.Choice.{clash}
+use Rattle.table_check.specs.Verdict.{limit}
 use Rattle.table_check.specs.Steps.{goodRange, Chains}
 use Rattle.table_check.proofs.Chains.{chains-none, chains-earlier}
 use Rattle.table_check.proofs.Ranges.{good-none, good-more, good-fails}
@@ -25,12 +26,15 @@ abbrev μ-loop : tie.MeasureT-loop
 loop-holds : tie.Need-loop-holds Inv-loop μ-loop
 loop-holds c = (omega arith, good-none _ _, chains-none _ _ _ _ _ (c .before .before .before .pre .1))
 
--- In a turn, the entry that is looked at is one of the list's.
+-- In a turn, the entry that is looked at is one of the list's, and the arrays have a place for it.
 in-list : (c : tie.In-loop Inv-loop μ-loop) → c .before .before .before .before .before .args .first + c .before .loop .k < length (c .before .before .before .before .before .args .list .now)
 in-list c = omega arith
 
+in-room : (c : tie.In-loop Inv-loop μ-loop) → c .before .before .before .before .before .args .before + c .before .loop .k < limit
+in-room c = omega arith
+
 enter-requires : tie.Need-enter-requires Inv-loop μ-loop
-enter-requires c κs = search needs
+enter-requires c κs = ((in-room (c .before .before), in-list (c .before .before)), c .before .before .before .loop .inv .2)
 
 same-length : tie.Need-same-length Inv-loop μ-loop
 same-length c = c .before .before .before .before .before .enter .kept .1 .0 ∙ c .before .before .before .before .before .before .before .before .before .loop .inv .2 .heads-wide ∙ sym (c .before .before .before .before .before .before .before .before .before .before .before .before .before .pre .1 .heads-wide)
