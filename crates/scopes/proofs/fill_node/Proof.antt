@@ -98,7 +98,7 @@ same-length-6 : tie.Need-same-length-6
 same-length-6 c = search needs
 
 returns-3 : tie.Need-returns-3
-returns-3 c = search needs
+returns-3 c = c .before .before .before .before .fill-block .ensures
 
 returns-4 : tie.Need-returns-4
 returns-4 c =
