@@ -17,7 +17,7 @@ use Rattle.table_check.specs.Verdict.{countAt}
 use Rattle.table_check.proofs.Faults.{count-block, count-none}
 use Rattle.qcir.specs.File.{Literal, Gate, junction-gate, xor-gate, quantified-gate, Line, lineVariables, File, numbersOf}
 use Rattle.qcir.specs.Table.{Draft, Stored, store, storeName, storeLiteral, storeInputs, blockKind, storeBlock, junctionTable, emptyValue, storeGate, storeGates, storePrefix, emptyDraft, fileDraft, tableWords, tableList}
-use Rattle.qcir.specs.Reading.{crowded}
+use Rattle.qcir.specs.Reading.{exceeds}
 use Rattle.qcir.proofs.StoredWords.{withNode, count-with, whole-with, field-kept, field-new}
 
 -- what holds of both holds of the one picked
@@ -120,13 +120,13 @@ file-counts f = whole-prefix _ (f .prefix) (whole-literal _ (f .output) (whole-g
 
 -- The counts of the nodes below n stay within `most` where no block brings them over.
 module _ (most : ℕ) (ws : List ℕ) where
-  count-next : (i : ℕ) → Is (isBlockKind (field ws i 0)) → crowded most ws i ≡ false → sum (countAt ws) i ≤ most → sum (countAt ws) i + countAt ws i ≤ most
-  unfolding crowded
+  count-next : (i : ℕ) → Is (isBlockKind (field ws i 0)) → exceeds most ws i ≡ false → sum (countAt ws) i ≤ most → sum (countAt ws) i + countAt ws i ≤ most
+  unfolding exceeds
   count-next i (is-true k) c h =
       let l : sum (countAt ws) i + field ws i 2 ≤ most = ltb-false _ _ (rw k at c) in omega (arith, count-block ws i k)
   count-next i (is-false k) c h = omega (arith, count-none ws i k)
 
-  pub counts-few : (n : ℕ) → ((i : ℕ) → i < n → crowded most ws i ≡ false) → sum (countAt ws) n ≤ most
+  pub counts-few : (n : ℕ) → ((i : ℕ) → i < n → exceeds most ws i ≡ false) → sum (countAt ws) n ≤ most
   unfolding sum
   counts-few zero h = omega arith
   counts-few (suc n) h = count-next n (look (isBlockKind (field ws n 0))) (h n (omega arith)) (counts-few n (λ i l. h i (omega arith)))

@@ -53,8 +53,8 @@ unfoldable pub unlessAny : List ℕ → (ℕ → Outcome) → Outcome → Outcom
 unlessAny faults refusal next = pick (eqb (length faults) 0) next (refusal (least faults))
 
 -- Refusal 6: "this block's count brings the sum so far over" the limit.
-unfoldable pub crowded : ℕ → List ℕ → ℕ → Bool
-crowded most ws i = isBlockKind (field ws i 0) && ltb most (sum (countAt ws) i + field ws i 2)
+unfoldable pub exceeds : ℕ → List ℕ → ℕ → Bool
+exceeds most ws i = isBlockKind (field ws i 0) && ltb most (sum (countAt ws) i + field ws i 2)
 
 -- "Then 11 ..; then 13 .., 12 .., the lowest such name being the place of each; then 2 for nodes only, 6 and 9."
 unfoldable pub outcome : Limits → File → List ℕ → List ℕ → Outcome
@@ -62,7 +62,7 @@ outcome lim f words list =
     let ws = tableWords f in
     let ls = tableList f in
     let n = nodeCount ws in
-    let i = lowest (crowded (lim .variables) ws) n in
+    let i = lowest (exceeds (lim .variables) ws) n in
     unlessAny (misplaced f) (λ p. refused 11 p words list)
     (unlessAny (notUsedOnce f) (λ x. refused 13 x words list)
     (unlessAny (unbound f) (λ x. refused 12 x words list)

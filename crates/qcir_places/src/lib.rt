@@ -6,7 +6,7 @@ ghost use lib.ListN.{length, getD};
 ghost use Rattle.qcir.specs.File.{File};
 ghost use Rattle.qcir.specs.Refusals.{misplaced};
 ghost use Rattle.qcir_tokens.specs.Tokens.{fileTokens, ascending};
-ghost use Rattle.qcir_tokens.specs.Held.{tokensFrom, Room, numberCount, Definitions, foundOf};
+ghost use Rattle.qcir_tokens.specs.Held.{tokensFrom, Room, numberCount, Definitions, foundOf, tokenLimit};
 ghost use Rattle.qcir_places.specs.Faults.{
   isEntry,
   fault,
@@ -31,7 +31,7 @@ pub fn first_misplaced(
     gates: &[u16],
 ) -> Found
     requires { ⌜ Room (now roles) (now numbers) (now positions) count ⌝ }
-    requires { ⌜ count ≤ 32768 ⌝ }
+    requires { ⌜ count ≤ tokenLimit ⌝ }
     requires { ⌜ Definitions (now gates) (tokensFrom (now roles) (now numbers) (now positions) 0 count) ⌝ }
     ensures { λ r. ⌜ ((f : File) → tokensFrom (now (roles .entry)) (now (numbers .entry)) (now (positions .entry)) 0 count ≡ fileTokens f → ascending 0 (fileTokens f) ≡ true → r ≡ foundOf (misplaced f)) ⌝ }
 {
@@ -50,7 +50,7 @@ fn first_fault(
     lists: &mut [u16],
 ) -> Found
     requires { ⌜ Room (now roles) (now numbers) (now positions) count ⌝ }
-    requires { ⌜ count ≤ 32768 ⌝ }
+    requires { ⌜ count ≤ tokenLimit ⌝ }
     requires { ⌜ (length (now gates) ≡ numberCount) × (length (now lists) ≡ numberCount) ⌝ }
     ensures { λ r. ⌜ r ≡ firstOf (faults (λ x. getD (now (gates .entry)) x 0) (λ x. getD (now (lists .entry)) x 0) 0 0 (tokensFrom (now (roles .entry)) (now (numbers .entry)) (now (positions .entry)) 0 count)) ⌝ }
 {
@@ -85,7 +85,7 @@ fn is_entry(role: u8) -> bool
 // last list that holds the number, and `line` one more than the last definition: each of them 0 if
 // there is none.
 fn is_fault(role: u8, gate: u16, list: u16, line: u16, i: usize) -> bool
-    requires { ⌜ line ≤ 32768 ⌝ }
+    requires { ⌜ line ≤ tokenLimit ⌝ }
     ensures { λ r. ⌜ r ≡ fault role gate list line i ⌝ }
 {
     if is_entry(role) {
@@ -101,7 +101,7 @@ fn is_fault(role: u8, gate: u16, list: u16, line: u16, i: usize) -> bool
 // last definition.
 fn pass(lists: &mut [u16], role: u8, x: usize, line: u16, i: usize) -> u16
     requires { ⌜ x < length (now lists) ⌝ }
-    requires { ⌜ (line ≤ 32768) × (i < 32768) ⌝ }
+    requires { ⌜ (line ≤ tokenLimit) × (i < tokenLimit) ⌝ }
     ensures { λ r. ⌜ ((y : ℕ) → getD (now (lists .exit)) y 0 ≡ listsAfter role x line (λ z. getD (now (lists .entry)) z 0) y) ⌝ }
     ensures { λ r. ⌜ r ≡ lineAfter role line i ⌝ }
 {

@@ -16,7 +16,7 @@ use Rattle.table_check.specs.Verdict.{limit}
 use Rattle.qcir.specs.File.{File}
 use Rattle.qcir.specs.Refusals.{least, misplaced, notUsedOnce, unbound}
 use Rattle.qcir.specs.Table.{tableWords, tableList}
-use Rattle.qcir.specs.Reading.{limits, Outcome, refused, read, unlessAny, crowded, outcome}
+use Rattle.qcir.specs.Reading.{limits, Outcome, refused, read, unlessAny, exceeds, outcome}
 use Rattle.qcir.proofs.Theorem.{table-whole, table-few}
 use Rattle.lists.proofs.Search.{lowest-before}
 use Rattle.qcir_tokens.specs.declared.Found.{Found}
@@ -69,7 +69,7 @@ module _ (f : File) (words list : List ℕ) where
   unfolding stored limits
   many-nodes r h a = refusal-after r 2 0 words list a ∙ sym (pick-yes _ _ _ (lt-ltb _ _ h))
 
-  pub many-variables : (r : Answer) (i : ℕ) → nodeCount (tableWords f) ≤ limit → i ≡ lowest (crowded limit (tableWords f)) (nodeCount (tableWords f)) → i < nodeCount (tableWords f) → r ≡ refusal 6 i → after r words list ≡ stored limits f words list
+  pub many-variables : (r : Answer) (i : ℕ) → nodeCount (tableWords f) ≤ limit → i ≡ lowest (exceeds limit (tableWords f)) (nodeCount (tableWords f)) → i < nodeCount (tableWords f) → r ≡ refusal 6 i → after r words list ≡ stored limits f words list
   unfolding stored limits
   many-variables r i n e h a =
       refusal-after r 6 i words list a ∙ (ap (λ (k : ℕ). refused 6 k words list) e ∙ sym (pick-no _ _ _ (le-ltb _ _ n) ∙ pick-yes _ _ _ (lt-ltb _ _ (subst (λ (k : ℕ). k < nodeCount (tableWords f)) e h))))
@@ -77,26 +77,26 @@ module _ (f : File) (words list : List ℕ) where
   -- Neither refusal 2 nor 6 applies.
   pub record Within : Type 0 where
     pub nodes-within : nodeCount (tableWords f) ≤ limit
-    pub none-crowded : nodeCount (tableWords f) ≤ lowest (crowded limit (tableWords f)) (nodeCount (tableWords f))
+    pub none-exceeding : nodeCount (tableWords f) ≤ lowest (exceeds limit (tableWords f)) (nodeCount (tableWords f))
 
   -- The list is within the limit too.
   pub few-listed : Within → length (tableList f) ≤ limit
-  few-listed w = table-few limit f (λ i h. lowest-before (crowded limit (tableWords f)) (nodeCount (tableWords f)) i (omega (arith, h, w .none-crowded)))
+  few-listed w = table-few limit f (λ i h. lowest-before (exceeds limit (tableWords f)) (nodeCount (tableWords f)) i (omega (arith, h, w .none-exceeding)))
 
   pub short-words : (r : Answer) → Within → length words < length (tableWords f) → r ≡ refusal 9 0 → after r words list ≡ stored limits f words list
   unfolding stored limits
   short-words r w h a =
       refusal-after r 9 0 words list a
-      ∙ sym (pick-no _ _ _ (le-ltb _ _ (w .nodes-within)) ∙ (pick-no _ _ _ (le-ltb _ _ (w .none-crowded)) ∙ pick-yes _ _ _ (or-left _ _ (lt-ltb _ _ h))))
+      ∙ sym (pick-no _ _ _ (le-ltb _ _ (w .nodes-within)) ∙ (pick-no _ _ _ (le-ltb _ _ (w .none-exceeding)) ∙ pick-yes _ _ _ (or-left _ _ (lt-ltb _ _ h))))
 
   pub short-list : (r : Answer) → Within → length list < length (tableList f) → r ≡ refusal 9 0 → after r words list ≡ stored limits f words list
   unfolding stored limits
   short-list r w h a =
       refusal-after r 9 0 words list a
-      ∙ sym (pick-no _ _ _ (le-ltb _ _ (w .nodes-within)) ∙ (pick-no _ _ _ (le-ltb _ _ (w .none-crowded)) ∙ pick-yes _ _ _ (or-right (ltb (length words) (length (tableWords f))) _ (lt-ltb _ _ h))))
+      ∙ sym (pick-no _ _ _ (le-ltb _ _ (w .nodes-within)) ∙ (pick-no _ _ _ (le-ltb _ _ (w .none-exceeding)) ∙ pick-yes _ _ _ (or-right (ltb (length words) (length (tableWords f))) _ (lt-ltb _ _ h))))
 
   pub stored-done : (n e : ℕ) (words′ list′ : List ℕ) → Within → length (tableWords f) ≤ length words → length (tableList f) ≤ length list → n ≡ nodeCount (tableWords f) → e ≡ length (tableList f) → words′ ≡ overwrite words 0 (tableWords f) → list′ ≡ overwrite list 0 (tableList f) → after (record { number = 0; position = 0; words = width * n; entries = e }) words′ list′ ≡ stored limits f words list
   unfolding stored limits after read
   stored-done n e words′ list′ w hw hl en ee ew el =
       (λ i. record { number = 0; position = 0; written = (ap (λ (k : ℕ). width * k) en ∙ sym (table-whole f)) i; listed = ee i; words = ew i; list = el i })
-      ∙ sym (pick-no _ _ _ (le-ltb _ _ (w .nodes-within)) ∙ (pick-no _ _ _ (le-ltb _ _ (w .none-crowded)) ∙ pick-no _ _ _ (or-neither _ _ (le-ltb _ _ hw) (le-ltb _ _ hl))))
+      ∙ sym (pick-no _ _ _ (le-ltb _ _ (w .nodes-within)) ∙ (pick-no _ _ _ (le-ltb _ _ (w .none-exceeding)) ∙ pick-no _ _ _ (or-neither _ _ (le-ltb _ _ hw) (le-ltb _ _ hl))))

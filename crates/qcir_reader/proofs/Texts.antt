@@ -23,10 +23,10 @@ use Rattle.qcir.specs.Spelling.{Spells, SpellingFault}
 use Rattle.qcir.specs.Meaning.{fileTruth}
 use Rattle.qcir.specs.Refusals.{misplaced, notUsedOnce, unbound}
 use Rattle.qcir.specs.Table.{tableWords, tableList}
-use Rattle.qcir.specs.Reading.{limits, Outcome, refused, read, unlessAny, crowded, outcome, Reading, too-long, misspelled, spelled, TableOf}
+use Rattle.qcir.specs.Reading.{limits, Outcome, refused, read, unlessAny, exceeds, outcome, Reading, too-long, misspelled, spelled, TableOf}
 use Rattle.qcir.proofs.Theorem.{table-truth, table-accepted}
 use Rattle.qcir_tokens.specs.Tokens.{fileTokens, ascending}
-use Rattle.qcir_tokens.specs.Held.{tokensFrom, Room}
+use Rattle.qcir_tokens.specs.Held.{tokensFrom, Room, tokenLimit}
 use Rattle.qcir_text.specs.Machine.{accepts, alive, start, tokensOf}
 use Rattle.qcir_reader.specs.declared.Answer.{Answer}
 use Rattle.qcir_reader.specs.Reads.{after, Reads}
@@ -51,7 +51,7 @@ pub record Done (f : File) (words list : List ℕ) (o : Outcome) : Type 0 where
   pub placed : misplaced f ≡ []
   pub used-once : notUsedOnce f ≡ []
   pub few-nodes : nodeCount (tableWords f) ≤ limit
-  pub none-crowded : (i : ℕ) → i < nodeCount (tableWords f) → crowded limit (tableWords f) i ≡ false
+  pub none-exceeding : (i : ℕ) → i < nodeCount (tableWords f) → exceeds limit (tableWords f) i ≡ false
   pub room : length (tableWords f) ≤ length words
   pub list-room : length (tableList f) ≤ length list
   pub is-read : o ≡ read (tableWords f) (tableList f) words list
@@ -83,7 +83,7 @@ outcome-done f words list h =
       placed = a .0;
       used-once = b .0;
       few-nodes = ltb-false _ _ (d .0);
-      none-crowded = λ i k. lowest-before (crowded limit (tableWords f)) n i (let l : n ≤ lowest (crowded limit (tableWords f)) n = ltb-false _ _ (e .0) in omega (arith, l, k));
+      none-exceeding = λ i k. lowest-before (exceeds limit (tableWords f)) n i (let l : n ≤ lowest (exceeds limit (tableWords f)) n = ltb-false _ _ (e .0) in omega (arith, l, k));
       room = ltb-false _ _ (or-neither-left _ _ (g .0));
       list-room = ltb-false _ _ (or-neither-right (ltb (length words) (length (tableWords f))) _ (g .0));
       is-read = a .1 ∙ (b .1 ∙ (c .1 ∙ (d .1 ∙ (e .1 ∙ g .1))));
@@ -101,7 +101,7 @@ pub done-table : (text : List ℕ) (f : File) (words list : List ℕ) → Spells
 unfolding read
 done-table text f words list s h =
     let d = outcome-done f words list h in
-    let ok = table-accepted f (numbers-ranged f (ranged s)) (d .placed) (d .used-once) (d .few-nodes) (d .none-crowded) in
+    let ok = table-accepted f (numbers-ranged f (ranged s)) (d .placed) (d .used-once) (d .few-nodes) (d .none-exceeding) in
     let t : TableOf 65535 text (tableWords f) (tableList f) =
     record {
       accepts = ok;
@@ -139,7 +139,7 @@ spelled-reads text words list words′ list′ r f h s e =
     }
 
 -- The tokens of a text that is a file.
-pub spelt : (text roles numbers positions : List ℕ) (count : ℕ) → accepts 65535 text ≡ true → tokensFrom roles numbers positions 0 count ≡ tokensOf 65535 text → Room roles numbers positions count → count ≤ 32768 → Spelt roles numbers positions count
+pub spelt : (text roles numbers positions : List ℕ) (count : ℕ) → accepts 65535 text ≡ true → tokensFrom roles numbers positions 0 count ≡ tokensOf 65535 text → Room roles numbers positions count → count ≤ tokenLimit → Spelt roles numbers positions count
 spelt text roles numbers positions count h e room few =
     let found = sound 65535 text h in
     record {

@@ -12,9 +12,9 @@ use Rattle.formula.specs.Words.{nodeCount}
 use Rattle.qcir.specs.File.{File}
 use Rattle.qcir.specs.Refusals.{notUsedOnce, unbound}
 use Rattle.qcir.specs.Table.{tableWords, tableList}
-use Rattle.qcir.specs.Reading.{Limits, Outcome, refused, read, unlessAny, crowded}
+use Rattle.qcir.specs.Reading.{Limits, Outcome, refused, read, unlessAny, exceeds}
 use Rattle.qcir_tokens.specs.Tokens.{fileTokens, ascending}
-use Rattle.qcir_tokens.specs.Held.{tokensFrom, Room}
+use Rattle.qcir_tokens.specs.Held.{tokensFrom, Room, tokenLimit}
 use Rattle.qcir_reader.specs.declared.Answer.{Answer}
 
 -- An answer that refuses: "on refusal all sizes are 0".
@@ -27,7 +27,7 @@ pub record Spelt (roles numbers positions : List ℕ) (count : ℕ) : Type 0 whe
   pub tokens : tokensFrom roles numbers positions 0 count ≡ fileTokens file
   pub ordered : ascending 0 (fileTokens file) ≡ true
   pub room : Room roles numbers positions count
-  pub few : count ≤ 32768
+  pub few : count ≤ tokenLimit
 
 -- The outcome once refusals 11 to 13 do not apply.
 unfoldable pub stored : Limits → File → List ℕ → List ℕ → Outcome
@@ -35,7 +35,7 @@ stored lim f words list =
     let ws = tableWords f in
     let ls = tableList f in
     let n = nodeCount ws in
-    let i = lowest (crowded (lim .variables) ws) n in
+    let i = lowest (exceeds (lim .variables) ws) n in
     pick (ltb (lim .nodes) n) (refused 2 0 words list)
     (pick (ltb i n) (refused 6 i words list)
     (pick (ltb (length words) (length ws) || ltb (length list) (length ls)) (refused 9 0 words list)

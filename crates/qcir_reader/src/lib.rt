@@ -186,9 +186,9 @@ fn store_table(
     if (LIMIT as u32) < nodes {
         return refused(TOO_MANY_NODES, 0);
     }
-    let crowded = sizes.crowded;
-    if crowded < nodes {
-        return refused(TOO_MANY_VARIABLES, crowded);
+    let excess = sizes.excess;
+    if excess < nodes {
+        return refused(TOO_MANY_VARIABLES, excess);
     }
     let length = (formula::WIDTH as u32) * nodes;
     let entries = sizes.entries;

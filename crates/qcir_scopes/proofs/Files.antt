@@ -16,9 +16,9 @@ use Rattle.qcir.specs.File.{Literal, Name, Gate, gateName, gateVariables, gateI
 use Rattle.qcir.specs.Refusals.{least, gateNames, outerNames, quantifiedNames, repeated, gatesListed, earlyUses, misplaced, inputNumbers, usedNumbers, notUsedOnce, openNames, unbound}
 use Rattle.qcir_tokens.specs.declared.Found.{Found}
 use Rattle.qcir_tokens.specs.Tokens.{Token, token, isUse, isDefinition, outputToken, outputRole, freeTokens, prefixTokens, inputsTokens, anyInputsTokens, gateTokens, gatesTokens, fileTokens, definitionFrom, definition}
-use Rattle.qcir_tokens.specs.Held.{tokenAt, tokensFrom, numberCount, foundOf}
+use Rattle.qcir_tokens.specs.Held.{tokenAt, tokensFrom, numberCount, foundOf, tokenLimit}
 use Rattle.qcir_scopes.specs.declared.Walk.{Walk}
-use Rattle.qcir_scopes.specs.Judged.{Judged, tokenLimit}
+use Rattle.qcir_scopes.specs.Judged.{Judged}
 use Rattle.qcir_scopes.specs.Outer.{outerFrom, Outer, AllMarked}
 use Rattle.qcir_scopes.specs.Steps.{Tokens, tokensOf, stateOf, isEnd, isAbove, moved, noted, run, first, Within, Walking}
 use Rattle.qcir_scopes.proofs.Run.{stand, run-two, run-still, step-above, notedAll, listed, keep-cong}

@@ -11,9 +11,8 @@ use borrow.Author.Tests.{eqb-true, eqb-false, eq-eqb, ne-eqb, ltb-true, ltb-fals
 use Rattle.lists.specs.Choice.{pick, pick-yes, pick-no, Is, is-true, is-false, look, clash, and-left, and-right}
 use Rattle.lists.proofs.Stores.{getD-set, set-all}
 use Rattle.qcir_tokens.specs.Tokens.{isUse, isBound, isDefinition}
-use Rattle.qcir_tokens.specs.Held.{numberCount}
+use Rattle.qcir_tokens.specs.Held.{numberCount, tokenLimit}
 use Rattle.qcir_scopes.specs.declared.Walk.{Walk}
-use Rattle.qcir_scopes.specs.Judged.{tokenLimit}
 use Rattle.qcir_scopes.specs.Steps.{Tokens, tokensOf, State, stateOf, put, isEnd, isAbove, moved, past, judged, bound, used, onward, freed, back, step, run, Within, Walking}
 use Rattle.qcir_scopes.proofs.Run.{run-still}
 

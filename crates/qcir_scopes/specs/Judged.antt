@@ -7,11 +7,7 @@ use lib.ListN.{length}
 use Rattle.qcir.specs.File.{File}
 use Rattle.qcir.specs.Refusals.{misplaced, notUsedOnce}
 use Rattle.qcir_tokens.specs.Tokens.{fileTokens}
-use Rattle.qcir_tokens.specs.Held.{tokensFrom, Definitions}
-
--- Room for so many tokens.
-abbrev pub tokenLimit : ℕ
-tokenLimit = 32768
+use Rattle.qcir_tokens.specs.Held.{tokensFrom, tokenLimit, Definitions}
 
 -- The arrays hold the tokens of a file whose names stand in their places and whose gates are used once each, and `gates` holds the
 -- first definition of each number.

@@ -9,9 +9,8 @@ use lib.Dec.{eqb}
 use lib.ListN.{length, getD}
 use Rattle.lists.specs.Choice.{pick}
 use Rattle.qcir_tokens.specs.Tokens.{isOuter, isOutput, isDefinition, isBound, isUse, isLast}
-use Rattle.qcir_tokens.specs.Held.{numberCount}
+use Rattle.qcir_tokens.specs.Held.{numberCount, tokenLimit}
 use Rattle.qcir_scopes.specs.declared.Walk.{Walk}
-use Rattle.qcir_scopes.specs.Judged.{tokenLimit}
 
 -- What is walked through: the role and the number of each token, and for each number one more than the token that defines it first.
 pub record Tokens : Type 0 where

@@ -1,4 +1,4 @@
--- Laws of drafts: what one node more changes in the number of nodes, in the sum of counts and in the lowest crowded block.
+-- Laws of drafts: what one node more changes in the number of nodes, in the sum of counts and in the lowest exceeds block.
 -- Assumes nothing.
 use mathlib.Core.Bool.{Bool, true, false, _&&_}
 use mathlib.Core.List.{List, [], _∷_, _++_}
@@ -16,7 +16,7 @@ use Rattle.lists.proofs.Search.{lowest-cong}
 use Rattle.lists.proofs.Parts.{sum-cong}
 use Rattle.formula.specs.Words.{nodeCount, field, isBlockKind}
 use Rattle.table_check.specs.Verdict.{limit, countAt}
-use Rattle.qcir.specs.Reading.{crowded}
+use Rattle.qcir.specs.Reading.{exceeds}
 use Rattle.qcir.specs.Table.{Draft, store, emptyDraft}
 
 -- Words of n whole nodes.
@@ -45,9 +45,9 @@ module _ (ws : List ℕ) (n : ℕ) (whole : length ws ≡ 4 * n) where
   sum-before : (us : List ℕ) (i : ℕ) → i ≤ n → sum (countAt (ws ++ us)) i ≡ sum (countAt ws) i
   sum-before us i h = sum-cong (countAt (ws ++ us)) (countAt ws) i (λ j l. count-before us j (omega arith))
 
-  crowded-before : (most : ℕ) (us : List ℕ) (i : ℕ) → i < n → crowded most (ws ++ us) i ≡ crowded most ws i
-  unfolding crowded
-  crowded-before most us i h =
+  exceeds-before : (most : ℕ) (us : List ℕ) (i : ℕ) → i < n → exceeds most (ws ++ us) i ≡ exceeds most ws i
+  unfolding exceeds
+  exceeds-before most us i h =
       let a : field (ws ++ us) i 0 ≡ field ws i 0 = field-before us i 0 h (omega arith) in
       let b : field (ws ++ us) i 2 ≡ field ws i 2 = field-before us i 2 h (omega arith) in
       let c : sum (countAt (ws ++ us)) i ≡ sum (countAt ws) i = sum-before us i (omega arith) in
@@ -55,10 +55,10 @@ module _ (ws : List ℕ) (n : ℕ) (whole : length ws ≡ 4 * n) where
       ∙ ap (λ (y : ℕ). isBlockKind (field ws i 0) && ltb most (sum (countAt (ws ++ us)) i + y)) b
       ∙ ap (λ (z : ℕ). isBlockKind (field ws i 0) && ltb most (z + field ws i 2)) c
 
-  pub lowest-before : (most : ℕ) (us : List ℕ) → lowest (crowded most (ws ++ us)) n ≡ lowest (crowded most ws) n
-  lowest-before most us = lowest-cong (crowded most (ws ++ us)) (crowded most ws) n (crowded-before most us)
+  pub lowest-before : (most : ℕ) (us : List ℕ) → lowest (exceeds most (ws ++ us)) n ≡ lowest (exceeds most ws) n
+  lowest-before most us = lowest-cong (exceeds most (ws ++ us)) (exceeds most ws) n (exceeds-before most us)
 
-  -- the sum with one node more, and whether that node is crowded
+  -- the sum with one node more, and whether that node is exceeds
   pub sum-after : (kind a b c : ℕ) → sum (countAt (ws ++ (kind ∷ a ∷ b ∷ c ∷ []))) (suc n) ≡ sum (countAt ws) n + pick (isBlockKind kind) b 0
   unfolding sum countAt
   sum-after kind a b c =
@@ -67,9 +67,9 @@ module _ (ws : List ℕ) (n : ℕ) (whole : length ws ≡ 4 * n) where
       ∙ ap (λ (x : ℕ). sum (countAt ws) n + pick (isBlockKind x) (field (ws ++ us) n 2) 0) (field-after us 0)
       ∙ ap (λ (y : ℕ). sum (countAt ws) n + pick (isBlockKind kind) y 0) (field-after us 2)
 
-  pub crowded-after : (most kind a b c : ℕ) → crowded most (ws ++ (kind ∷ a ∷ b ∷ c ∷ [])) n ≡ (isBlockKind kind && ltb most (sum (countAt ws) n + b))
-  unfolding crowded
-  crowded-after most kind a b c =
+  pub exceeds-after : (most kind a b c : ℕ) → exceeds most (ws ++ (kind ∷ a ∷ b ∷ c ∷ [])) n ≡ (isBlockKind kind && ltb most (sum (countAt ws) n + b))
+  unfolding exceeds
+  exceeds-after most kind a b c =
       let us : List ℕ = kind ∷ a ∷ b ∷ c ∷ [] in
       ap (λ (x : ℕ). isBlockKind x && ltb most (sum (countAt (ws ++ us)) n + field (ws ++ us) n 2)) (field-after us 0)
       ∙ ap (λ (y : ℕ). isBlockKind kind && ltb most (sum (countAt (ws ++ us)) n + y)) (field-after us 2)
@@ -86,7 +86,7 @@ pub record Measured (gate : ℕ → ℕ) (d : Draft) (n e k : ℕ) : Type 0 wher
   pub listed : length (d .entries) ≡ e
   pub counted : sum (countAt (d .words)) n ≡ e
   pub low : limit < e → k < n
-  pub lowest-is : lowest (crowded limit (d .words)) n ≡ pick (ltb limit e) k n
+  pub lowest-is : lowest (exceeds limit (d .words)) n ≡ pick (ltb limit e) k n
 
 pub measured-empty : Measured (λ x. 0) emptyDraft 0 0 0
 unfolding emptyDraft sum lowest pick
@@ -94,7 +94,7 @@ measured-empty = record { gate-is = refl; whole = refl; listed = refl; counted =
 
 -- The lowest so far, by whether the limit is passed.
 module _ (p : ℕ → Bool) (n e k m : ℕ) (low : limit < e → k < n) (is : lowest p n ≡ pick (ltb limit e) k n) where
-  -- one node more that is not crowded
+  -- one node more that is not exceeds
   lowest-plain : p n ≡ false → lowest p (suc n) ≡ pick (ltb limit e) k (suc n)
   lowest-plain h = lowest-suc p n ∙ go (look (ltb limit e))
     where
@@ -156,8 +156,8 @@ module _ (gate : ℕ → ℕ) (d : Draft) (n e k : ℕ) (m : Measured gate d n e
         counted = sum-after (d .words) n (m .whole) kind a b c ∙ omega (arith, m .counted);
         low = λ l. let x = m .low l in omega arith;
         lowest-is =
-            lowest-plain (crowded limit (d .words ++ us)) n e k 0 (m .low) (lowest-before (d .words) n (m .whole) limit us ∙ m .lowest-is)
-            (crowded-after (d .words) n (m .whole) limit kind a b c ∙ and-off-left (isBlockKind kind) _ h);
+            lowest-plain (exceeds limit (d .words ++ us)) n e k 0 (m .low) (lowest-before (d .words) n (m .whole) limit us ∙ m .lowest-is)
+            (exceeds-after (d .words) n (m .whole) limit kind a b c ∙ and-off-left (isBlockKind kind) _ h);
       }
 
   pub measured-block : (kind a c : ℕ) (xs : List ℕ) → isBlockKind kind ≡ true → Measured gate (store (record { words = d .words; entries = d .entries ++ xs; gate = d .gate }) kind a (length xs) c .draft) (suc n) (e + length xs) (pick (ltb limit e) k n)
@@ -166,16 +166,16 @@ module _ (gate : ℕ → ℕ) (d : Draft) (n e k : ℕ) (m : Measured gate d n e
       let b : ℕ = length xs in
       let us : List ℕ = kind ∷ a ∷ b ∷ c ∷ [] in
       let z = pick-yes (isBlockKind kind) b 0 h in
-      let is : lowest (crowded limit (d .words ++ us)) n ≡ pick (ltb limit e) k n = lowest-before (d .words) n (m .whole) limit us ∙ m .lowest-is in
+      let is : lowest (exceeds limit (d .words ++ us)) n ≡ pick (ltb limit e) k n = lowest-before (d .words) n (m .whole) limit us ∙ m .lowest-is in
       record {
         gate-is = m .gate-is;
         whole = four kind a b c;
         listed = length-append (d .entries) xs ∙ ap (λ (x : ℕ). x + length xs) (m .listed);
         counted = sum-after (d .words) n (m .whole) kind a b c ∙ omega (arith, m .counted);
-        low = low-block (crowded limit (d .words ++ us)) n e k b (m .low) is;
+        low = low-block (exceeds limit (d .words ++ us)) n e k b (m .low) is;
         lowest-is =
-            lowest-block (crowded limit (d .words ++ us)) n e k b (m .low) is
-            (crowded-after (d .words) n (m .whole) limit kind a b c
+            lowest-block (exceeds limit (d .words ++ us)) n e k b (m .low) is
+            (exceeds-after (d .words) n (m .whole) limit kind a b c
             ∙ ap (λ (t : Bool). t && ltb limit (sum (countAt (d .words)) n + b)) h
             ∙ ap (λ (x : ℕ). ltb limit (x + b)) (m .counted));
       }

@@ -17,7 +17,7 @@ use Rattle.formula.specs.Words.{nodeCount, isBlockKind}
 use Rattle.table_check.specs.Verdict.{limit}
 use Rattle.qcir.specs.File.{Name, Literal, Junction, Gate, junction-gate, xor-gate, quantified-gate, gateName, Line, lineVariables, File, numbersOf}
 use Rattle.qcir.specs.Table.{Draft, Stored, store, storeName, storeLiteral, storeInputs, blockKind, storeBlock, junctionTable, emptyValue, storeGate, storeGates, storePrefix, emptyDraft, fileDraft, tableWords, tableList}
-use Rattle.qcir.specs.Reading.{crowded}
+use Rattle.qcir.specs.Reading.{exceeds}
 use Rattle.qcir.proofs.StoredCounts.{block-kind}
 use Rattle.qcir_tokens.specs.Tokens.{Token, token, lineRole, laterRole, outputRole, junctionRole, xorRole, quantifierRole, boundRole, inputRole, emptyRole, isOuter, isFree, isDefinition, isBound, isInput, isMinus, listTokens, freeTokens, prefixTokens, outputToken, inputsTokens, anyInputsTokens, gateTokens, gatesTokens, fileTokens, definitionFrom}
 use Rattle.qcir_tokens.specs.Held.{Definitions}
@@ -31,7 +31,7 @@ use Rattle.qcir_sizes.proofs.Drafts.{node-count, Measured, measured-emp
 
 -- a pass has counted a draft
 abbrev Counts : (ℕ → ℕ) → Draft → Pass → Type 0
-Counts gate d s = Measured gate d (s .nodes) (s .entries) (s .crowded)
+Counts gate d s = Measured gate d (s .nodes) (s .entries) (s .excess)
 
 variable-plain : isBlockKind 2 ≡ false
 unfolding isBlockKind
@@ -152,13 +152,13 @@ module _ (gate i : ℕ) (s : Pass) where
 -- Variables more in a list.
 unfoldable variablesAdded : ℕ → Pass → Pass
 variablesAdded n s =
-    record { nodes = s .nodes; entries = s .entries; crowded = s .crowded; line = s .line; bound = s .bound + n; first = s .first }
+    record { nodes = s .nodes; entries = s .entries; excess = s .excess; line = s .line; bound = s .bound + n; first = s .first }
 
 variables-more : (n : ℕ) (s : Pass) → variablesAdded (suc n) (variableAdded s) ≡ variablesAdded (suc (suc n)) s
 unfolding variableAdded variablesAdded
 variables-more n s =
     let e : s .bound + 1 + suc n ≡ s .bound + suc (suc n) = omega arith in
-    λ i. record { nodes = s .nodes; entries = s .entries; crowded = s .crowded; line = s .line; bound = e i; first = s .first }
+    λ i. record { nodes = s .nodes; entries = s .entries; excess = s .excess; line = s .line; bound = e i; first = s .first }
 
 gates-append : (gates : List ℕ) (i : ℕ) (ts us : List Token) (s : Pass) → gatesPass gates i (ts ++ us) s ≡ gatesPass gates (i + length ts) us (gatesPass gates i ts s)
 unfolding gatesPass
@@ -195,7 +195,7 @@ module _ (gates : List ℕ) (gate : ℕ → ℕ) where
       let q = ap (λ (t : Bool). pick {A = ℕ} t 1 0) (input-minus (l .minus) b) in
       let r = ap (λ (t : Bool). pick {A = ℕ} (not t) 1 0) f ∙ pick-no _ _ _ refl in
       let e : s .nodes + pick (eqb (gate x) 0) 1 0 + pick (l .minus) 1 0 ≡ s .nodes + pick (not (isEarlier (getD gates x 0) (s .line))) 1 0 + pick (isMinus (inputRole (l .minus) b)) 1 0 + pick (not (s .first)) 1 0 = omega arith in
-      subst (λ (j : ℕ). Measured gate (storeLiteral d l .draft) j (s .entries) (s .crowded)) e (measured-literal gate d (s .nodes) (s .entries) (s .crowded) m l)
+      subst (λ (j : ℕ). Measured gate (storeLiteral d l .draft) j (s .entries) (s .excess)) e (measured-literal gate d (s .nodes) (s .entries) (s .excess) m l)
 
   operand-later : (d : Draft) (s : Pass) → Counts gate d s → s .first ≡ false → Known (s .line) → (l : Literal) (b : Bool) (t u v : ℕ) → Counts gate (store (storeLiteral d l .draft) 4 t u v .draft) (operandAdded (inputRole (l .minus) b) (getD gates (l .name .number) 0) s)
   unfolding operandAdded
@@ -205,9 +205,9 @@ module _ (gates : List ℕ) (gate : ℕ → ℕ) where
       let q = ap (λ (t : Bool). pick {A = ℕ} t 1 0) (input-minus (l .minus) b) in
       let r = ap (λ (t : Bool). pick {A = ℕ} (not t) 1 0) f ∙ pick-yes _ _ _ refl in
       let e : s .nodes + pick (eqb (gate x) 0) 1 0 + pick (l .minus) 1 0 + 1 ≡ s .nodes + pick (not (isEarlier (getD gates x 0) (s .line))) 1 0 + pick (isMinus (inputRole (l .minus) b)) 1 0 + pick (not (s .first)) 1 0 = omega arith in
-      subst (λ (j : ℕ). Measured gate (store (storeLiteral d l .draft) 4 t u v .draft) j (s .entries) (s .crowded)) e
-      (counts-node (storeLiteral d l .draft) (s .nodes + pick (eqb (gate x) 0) 1 0 + pick (l .minus) 1 0) (s .entries) (s .crowded)
-      (measured-literal gate d (s .nodes) (s .entries) (s .crowded) m l) 4 t u v operator-plain)
+      subst (λ (j : ℕ). Measured gate (store (storeLiteral d l .draft) 4 t u v .draft) j (s .entries) (s .excess)) e
+      (counts-node (storeLiteral d l .draft) (s .nodes + pick (eqb (gate x) 0) 1 0 + pick (l .minus) 1 0) (s .entries) (s .excess)
+      (measured-literal gate d (s .nodes) (s .entries) (s .excess) m l) 4 t u v operator-plain)
 
   -- inputs after the first, each with its operator
   later-inputs : (t : ℕ) (l : Literal) (ls : List Literal) (i : ℕ) (s : Pass) (st : Stored) → Counts gate (st .draft) s → s .first ≡ false → s .bound ≡ 0 → Known (s .line) → Counts gate (storeInputs t st (l ∷ ls) .draft) (gatesPass gates i (inputsTokens l ls) s)
@@ -238,7 +238,7 @@ module _ (gates : List ℕ) (gate : ℕ → ℕ) where
   unfolding storeBlock blockAdded
   counts-block q xs st s m e =
       rw (add-one (s .nodes), e)
-      (measured-block gate (st .draft) (s .nodes) (s .entries) (s .crowded) m (blockKind q) (length (st .draft .entries)) (st .node) xs (block-kind q))
+      (measured-block gate (st .draft) (s .nodes) (s .entries) (s .excess) m (blockKind q) (length (st .draft .entries)) (st .node) xs (block-kind q))
 
   -- the input of a quantified gate, and its block
   quantified-input : (q : Quantifier) (xs : List ℕ) (l : Literal) (i : ℕ) (s : Pass) (d : Draft) → Counts gate d s → s .first ≡ true → s .bound ≡ length xs → 0 < length xs → Known (s .line) → Counts gate (storeBlock q xs (storeLiteral d l) .draft) (gatesPass gates i (inputsTokens l []) s)
@@ -259,7 +259,7 @@ module _ (gates : List ℕ) (gate : ℕ → ℕ) where
   unfolding gatesPass token lineBegun constantAdded
   empty-counts j x i s d m =
       subst (λ (p : Pass). Counts gate (store d 1 (emptyValue j) 0 0 .draft) p) (sym (step-empty (getD gates (x .number) 0) (suc i) (lineBegun i s)))
-      (counts-node d (s .nodes) (s .entries) (s .crowded) m 1 (emptyValue j) 0 0 constant-plain)
+      (counts-node d (s .nodes) (s .entries) (s .excess) m 1 (emptyValue j) 0 0 constant-plain)
 
   quantified-counts : (q : Quantifier) (y : Name) (ys : List Name) (l : Literal) (i : ℕ) (s : Pass) (d : Draft) → Counts gate d s → Known i → Counts gate (storeBlock q (numbersOf (y ∷ ys)) (storeLiteral d l) .draft) (gatesPass gates (suc i) (listTokens boundRole boundRole y ys ++ inputsTokens l []) (lineBegun i s))
   unfolding lineBegun variablesAdded numbersOf
@@ -403,13 +403,13 @@ variables-then : (n : ℕ) (s : Pass) → variableAdded (variablesAdded n s) ≡
 unfolding variableAdded variablesAdded
 variables-then n s =
     let e : s .bound + n + 1 ≡ s .bound + suc n = omega arith in
-    λ i. record { nodes = s .nodes; entries = s .entries; crowded = s .crowded; line = s .line; bound = e i; first = s .first }
+    λ i. record { nodes = s .nodes; entries = s .entries; excess = s .excess; line = s .line; bound = e i; first = s .first }
 
 variables-none : (s : Pass) → s ≡ variablesAdded 0 s
 unfolding variablesAdded
 variables-none s =
     let e : s .bound ≡ s .bound + 0 = omega arith in
-    λ i. record { nodes = s .nodes; entries = s .entries; crowded = s .crowded; line = s .line; bound = e i; first = s .first }
+    λ i. record { nodes = s .nodes; entries = s .entries; excess = s .excess; line = s .line; bound = e i; first = s .first }
 
 later-pass : (x : Name) (xs : List Name) (s : Pass) → outerTokens (listTokens laterRole laterRole x xs) s ≡ variablesAdded (suc (length xs)) s
 unfolding outerTokens listTokens token
@@ -453,7 +453,7 @@ output-counts gates d s l m =
     let q = ap (λ (t : Bool). pick {A = ℕ} t 1 0) (output-minus (l .minus)) in
     let e : s .nodes + pick (eqb (d .gate x) 0) 1 0 + pick (l .minus) 1 0 ≡ s .nodes + pick (eqb (getD gates x 0) 0) 1 0 + pick (isMinus (outputRole (l .minus))) 1 0 = omega arith in
     record {
-      counts = subst (λ (j : ℕ). Measured (d .gate) (storeLiteral d l .draft) j (s .entries) (s .crowded)) e (measured-literal (d .gate) d (s .nodes) (s .entries) (s .crowded) (m .counts) l);
+      counts = subst (λ (j : ℕ). Measured (d .gate) (storeLiteral d l .draft) j (s .entries) (s .excess)) e (measured-literal (d .gate) d (s .nodes) (s .entries) (s .excess) (m .counts) l);
       no-list = refl;
     }
 
@@ -492,7 +492,7 @@ whole-counts f gates h =
     (b .counts)
 
 -- The sizes are those of the file's table.
-pub sizes-of-file : (f : File) (gates : List ℕ) → Definitions gates (fileTokens f) → (r : TableSizes) → r ≡ sizesOf (filePass gates 0 (fileTokens f)) → (r .nodes ≡ nodeCount (tableWords f)) × (r .entries ≡ length (tableList f)) × (r .crowded ≡ lowest (crowded limit (tableWords f)) (nodeCount (tableWords f)))
+pub sizes-of-file : (f : File) (gates : List ℕ) → Definitions gates (fileTokens f) → (r : TableSizes) → r ≡ sizesOf (filePass gates 0 (fileTokens f)) → (r .nodes ≡ nodeCount (tableWords f)) × (r .entries ≡ length (tableList f)) × (r .excess ≡ lowest (exceeds limit (tableWords f)) (nodeCount (tableWords f)))
 unfolding sizesOf tableWords tableList
 sizes-of-file f gates h r e =
     let m = whole-counts f gates h in
@@ -500,5 +500,5 @@ sizes-of-file f gates h r e =
     let n : nodeCount (fileDraft f .words) ≡ s .nodes = node-count (fileDraft f .words) (s .nodes) (m .whole) in (
       ap (λ (t : TableSizes). t .nodes) e ∙ sym n,
       ap (λ (t : TableSizes). t .entries) e ∙ sym (m .listed),
-      ap (λ (t : TableSizes). t .crowded) e ∙ sym (m .lowest-is) ∙ ap (lowest (crowded limit (fileDraft f .words))) (sym n),
+      ap (λ (t : TableSizes). t .excess) e ∙ sym (m .lowest-is) ∙ ap (lowest (exceeds limit (fileDraft f .words))) (sym n),
     )

@@ -125,24 +125,24 @@ module _ (s : Pass) (m : Room 1000000 s) where
       record { nodes-low = omega arith; entries-low = omega arith }
 
 -- A pass from its parts.
-pub operand-is : (role gate : ℕ) (s : Pass) (v n o : ℕ) → v ≡ pick (not (isEarlier gate (s .line))) 1 0 → n ≡ pick (isMinus role) 1 0 → o ≡ pick (not (s .first)) 1 0 → record { nodes = s .nodes + v + n + o; entries = s .entries; crowded = s .crowded; line = s .line; bound = s .bound; first = false } ≡ operandAdded role gate s
+pub operand-is : (role gate : ℕ) (s : Pass) (v n o : ℕ) → v ≡ pick (not (isEarlier gate (s .line))) 1 0 → n ≡ pick (isMinus role) 1 0 → o ≡ pick (not (s .first)) 1 0 → record { nodes = s .nodes + v + n + o; entries = s .entries; excess = s .excess; line = s .line; bound = s .bound; first = false } ≡ operandAdded role gate s
 unfolding operandAdded
 operand-is role gate s v n o p q r =
-    λ i. record { nodes = s .nodes + p i + q i + r i; entries = s .entries; crowded = s .crowded; line = s .line; bound = s .bound; first = false }
+    λ i. record { nodes = s .nodes + p i + q i + r i; entries = s .entries; excess = s .excess; line = s .line; bound = s .bound; first = false }
 
-pub output-is : (role gate : ℕ) (s : Pass) (v n : ℕ) → v ≡ pick (eqb gate 0) 1 0 → n ≡ pick (isMinus role) 1 0 → record { nodes = s .nodes + v + n; entries = s .entries; crowded = s .crowded; line = s .line; bound = 0; first = s .first } ≡ outputAdded role gate s
+pub output-is : (role gate : ℕ) (s : Pass) (v n : ℕ) → v ≡ pick (eqb gate 0) 1 0 → n ≡ pick (isMinus role) 1 0 → record { nodes = s .nodes + v + n; entries = s .entries; excess = s .excess; line = s .line; bound = 0; first = s .first } ≡ outputAdded role gate s
 unfolding outputAdded
 output-is role gate s v n p q =
-    λ i. record { nodes = s .nodes + p i + q i; entries = s .entries; crowded = s .crowded; line = s .line; bound = 0; first = s .first }
+    λ i. record { nodes = s .nodes + p i + q i; entries = s .entries; excess = s .excess; line = s .line; bound = 0; first = s .first }
 
-pub block-is : (s : Pass) (k : ℕ) → k ≡ pick (ltb limit (s .entries)) (s .crowded) (s .nodes) → record { nodes = s .nodes + 1; entries = s .entries + s .bound; crowded = k; line = s .line; bound = 0; first = s .first } ≡ blockAdded s
+pub block-is : (s : Pass) (k : ℕ) → k ≡ pick (ltb limit (s .entries)) (s .excess) (s .nodes) → record { nodes = s .nodes + 1; entries = s .entries + s .bound; excess = k; line = s .line; bound = 0; first = s .first } ≡ blockAdded s
 unfolding blockAdded
 block-is s k p =
-    λ i. record { nodes = s .nodes + 1; entries = s .entries + s .bound; crowded = p i; line = s .line; bound = 0; first = s .first }
+    λ i. record { nodes = s .nodes + 1; entries = s .entries + s .bound; excess = p i; line = s .line; bound = 0; first = s .first }
 
-pub sizes-are : (s : Pass) (k : ℕ) → k ≡ pick (ltb limit (s .entries)) (s .crowded) (s .nodes) → record { nodes = s .nodes; entries = s .entries; crowded = k } ≡ sizesOf s
+pub sizes-are : (s : Pass) (k : ℕ) → k ≡ pick (ltb limit (s .entries)) (s .excess) (s .nodes) → record { nodes = s .nodes; entries = s .entries; excess = k } ≡ sizesOf s
 unfolding sizesOf
-sizes-are s k p = λ i. record { nodes = s .nodes; entries = s .entries; crowded = p i }
+sizes-are s k p = λ i. record { nodes = s .nodes; entries = s .entries; excess = p i }
 
 -- A pass over `count` tokens.
 module _ (roles numbers : List ℕ) (count : ℕ) (gates : List ℕ) where

@@ -27,7 +27,7 @@ isEarlier gate line = leb 1 gate && leb gate line
 
 -- Nothing is counted yet.
 abbrev pub start : Pass
-start = record { nodes = 0; entries = 0; crowded = 0; line = 0; bound = 0; first = true }
+start = record { nodes = 0; entries = 0; excess = 0; line = 0; bound = 0; first = true }
 
 -- A block over the variables counted. Until the entries pass the limit, each block is the first at which they may do so.
 unfoldable pub blockAdded : Pass → Pass
@@ -35,7 +35,7 @@ blockAdded s =
     record {
       nodes = s .nodes + 1;
       entries = s .entries + s .bound;
-      crowded = pick (ltb limit (s .entries)) (s .crowded) (s .nodes);
+      excess = pick (ltb limit (s .entries)) (s .excess) (s .nodes);
       line = s .line;
       bound = 0;
       first = s .first;
@@ -47,7 +47,7 @@ operandAdded role gate s =
     record {
       nodes = s .nodes + pick (not (isEarlier gate (s .line))) 1 0 + pick (isMinus role) 1 0 + pick (not (s .first)) 1 0;
       entries = s .entries;
-      crowded = s .crowded;
+      excess = s .excess;
       line = s .line;
       bound = s .bound;
       first = false;
@@ -59,17 +59,17 @@ inputAdded role gate s = pick (eqb (s .bound) 0) (operandAdded role gate s) (blo
 
 -- A gate line begins at token i.
 unfoldable pub lineBegun : ℕ → Pass → Pass
-lineBegun i s = record { nodes = s .nodes; entries = s .entries; crowded = s .crowded; line = i; bound = 0; first = true }
+lineBegun i s = record { nodes = s .nodes; entries = s .entries; excess = s .excess; line = i; bound = 0; first = true }
 
 -- One variable more in a list.
 unfoldable pub variableAdded : Pass → Pass
 variableAdded s =
-    record { nodes = s .nodes; entries = s .entries; crowded = s .crowded; line = s .line; bound = s .bound + 1; first = s .first }
+    record { nodes = s .nodes; entries = s .entries; excess = s .excess; line = s .line; bound = s .bound + 1; first = s .first }
 
 -- A constant.
 unfoldable pub constantAdded : Pass → Pass
 constantAdded s =
-    record { nodes = s .nodes + 1; entries = s .entries; crowded = s .crowded; line = s .line; bound = s .bound; first = s .first }
+    record { nodes = s .nodes + 1; entries = s .entries; excess = s .excess; line = s .line; bound = s .bound; first = s .first }
 
 -- Token i, of a gate line, whose number has its first definition at token gate - 1.
 unfoldable pub gateStep : ℕ → ℕ → ℕ → Pass → Pass
@@ -90,7 +90,7 @@ outputAdded role gate s =
     record {
       nodes = s .nodes + pick (eqb gate 0) 1 0 + pick (isMinus role) 1 0;
       entries = s .entries;
-      crowded = s .crowded;
+      excess = s .excess;
       line = s .line;
       bound = 0;
       first = s .first;
@@ -114,4 +114,4 @@ filePass gates i (t ∷ ts) =
     (outputAdded (t .role) (getD gates (t .name .number) 0) (gatesPass gates (suc i) ts start))
 
 unfoldable pub sizesOf : Pass → TableSizes
-sizesOf s = record { nodes = s .nodes; entries = s .entries; crowded = pick (ltb limit (s .entries)) (s .crowded) (s .nodes) }
+sizesOf s = record { nodes = s .nodes; entries = s .entries; excess = pick (ltb limit (s .entries)) (s .excess) (s .nodes) }

@@ -11,9 +11,9 @@ ghost use Rattle.formula.specs.Words.{nodeCount};
 ghost use Rattle.table_check.specs.Verdict.{limit};
 ghost use Rattle.qcir.specs.File.{File};
 ghost use Rattle.qcir.specs.Table.{tableWords, tableList};
-ghost use Rattle.qcir.specs.Reading.{crowded};
+ghost use Rattle.qcir.specs.Reading.{exceeds};
 ghost use Rattle.qcir_tokens.specs.Tokens.{isOuter, fileTokens};
-ghost use Rattle.qcir_tokens.specs.Held.{tokensFrom, numberCount, Definitions};
+ghost use Rattle.qcir_tokens.specs.Held.{tokensFrom, numberCount, Definitions, tokenLimit};
 ghost use Rattle.qcir_sizes.specs.Pass.{
   Room,
   Small,
@@ -36,7 +36,7 @@ ghost use Rattle.qcir_sizes.specs.Pass.{
 pub struct TableSizes {
     pub nodes: u32,
     pub entries: u32,
-    pub crowded: u32,
+    pub excess: u32,
 }
 
 // What a pass over the tokens has counted: nodes, list entries and, once these pass the limit, the first block at which
@@ -45,7 +45,7 @@ pub struct TableSizes {
 pub struct Pass {
     pub nodes: u32,
     pub entries: u32,
-    pub crowded: u32,
+    pub excess: u32,
     pub line: u32,
     pub bound: u32,
     pub first: bool,
@@ -56,9 +56,9 @@ pub struct Pass {
 // The contract rules out a count by which an input can name the gate of its own line, and one that stores the first
 // prefix line lowest.
 pub fn table_sizes(roles: &[u8], numbers: &[u16], count: usize, gates: &[u16]) -> TableSizes
-    requires { ⌜ (count ≤ length (now roles)) × (count ≤ length (now numbers)) × (count ≤ 32768) ⌝ }
+    requires { ⌜ (count ≤ length (now roles)) × (count ≤ length (now numbers)) × (count ≤ tokenLimit) ⌝ }
     requires { ⌜ ((ps : List ℕ) → Definitions (now gates) (tokensFrom (now roles) (now numbers) ps 0 count)) ⌝ }
-    ensures { λ r. ⌜ ((f : File) (ps : List ℕ) → tokensFrom (now (roles .entry)) (now (numbers .entry)) ps 0 count ≡ fileTokens f → (r .nodes ≡ nodeCount (tableWords f)) × (r .entries ≡ length (tableList f)) × (r .crowded ≡ lowest (crowded limit (tableWords f)) (nodeCount (tableWords f)))) ⌝ }
+    ensures { λ r. ⌜ ((f : File) (ps : List ℕ) → tokensFrom (now (roles .entry)) (now (numbers .entry)) ps 0 count ≡ fileTokens f → (r .nodes ≡ nodeCount (tableWords f)) × (r .entries ≡ length (tableList f)) × (r .excess ≡ lowest (exceeds limit (tableWords f)) (nodeCount (tableWords f)))) ⌝ }
 {
     let end = outer_end(roles, count);
     let inner = inner_pass(roles, numbers, count, gates, end);
@@ -83,7 +83,7 @@ fn outer_end(roles: &[u8], count: usize) -> usize
 
 // The gates and then the output, which is token `end`.
 fn inner_pass(roles: &[u8], numbers: &[u16], count: usize, gates: &[u16], end: usize) -> Pass
-    requires { ⌜ (count ≤ length (now roles)) × (count ≤ length (now numbers)) × (count ≤ 32768) ⌝ }
+    requires { ⌜ (count ≤ length (now roles)) × (count ≤ length (now numbers)) × (count ≤ tokenLimit) ⌝ }
     requires { ⌜ (length (now gates) ≡ numberCount) × (end ≤ count) ⌝ }
     requires { ⌜ (end < count → isOuter (getD (now roles) end 0) ≡ false) ⌝ }
     ensures { λ r. ⌜ Small 32769 r ⌝ }
@@ -113,7 +113,7 @@ fn start() -> Pass
     Pass {
         nodes: 0,
         entries: 0,
-        crowded: 0,
+        excess: 0,
         line: 0,
         bound: 0,
         first: true,
@@ -122,7 +122,7 @@ fn start() -> Pass
 
 // The gate lines, whose tokens are those from `from` on.
 fn gates_pass(roles: &[u8], numbers: &[u16], count: usize, gates: &[u16], from: usize) -> Pass
-    requires { ⌜ (count ≤ length (now roles)) × (count ≤ length (now numbers)) × (count ≤ 32768) ⌝ }
+    requires { ⌜ (count ≤ length (now roles)) × (count ≤ length (now numbers)) × (count ≤ tokenLimit) ⌝ }
     requires { ⌜ (length (now gates) ≡ numberCount) × (from ≤ count) ⌝ }
     ensures { λ r. ⌜ Small count r ⌝ }
     ensures { λ r. ⌜ ((ps : List ℕ) → r ≡ gatesPass (now (gates .entry)) from (tokensFrom (now (roles .entry)) (now (numbers .entry)) ps from (count - from)) start) ⌝ }
@@ -146,7 +146,7 @@ fn add_token(role: u8, gate: u16, i: u32, s: Pass) -> Pass
         return Pass {
             nodes: s.nodes,
             entries: s.entries,
-            crowded: s.crowded,
+            excess: s.excess,
             line: i,
             bound: 0,
             first: true,
@@ -156,7 +156,7 @@ fn add_token(role: u8, gate: u16, i: u32, s: Pass) -> Pass
         return Pass {
             nodes: s.nodes,
             entries: s.entries,
-            crowded: s.crowded,
+            excess: s.excess,
             line: s.line,
             bound: s.bound + 1,
             first: s.first,
@@ -168,7 +168,7 @@ fn add_token(role: u8, gate: u16, i: u32, s: Pass) -> Pass
     Pass {
         nodes: s.nodes + 1,
         entries: s.entries,
-        crowded: s.crowded,
+        excess: s.excess,
         line: s.line,
         bound: s.bound,
         first: s.first,
@@ -199,7 +199,7 @@ fn add_operand(role: u8, gate: u16, s: Pass) -> Pass
     Pass {
         nodes: s.nodes + variable + negation + operator,
         entries: s.entries,
-        crowded: s.crowded,
+        excess: s.excess,
         line: s.line,
         bound: s.bound,
         first: false,
@@ -227,11 +227,11 @@ fn add_block(s: Pass) -> Pass
     requires { ⌜ Room 2000000 s ⌝ }
     ensures { λ r. ⌜ r ≡ blockAdded s ⌝ }
 {
-    let crowded = crowded_or(s.entries, s.crowded, s.nodes);
+    let excess = excess_or(s.entries, s.excess, s.nodes);
     Pass {
         nodes: s.nodes + 1,
         entries: s.entries + s.bound,
-        crowded,
+        excess,
         line: s.line,
         bound: 0,
         first: s.first,
@@ -239,11 +239,11 @@ fn add_block(s: Pass) -> Pass
 }
 
 // The block at which the entries pass the limit; `other` where they do not.
-fn crowded_or(entries: u32, crowded: u32, other: u32) -> u32
-    ensures { λ r. ⌜ r ≡ pick (ltb limit entries) crowded other ⌝ }
+fn excess_or(entries: u32, excess: u32, other: u32) -> u32
+    ensures { λ r. ⌜ r ≡ pick (ltb limit entries) excess other ⌝ }
 {
     if table_check::LIMIT < entries as usize {
-        return crowded;
+        return excess;
     }
     other
 }
@@ -258,7 +258,7 @@ fn add_output(role: u8, gate: u16, s: Pass) -> Pass
     Pass {
         nodes: s.nodes + variable + negation,
         entries: s.entries,
-        crowded: s.crowded,
+        excess: s.excess,
         line: s.line,
         bound: 0,
         first: s.first,
@@ -267,7 +267,7 @@ fn add_output(role: u8, gate: u16, s: Pass) -> Pass
 
 // The prefix lines, the last first, so the tokens before token `end` from the last to the first.
 fn outer_pass(roles: &[u8], end: usize, inner: Pass) -> Pass
-    requires { ⌜ (end ≤ length (now roles)) × (end ≤ 32768) × Small 32769 inner ⌝ }
+    requires { ⌜ (end ≤ length (now roles)) × (end ≤ tokenLimit) × Small 32769 inner ⌝ }
     ensures { λ r. ⌜ r ≡ outerPass (now (roles .entry)) end inner ⌝ }
 {
     let mut s = inner;
@@ -290,7 +290,7 @@ fn add_outer(role: u8, s: Pass) -> Pass
     let t = Pass {
         nodes: s.nodes,
         entries: s.entries,
-        crowded: s.crowded,
+        excess: s.excess,
         line: s.line,
         bound: s.bound + 1,
         first: s.first,
@@ -304,10 +304,10 @@ fn add_outer(role: u8, s: Pass) -> Pass
 fn sizes_of(s: Pass) -> TableSizes
     ensures { λ r. ⌜ r ≡ sizesOf s ⌝ }
 {
-    let crowded = crowded_or(s.entries, s.crowded, s.nodes);
+    let excess = excess_or(s.entries, s.excess, s.nodes);
     TableSizes {
         nodes: s.nodes,
         entries: s.entries,
-        crowded,
+        excess,
     }
 }

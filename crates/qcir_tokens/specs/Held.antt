@@ -21,6 +21,10 @@ unfoldable pub tokensFrom : List ℕ → List ℕ → List ℕ → ℕ → ℕ �
 tokensFrom roles numbers positions i zero = []
 tokensFrom roles numbers positions i (suc count) = tokenAt roles numbers positions i ∷ tokensFrom roles numbers positions (suc i) count
 
+-- How many tokens a text can have: at most half as many as it has bytes.
+abbrev pub tokenLimit : ℕ
+tokenLimit = 32768
+
 -- The arrays have room for `count` tokens.
 pub record Room (roles numbers positions : List ℕ) (count : ℕ) : Type 0 where
   pub roles-hold : count ≤ length roles

@@ -9,7 +9,7 @@ ghost use Rattle.lists.specs.Choice.{pick};
 ghost use Rattle.qcir.specs.File.{File};
 ghost use Rattle.qcir.specs.Refusals.{notUsedOnce};
 ghost use Rattle.qcir_tokens.specs.Tokens.{isDefinition, isUse, fileTokens};
-ghost use Rattle.qcir_tokens.specs.Held.{tokensFrom, numberCount, Definitions, foundOf};
+ghost use Rattle.qcir_tokens.specs.Held.{tokensFrom, numberCount, Definitions, foundOf, tokenLimit};
 ghost use Rattle.qcir_uses.specs.Uses.{usesIn, misusedIn};
 use qcir_tokens::Found;
 use qcir_tokens::NUMBERS;
@@ -17,7 +17,7 @@ use qcir_tokens::NUMBERS;
 // Marks each gate's first definition: one more than the index of its token. The tokens are read from the last to the
 // first, so that the first definition is stored last.
 pub fn mark_gates(roles: &[u8], numbers: &[u16], count: usize, gates: &mut [u16])
-    requires { ⌜ (count ≤ length (now roles)) × (count ≤ length (now numbers)) × (count ≤ 32768) ⌝ }
+    requires { ⌜ (count ≤ length (now roles)) × (count ≤ length (now numbers)) × (count ≤ tokenLimit) ⌝ }
     requires { ⌜ length (now gates) ≡ numberCount ⌝ }
     requires { ⌜ ((x : ℕ) → getD (now gates) x 0 ≡ 0) ⌝ }
     ensures { λ r. ⌜ ((ps : List ℕ) → Definitions (now (gates .exit)) (tokensFrom (now (roles .entry)) (now (numbers .entry)) ps 0 count)) ⌝ }
@@ -31,7 +31,7 @@ pub fn mark_gates(roles: &[u8], numbers: &[u16], count: usize, gates: &mut [u16]
 
 // The same of token i.
 fn mark_gate(role: u8, number: u16, i: usize, gates: &mut [u16])
-    requires { ⌜ (i < 32768) × (length (now gates) ≡ numberCount) ⌝ }
+    requires { ⌜ (i < tokenLimit) × (length (now gates) ≡ numberCount) ⌝ }
     ensures { λ r. ⌜ ((x : ℕ) → getD (now (gates .exit)) x 0 ≡ pick (isDefinition role && eqb number x) (i + 1) (getD (now (gates .entry)) x 0)) ⌝ }
 {
     if !qcir_tokens::is_definition(role) {

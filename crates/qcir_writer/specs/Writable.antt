@@ -9,11 +9,7 @@ use Rattle.table_check.specs.Verdict.{limit}
 use Rattle.qcir.specs.File.{File}
 use Rattle.qcir.specs.Table.{tableWords, tableList}
 use Rattle.qcir_tokens.specs.Tokens.{fileTokens}
-use Rattle.qcir_tokens.specs.Held.{tokensFrom}
-
--- At most half as many tokens as bytes are in a text.
-abbrev pub tokenLimit : ℕ
-tokenLimit = 32768
+use Rattle.qcir_tokens.specs.Held.{tokensFrom, tokenLimit}
 
 -- The first `count` tokens are those of a file, whose table is within the limits and fits the two buffers.
 pub record Writable (roles numbers : List ℕ) (count : ℕ) (words list : List ℕ) : Type 0 where

@@ -48,7 +48,7 @@ returns-3 c f e =
     let s = c .before .before .before .before .before .before .before .before .before .before .before in
     let z = c .before .before .before .before .table-sizes .ensures f (s .args .positions .now) e in
     let whole = table-whole f in
-    let w : Within f (s .args .words .now) (s .args .list .now) = record { nodes-within = omega (arith, z .0, c .before .before .before .if1 .left); none-crowded = omega (arith, z .0, z .2, c .before .before .if2 .left) } in
+    let w : Within f (s .args .words .now) (s .args .list .now) = record { nodes-within = omega (arith, z .0, c .before .before .before .if1 .left); none-exceeding = omega (arith, z .0, z .2, c .before .before .if2 .left) } in
     short-words f (s .args .words .now) (s .args .list .now) _ w (omega (arith, z .0, whole, c .before .if3 .taken)) (c .refused3 .ensures)
 
 cast-if4 : tie.Need-cast-if4
@@ -61,7 +61,7 @@ returns-4 : tie.Need-returns-4
 returns-4 c f e =
     let s = c .before .before .before .before .before .before .before .before .before .before .before .before in
     let z = c .before .before .before .before .before .table-sizes .ensures f (s .args .positions .now) e in
-    let w : Within f (s .args .words .now) (s .args .list .now) = record { nodes-within = omega (arith, z .0, c .before .before .before .before .if1 .left); none-crowded = omega (arith, z .0, z .2, c .before .before .before .if2 .left) } in
+    let w : Within f (s .args .words .now) (s .args .list .now) = record { nodes-within = omega (arith, z .0, c .before .before .before .before .if1 .left); none-exceeding = omega (arith, z .0, z .2, c .before .before .before .if2 .left) } in
     short-list f (s .args .words .now) (s .args .list .now) _ w (omega (arith, z .1, c .before .if4 .taken)) (c .refused4 .ensures)
 
 write-table-requires : tie.Need-write-table-requires
@@ -71,7 +71,7 @@ write-table-requires c κs =
     let f = k .file in
     let z = c .before .before .before .before .before .before .table-sizes .ensures f (s .args .positions .now) (k .tokens) in
     let whole = table-whole f in
-    let w : Within f (s .args .words .now) (s .args .list .now) = record { nodes-within = omega (arith, z .0, c .before .before .before .before .before .if1 .left); none-crowded = omega (arith, z .0, z .2, c .before .before .before .before .if2 .left) } in
+    let w : Within f (s .args .words .now) (s .args .list .now) = record { nodes-within = omega (arith, z .0, c .before .before .before .before .before .if1 .left); none-exceeding = omega (arith, z .0, z .2, c .before .before .before .before .if2 .left) } in
     record {
       file = f;
       positions = s .args .positions .now;
@@ -96,7 +96,7 @@ returns-5 c f e =
     let s = c .before .before .before .before .before .before .before .before .before .before .before .before .before .before .before .before .before .before in
     let z = c .before .before .before .before .before .before .before .before .before .before .before .table-sizes .ensures f (s .args .positions .now) e in
     let whole = table-whole f in
-    let w : Within f (s .args .words .now) (s .args .list .now) = record { nodes-within = omega (arith, z .0, c .before .before .before .before .before .before .before .before .before .before .if1 .left); none-crowded = omega (arith, z .0, z .2, c .before .before .before .before .before .before .before .before .before .if2 .left) } in
+    let w : Within f (s .args .words .now) (s .args .list .now) = record { nodes-within = omega (arith, z .0, c .before .before .before .before .before .before .before .before .before .before .if1 .left); none-exceeding = omega (arith, z .0, z .2, c .before .before .before .before .before .before .before .before .before .if2 .left) } in
     let t = c .before .before .before .before .write-table .ensures f (s .args .positions .now) e in
     stored-done f (s .args .words .now) (s .args .list .now) _ _ _ _ w (omega (arith, z .0, whole, c .before .before .before .before .before .before .before .before .if3 .left)) (omega (arith, z .1, c .before .before .before .before .before .before .before .if4 .left)) (z .0) (z .1) (t .0) (t .1)
 

@@ -1,9 +1,9 @@
 -- `qcir_scopes::walk_gates` meets its contract: the walk, with new arrays, finds the file's unbound variables.
 -- Assumes nothing.
+use Rattle.qcir_tokens.specs.Held.{tokenLimit}
 use mathlib.Core.Bool.{false}
 use lib.ListN.{replicate}
 use borrow.Author.Needs.{needs}
-use Rattle.qcir_scopes.specs.Judged.{tokenLimit}
 use Rattle.qcir_scopes.proofs.Files.{within, walk-starts, output-low, output-above, unbound-found}
 use Rattle.qcir_scopes.proofs.walk_gates.Statement.{statement}
 use Rattle.qcir_scopes.proofs.walk_gates.Tie as tie

@@ -5,11 +5,11 @@ use Rattle.qcir_sizes.proofs.Passes.{sizes-are}
 use Rattle.qcir_sizes.proofs.sizes_of.Statement.{statement}
 use Rattle.qcir_sizes.proofs.sizes_of.Tie as tie
 
-crowded-or-requires : tie.Need-crowded-or-requires
-crowded-or-requires c κs = search needs
+excess-or-requires : tie.Need-excess-or-requires
+excess-or-requires c κs = search needs
 
 returns : tie.Need-returns
-returns c = sizes-are (c .before .args .s) _ (c .crowded-or .ensures)
+returns c = sizes-are (c .before .args .s) _ (c .excess-or .ensures)
 
 pub sizes-of-spec : {M : Type 1} → statement M
-sizes-of-spec = tie.close (tie.spec crowded-or-requires returns)
+sizes-of-spec = tie.close (tie.spec excess-or-requires returns)
