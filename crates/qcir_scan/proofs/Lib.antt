@@ -6,3 +6,4 @@ pub mod Tokens
 pub mod Runs
 pub mod Steps
 pub mod Scans
+pub mod Words

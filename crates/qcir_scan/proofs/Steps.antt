@@ -18,7 +18,7 @@ use Rattle.qcir_text.specs.Machine.{dead, State, start, move, moveName, emit, s
 use Rattle.qcir_scan.specs.declared.Progress.{Progress}
 use Rattle.qcir_scan.specs.Places.{places, placeOf, spares, spare}
 use Rattle.qcir_scan.specs.Tables.{entryAt}
-use Rattle.qcir_scan.specs.Held.{highest, stateOf, Wide, Lives, Holds, InName, numberAfter, beginAfter, countAfter}
+use Rattle.qcir_scan.specs.Held.{highest, stateOf, Wide, Lives, Holds, InName, Leads, numberAfter, beginAfter, countAfter}
 use Rattle.qcir_scan.proofs.Effects.{withNumber, apply, step-effect}
 use Rattle.qcir_scan.proofs.Rule.{effectOf, tokenBytes, dead-number, entry-effect, next-low, next-spare, digit-value, further-digit, passed, stays}
 use Rattle.qcir_scan.proofs.Runs.{next-run, alive-next}
@@ -286,12 +286,25 @@ module _ (text rs ns ps : List ℕ) (q : Progress) (h : Holds text rs ns ps q) (
       pub further-too-high : highest < m → Holds text rs ns ps (record { at = q .at + 1; place = 0; number = q .number; begin = q .begin; count = q .count })
       further-too-high a = after-too-high (6656 + q .place) same-name above number-on a
 
+  -- a byte that leads to place p, and does nothing
+  pub idles : {p : ℕ} → entryAt (q .place) (getD text (q .at) 0) ≡ p → p < 124 → Holds text rs ns ps (record { at = q .at + 1; place = p; number = q .number; begin = q .begin; count = q .count })
+  unfolding act e idle
+  idles {p} r low =
+      let z : entryAt (q .place) (getD text (q .at) 0) / 256 ≡ 0 = ap (λ x. x / 256) r ∙ div-eq-of-lt (omega arith) in
+      let y : entryAt (q .place) (getD text (q .at) 0) % 256 ≡ p = ap (λ x. x % 256) r ∙ mod-eq-of-lt (omega arith) in
+      subst (λ x. Holds text rs ns ps (record { at = q .at + 1; place = x; number = q .number; begin = q .begin; count = q .count })) y (went-idle z)
+
   -- a space between two signs, or a byte of a comment line
   pub passes : passed (q .place) (getD text (q .at) 0) ≡ true → Holds text rs ns ps (record { at = q .at + 1; place = q .place; number = q .number; begin = q .begin; count = q .count })
-  unfolding act e idle
-  passes t =
-      let low = h .place-low in
-      let r : entryAt (q .place) (getD text (q .at) 0) ≡ q .place = stays (q .place) (h .place-low) (getD text (q .at) 0) byte t in
-      let z : entryAt (q .place) (getD text (q .at) 0) / 256 ≡ 0 = ap (λ x. x / 256) r ∙ div-eq-of-lt (omega arith) in
-      let p : entryAt (q .place) (getD text (q .at) 0) % 256 ≡ q .place = ap (λ x. x % 256) r ∙ mod-eq-of-lt (omega arith) in
-      subst (λ x. Holds text rs ns ps (record { at = q .at + 1; place = x; number = q .number; begin = q .begin; count = q .count })) p (went-idle z)
+  passes t = idles (stays (q .place) (h .place-low) (getD text (q .at) 0) byte t) (h .place-low)
+
+-- two bytes
+pub two-idle : (text rs ns ps : List ℕ) (q : Progress) → Holds text rs ns ps q → length text ≤ 65536 → (first second next : ℕ) → Leads (q .place) first second next → q .at + 2 ≤ length text → getD text (q .at) 0 ≡ first → getD text (q .at + 1) 0 ≡ second → Holds text rs ns ps (record { at = q .at + 2; place = next; number = q .number; begin = q .begin; count = q .count })
+two-idle text rs ns ps q h long first second next leads l f g =
+    let a = leads .first-low in
+    let b = leads .second-low in
+    let m : Progress = record { at = q .at + 1; place = entryAt (q .place) first; number = q .number; begin = q .begin; count = q .count } in
+    let one : Holds text rs ns ps m = idles text rs ns ps q h (omega arith) (leads .going) long (omega arith) (ap (entryAt (q .place)) f) (leads .middle-low) in
+    let two = idles text rs ns ps m one (omega arith) (leads .middle) long (omega arith) (ap (entryAt (m .place)) g ∙ leads .arrives) (leads .next-low) in
+    let k : q .at + 1 + 1 ≡ q .at + 2 = omega arith in
+    subst (λ x. Holds text rs ns ps (record { at = x; place = next; number = q .number; begin = q .begin; count = q .count })) k two

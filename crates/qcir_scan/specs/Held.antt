@@ -12,6 +12,7 @@ use Rattle.qcir_text.specs.Machine.{State, start, run, alive, accepts, tokensOf
 use Rattle.qcir_scan.specs.declared.Progress.{Progress}
 use Rattle.qcir_scan.specs.declared.Scanned.{Scanned}
 use Rattle.qcir_scan.specs.Places.{placeOf, spare}
+use Rattle.qcir_scan.specs.Tables.{entryAt}
 
 -- The highest number of a name.
 abbrev pub highest : ℕ
@@ -72,6 +73,16 @@ pub record Between (place : ℕ) : Type 0 where
 pub record InComment (place : ℕ) : Type 0 where
   pub first : 74 ≤ place
   pub last : place < 77
+
+-- From a place, two bytes lead to the next, and nothing is done.
+pub record Leads (place first second next : ℕ) : Type 0 where
+  pub going : 0 < place
+  pub middle : 0 < entryAt place first
+  pub middle-low : entryAt place first < 124
+  pub arrives : entryAt (entryAt place first) second ≡ next
+  pub next-low : next < 124
+  pub first-low : first < 256
+  pub second-low : second < 256
 
 -- From q to r, arrays that hold the state go on to hold it.
 abbrev pub GoesOn : List ℕ → Progress → Progress → Type 0

@@ -12,6 +12,7 @@ ghost use Rattle.qcir_scan.specs.Held.{
   InName,
   Between,
   InComment,
+  Leads,
   GoesOn,
   Answers,
   numberAfter,
@@ -172,7 +173,7 @@ fn advance(
     )
 }
 
-// Takes the bytes that leave the place as it is: spaces between two signs, or what is left of a comment line.
+// Takes spaces between two signs, what is left of a comment line, or letters of a word.
 fn skip_run(text: &[u8], q: Progress) -> Progress
     requires { ⌜ length (now text) ≤ 65536 ⌝ }
     requires { ⌜ q .at ≤ length (now text) ⌝ }
@@ -184,7 +185,53 @@ fn skip_run(text: &[u8], q: Progress) -> Progress
     if (COMMENTS <= q.place) & (q.place < WORDS) {
         return skip_comment(text, q);
     }
+    if WORDS <= q.place {
+        return skip_word(text, q);
+    }
     q
+}
+
+// Takes letters of a word after `=`, if the text goes on with them, two at a time.
+fn skip_word(text: &[u8], q: Progress) -> Progress
+    requires { ⌜ length (now text) ≤ 65536 ⌝ }
+    requires { ⌜ q .at ≤ length (now text) ⌝ }
+    ensures { λ r. ⌜ GoesOn (now (text .entry)) q r ⌝ }
+{
+    let q = skip_two(text, q, 109, b'n', b'd', 39);
+    let q = skip_two(text, q, 112, b'o', b'r', 41);
+    let q = skip_two(text, q, 114, b'x', b'i', 116);
+    let q = skip_two(text, q, 116, b's', b't', 118);
+    let q = skip_two(text, q, 119, b'o', b'r', 121);
+    skip_two(text, q, 121, b'a', b'l', 123)
+}
+
+// Takes two letters that lead from a place to the next, if it is this place and the text goes on with them.
+fn skip_two(text: &[u8], q: Progress, place: usize, first: u8, second: u8, next: usize) -> Progress
+    requires { ⌜ length (now text) ≤ 65536 ⌝ }
+    requires { ⌜ q .at ≤ length (now text) ⌝ }
+    requires { ⌜ Leads place first second next ⌝ }
+    ensures { λ r. ⌜ GoesOn (now (text .entry)) q r × (r .at ≤ length (now (text .entry))) ⌝ }
+{
+    let at = q.at;
+    if q.place != place {
+        return q;
+    }
+    if text.len() < at + 2 {
+        return q;
+    }
+    if text[at] != first {
+        return q;
+    }
+    if text[at + 1] != second {
+        return q;
+    }
+    Progress {
+        at: at + 2,
+        place: next,
+        number: q.number,
+        begin: q.begin,
+        count: q.count,
+    }
 }
 
 // Takes spaces and tabs between two signs.

@@ -35,8 +35,23 @@ skip-comment-requires c κs =
 returns-2 : tie.Need-returns-2
 returns-2 c = c .skip-comment .ensures
 
+skip-word-requires : tie.Need-skip-word-requires
+skip-word-requires c κs = c .before .before .before .before .before .before .before .before .before .pre
+
 returns-3 : tie.Need-returns-3
-returns-3 c = (omega arith, λ roles numbers positions h. h)
+returns-3 c = c .skip-word .ensures
+
+returns-4 : tie.Need-returns-4
+returns-4 c = (omega arith, λ roles numbers positions h. h)
 
 pub skip-run-spec : {M : Type 1} → statement M
-skip-run-spec = tie.close (tie.spec skip-spaces-requires returns skip-comment-requires returns-2 returns-3)
+skip-run-spec =
+    tie.close
+    (tie.spec
+    skip-spaces-requires
+    returns
+    skip-comment-requires
+    returns-2
+    skip-word-requires
+    returns-3
+    returns-4)
