@@ -121,7 +121,7 @@ fn walk(
     }
 }
 
-// Takes one byte, and spaces or a comment line after it; or the digits of a name.
+// Takes one byte and the run after it, or the digits of a name.
 fn advance(
     moves: &[u16; 4092],
     columns: &[u16; 256],
@@ -191,7 +191,7 @@ fn skip_run(text: &[u8], q: Progress) -> Progress
     q
 }
 
-// Takes letters of a word after `=`, if the text goes on with them, two at a time.
+// Takes letters of a gate's word after its first, two at a time. The numbers are places within the word, or after it.
 fn skip_word(text: &[u8], q: Progress) -> Progress
     requires { ⌜ length (now text) ≤ 65536 ⌝ }
     requires { ⌜ q .at ≤ length (now text) ⌝ }
