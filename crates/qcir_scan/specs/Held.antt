@@ -7,7 +7,7 @@ use Prim.Native.Nat.{ℕ, _+_, _*_, _-_, _≤_, _<_}
 use lib.Dec.{eqb}
 use lib.ListN.{length, take, drop}
 use Rattle.lists.specs.Choice.{pick}
-use Rattle.qcir_tokens.specs.Held.{tokensFrom}
+use Rattle.qcir_tokens.specs.Held.{tokensFrom, tokenLimit}
 use Rattle.qcir_text.specs.Machine.{State, start, run, alive, accepts, tokensOf}
 use Rattle.qcir_scan.specs.declared.Progress.{Progress}
 use Rattle.qcir_scan.specs.declared.Scanned.{Scanned}
@@ -17,10 +17,6 @@ use Rattle.qcir_scan.specs.Tables.{entryAt}
 -- The highest number of a name.
 abbrev pub highest : ℕ
 highest = 65535
-
--- The most tokens of a text.
-abbrev pub tokenLimit : ℕ
-tokenLimit = 32768
 
 unfoldable pub stateOf : Progress → List ℕ → List ℕ → List ℕ → State
 stateOf q roles numbers positions =
