@@ -22,7 +22,8 @@ use qcir_tokens::NUMBERS;
 // input not after its gate, or a name twice in a list. `gates` has, for each number, one more than
 // the index of the first token that defines it.
 //
-// The contract rules out a search that takes the earlier of two places.
+// The contract rules out a search that takes the earlier of two places, and one by which a gate may
+// be its own input.
 pub fn first_misplaced(
     roles: &[u8],
     numbers: &[u16],

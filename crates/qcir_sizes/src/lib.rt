@@ -53,8 +53,7 @@ pub struct Pass {
 
 // The sizes of the table of the file whose tokens these are. `gates` gives each gate's first definition.
 //
-// The contract rules out a count by which an input can name the gate of its own line, and one that stores the first
-// prefix line lowest.
+// The contract rules out a count by which the limit is passed where it is only reached.
 pub fn table_sizes(roles: &[u8], numbers: &[u16], count: usize, gates: &[u16]) -> TableSizes
     requires { ⌜ (count ≤ length (now roles)) × (count ≤ length (now numbers)) × (count ≤ tokenLimit) ⌝ }
     requires { ⌜ ((ps : List ℕ) → Definitions (now gates) (tokensFrom (now roles) (now numbers) ps 0 count)) ⌝ }

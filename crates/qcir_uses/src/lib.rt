@@ -16,6 +16,8 @@ use qcir_tokens::NUMBERS;
 
 // Marks each gate's first definition: one more than the index of its token. The tokens are read from the last to the
 // first, so that the first definition is stored last.
+//
+// The contract rules out marks that name the token after.
 pub fn mark_gates(roles: &[u8], numbers: &[u16], count: usize, gates: &mut [u16])
     requires { ⌜ (count ≤ length (now roles)) × (count ≤ length (now numbers)) × (count ≤ tokenLimit) ⌝ }
     requires { ⌜ length (now gates) ≡ numberCount ⌝ }
@@ -42,7 +44,7 @@ fn mark_gate(role: u8, number: u16, i: usize, gates: &mut [u16])
 
 // Refusal 13: the lowest number of a gate that is not used exactly once.
 //
-// The contract rules out a search that finds no gate that is never used, and one that stops at the first gate.
+// The contract rules out a search that does not notice a gate that is never used.
 pub fn lowest_misused(roles: &[u8], numbers: &[u16], count: usize) -> Found
     requires { ⌜ (count ≤ length (now roles)) × (count ≤ length (now numbers)) ⌝ }
     ensures { λ r. ⌜ ((f : File) (ps : List ℕ) → tokensFrom (now (roles .entry)) (now (numbers .entry)) ps 0 count ≡ fileTokens f → r ≡ foundOf (notUsedOnce f)) ⌝ }

@@ -435,7 +435,7 @@ fn write_outer(
 // `words`, its list to the start of `list`.
 //
 // The contract rules out a writer that takes inputs from right to left, one that leaves out a not, one
-// by which or() is 1, and one by which the first prefix line is lowest.
+// by which or() is 1, and one by which prefix lines run together.
 pub fn write_table(roles: &[u8], numbers: &[u16], count: usize, words: &mut [u32], list: &mut [u32])
     requires { ⌜ Writable (now roles) (now numbers) count (now words) (now list) ⌝ }
     ensures { λ r. ⌜ ((f : File) (ps : List ℕ) → tokensFrom (now (roles .entry)) (now (numbers .entry)) ps 0 count ≡ fileTokens f → (now (words .exit) ≡ overwrite (now (words .entry)) 0 (tableWords f)) × (now (list .exit) ≡ overwrite (now (list .entry)) 0 (tableList f))) ⌝ }
