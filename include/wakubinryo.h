@@ -36,7 +36,8 @@
  * ANSWERS AND REFUSALS
  *
  * answer[0] is the number: 0 if done, else the first of these that applies.
- * answer[1] is the position: the node that the refusal speaks of, else 0.
+ * answer[1] is the position: the node, byte or name that the tables here give,
+ * else 0.
  * The other words are sizes, all 0 on refusal.
  *
  *   number  given when                                                position
@@ -54,7 +55,7 @@
  *   9       an output buffer is shorter than the size needed          0
  *
  * Order: 1, 2; then the nodes upward, each tested for 3 to 7 in this order;
- * then 8; then 9. Nothing else is ever refused.
+ * then 8; then 9. Of a table nothing else is ever refused.
  *
  * QCIR TEXTS
  *
@@ -72,8 +73,8 @@
  *   g = xor(l, l)                                inputs, with two,
  *   g = exists(x, ..; l), g = forall(x, ..; l)   or quantified
  *
- * An input or the output l is a name, or a minus sign and a name. Its refusals
- * are 2, 6 and 9 above, 2 for nodes only, and these:
+ * An input or the output l is a name, or a minus sign and a name. The refusals
+ * of reading are 2, 6 and 9 above, 2 for nodes only, and these:
  *
  *   number  given when                                                position
  *   10      the text is over 65,536 bytes                             0
@@ -185,9 +186,9 @@ void wakubinryo_free_variables(const uint32_t *words, size_t words_len,
  * in the order of the text: gate line by gate line, inputs from left to right,
  * each with its not node, an operator right after its second operand; then the
  * output; then the prefix lines as blocks, the last line lowest. Ranges follow
- * one another in node order. It gives 9 exactly if the file is good and one of
- * the two buffers is shorter than that; 16,384 and 4,096 words are always
- * enough.
+ * one another in node order. It gives 9 exactly if no other refusal applies and
+ * one of the two buffers is shorter than that; 16,384 and 4,096 words are
+ * always enough.
  *
  * The table is accepted by the calls above and has the file's truth value under
  * every valuation.

@@ -2,7 +2,6 @@
 //! truth value by brute force.
 
 use crate::brute::{quantify, Valuation};
-use crate::reference::{EXISTS, FOR_ALL};
 
 #[derive(Clone, Copy, Debug, PartialEq, Eq)]
 pub enum Quantifier {
@@ -11,14 +10,6 @@ pub enum Quantifier {
 }
 
 impl Quantifier {
-    /// The kind of its blocks.
-    pub fn kind(self) -> u32 {
-        match self {
-            Quantifier::Exists => EXISTS,
-            Quantifier::ForAll => FOR_ALL,
-        }
-    }
-
     pub fn word(self) -> &'static str {
         match self {
             Quantifier::Exists => "exists",

@@ -1,11 +1,11 @@
 -- What reading a text answers and leaves in the two lent buffers (request S-1).
 -- Assumes nothing.
-use mathlib.Core.Bool.{Bool, true, false, not, _&&_, _||_}
-use mathlib.Core.List.{List, [], _∷_}
+use mathlib.Core.Bool.{Bool, _&&_, _||_}
+use mathlib.Core.List.{List}
 use mathlib.Core.Path.{_≡_}
 use Prim.Native.Nat.{ℕ, _+_, _<_, _≤_}
 use lib.Dec.{eqb, ltb}
-use lib.ListN.{length, take}
+use lib.ListN.{length}
 use Rattle.lists.specs.Choice.{pick}
 use Rattle.lists.specs.Search.{lowest}
 use Rattle.lists.specs.Parts.{sum, overwrite}
@@ -56,23 +56,28 @@ unlessAny faults refusal next = pick (eqb (length faults) 0) next (refusal (leas
 unfoldable pub exceeds : ℕ → List ℕ → ℕ → Bool
 exceeds most ws i = isBlockKind (field ws i 0) && ltb most (sum (countAt ws) i + field ws i 2)
 
--- "Then 11 ..; then 13 .., 12 .., the lowest such name being the place of each; then 2 for nodes only, 6 and 9."
-unfoldable pub outcome : Limits → File → List ℕ → List ℕ → Outcome
-outcome lim f words list =
+-- "Then 2 for nodes only, 6 and 9": the outcome once 11, 13 and 12 do not apply.
+unfoldable pub stored : Limits → File → List ℕ → List ℕ → Outcome
+stored lim f words list =
     let ws = tableWords f in
     let ls = tableList f in
     let n = nodeCount ws in
     let i = lowest (exceeds (lim .variables) ws) n in
+    pick (ltb (lim .nodes) n) (refused 2 0 words list)
+    (pick (ltb i n) (refused 6 i words list)
+    (pick (ltb (length words) (length ws) || ltb (length list) (length ls)) (refused 9 0 words list)
+    (read ws ls words list)))
+
+-- "Then 11 ..; then 13 .., 12 .., the lowest such name being the place of each."
+unfoldable pub outcome : Limits → File → List ℕ → List ℕ → Outcome
+outcome lim f words list =
     unlessAny (misplaced f) (λ p. refused 11 p words list)
     (unlessAny (notUsedOnce f) (λ x. refused 13 x words list)
     (unlessAny (unbound f) (λ x. refused 12 x words list)
-    (pick (ltb (lim .nodes) n) (refused 2 0 words list)
-    (pick (ltb i n) (refused 6 i words list)
-    (pick (ltb (length words) (length ws) || ltb (length list) (length ls)) (refused 9 0 words list)
-    (read ws ls words list))))))
+    (stored lim f words list)))
 
--- What reading a text does. Of each text exactly one of the three holds, with one outcome (qcir_reader's
--- proofs/Unique.antt).
+-- What reading a text does. No text has two outcomes (qcir_reader's proofs/Unique.antt), and at `limits` each has one, which the
+-- reader finds.
 pub data Reading (lim : Limits) (text words list : List ℕ) : Outcome → Type 0 where
   -- "10 length, at 0"
   too-long : lim .bytes < length text → Reading lim text words list (refused 10 0 words list)

@@ -1,13 +1,13 @@
 -- Which files are refused for their names (request S-1): 11, 13 and 12, each as the list of the places or numbers at fault, the
 -- lowest of which is the refusal's position.
 -- Assumes nothing.
-use mathlib.Core.Bool.{Bool, true, false, not, _&&_, _||_}
+use mathlib.Core.Bool.{Bool, not}
 use mathlib.Core.List.{List, [], _∷_, _++_}
 use Prim.Native.Nat.{ℕ, max, min}
 use lib.Dec.{eqb}
 use Rattle.lists.specs.Choice.{pick}
 use Rattle.lists.specs.Members.{mem, times}
-use Rattle.qcir.specs.File.{Name, Literal, Gate, gateName, gateVariables, gateInputs, Line, prefixVariables, File, numbersOf, namesOf}
+use Rattle.qcir.specs.File.{Name, Literal, Gate, gateName, gateVariables, gateInputs, prefixVariables, File, numbersOf, namesOf}
 
 -- The elements that pass the test.
 unfoldable pub keep : (ℕ → Bool) → List ℕ → List ℕ
@@ -96,19 +96,19 @@ unfoldable pub notUsedOnce : File → List ℕ
 notUsedOnce f = keep (λ x. not (eqb (times x (usedNumbers f)) 1)) (numbersOf (gateNames (f .gates)))
 
 -- The variables that occur in what each name stands for, bound by no quantified gate there.
-abbrev pub Open : Type 0
-Open = ℕ → List ℕ
+abbrev pub FreeIn : Type 0
+FreeIn = ℕ → List ℕ
 
-unfoldable pub openInputs : Open → List Literal → List ℕ
-openInputs o [] = []
-openInputs o (l ∷ ls) = o (l .name .number) ++ openInputs o ls
+unfoldable pub freeInInputs : FreeIn → List Literal → List ℕ
+freeInInputs o [] = []
+freeInInputs o (l ∷ ls) = o (l .name .number) ++ freeInInputs o ls
 
 -- A gate line gives its name the variables of its inputs but those that the gate quantifies.
-unfoldable pub openNames : Open → List Gate → Open
-openNames o [] = o
-openNames o (g ∷ gs) =
-    openNames (λ x. pick (eqb x (gateName g .number)) (keep (λ y. not (mem y (numbersOf (gateVariables g)))) (openInputs o (gateInputs g))) (o x)) gs
+unfoldable pub freeInGates : FreeIn → List Gate → FreeIn
+freeInGates o [] = o
+freeInGates o (g ∷ gs) =
+    freeInGates (λ x. pick (eqb x (gateName g .number)) (keep (λ y. not (mem y (numbersOf (gateVariables g)))) (freeInInputs o (gateInputs g))) (o x)) gs
 
 -- Refusal 12: "a variable that no block above binds and no free line names". A name that no gate line defines is a variable.
 unfoldable pub unbound : File → List ℕ
-unbound f = keep (λ y. not (mem y (numbersOf (outerNames f)))) (openNames (λ x. x ∷ []) (f .gates) (f .output .name .number))
+unbound f = keep (λ y. not (mem y (numbersOf (outerNames f)))) (freeInGates (λ x. x ∷ []) (f .gates) (f .output .name .number))

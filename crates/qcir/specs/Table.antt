@@ -2,7 +2,6 @@
 -- not, an operator right after its second operand; then the output's nodes, then the prefix lines as blocks, the last line lowest.
 -- Stretches follow one another in node order."
 -- Assumes nothing.
-use mathlib.Core.Bool.{Bool, not}
 use mathlib.Core.List.{List, [], _∷_, _++_}
 use Prim.Native.Nat.{ℕ, suc, _-_}
 use lib.Dec.{eqb}
@@ -10,7 +9,7 @@ use lib.ListN.{length}
 use Rattle.lists.specs.Choice.{pick}
 use Rattle.formula.specs.Node.{Quantifier, exists, for-all}
 use Rattle.formula.specs.Words.{nodeCount}
-use Rattle.qcir.specs.File.{Name, Literal, Junction, conjunction, disjunction, Gate, junction-gate, xor-gate, quantified-gate, gateName, Line, lineVariables, File, numbersOf}
+use Rattle.qcir.specs.File.{Literal, Junction, conjunction, disjunction, Gate, junction-gate, xor-gate, quantified-gate, gateName, Line, lineVariables, File, numbersOf}
 
 -- The nodes and list entries stored so far, and the gates' nodes: one more than the node that stands for a gate, 0 for a name that
 -- is no gate's.

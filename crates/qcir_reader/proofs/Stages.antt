@@ -16,14 +16,14 @@ use Rattle.table_check.specs.Verdict.{limit}
 use Rattle.qcir.specs.File.{File}
 use Rattle.qcir.specs.Refusals.{least, misplaced, notUsedOnce, unbound}
 use Rattle.qcir.specs.Table.{tableWords, tableList}
-use Rattle.qcir.specs.Reading.{limits, Outcome, refused, read, unlessAny, exceeds, outcome}
+use Rattle.qcir.specs.Reading.{limits, Outcome, refused, read, unlessAny, exceeds, outcome, stored}
 use Rattle.qcir.proofs.Theorem.{table-whole, table-few}
 use Rattle.lists.proofs.Search.{lowest-before}
 use Rattle.qcir_tokens.specs.declared.Found.{Found}
 use Rattle.qcir_tokens.specs.Held.{foundOf}
 use Rattle.qcir_reader.specs.declared.Answer.{Answer}
 use Rattle.qcir_reader.specs.Reads.{after}
-use Rattle.qcir_reader.specs.Stages.{refusal, stored}
+use Rattle.qcir_reader.specs.Stages.{refusal}
 
 -- Nothing was found among no numbers only.
 pub nothing-found : (r : Found) (xs : List ℕ) → r ≡ foundOf xs → r .found ≡ false → xs ≡ []

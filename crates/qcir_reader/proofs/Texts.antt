@@ -23,14 +23,14 @@ use Rattle.qcir.specs.Spelling.{Spells, SpellingFault}
 use Rattle.qcir.specs.Meaning.{fileTruth}
 use Rattle.qcir.specs.Refusals.{misplaced, notUsedOnce, unbound}
 use Rattle.qcir.specs.Table.{tableWords, tableList}
-use Rattle.qcir.specs.Reading.{limits, Outcome, refused, read, unlessAny, exceeds, outcome, Reading, too-long, misspelled, spelled, TableOf}
+use Rattle.qcir.specs.Reading.{limits, Outcome, refused, read, unlessAny, exceeds, stored, outcome, Reading, too-long, misspelled, spelled, TableOf}
 use Rattle.qcir.proofs.Theorem.{table-truth, table-accepted}
 use Rattle.qcir_tokens.specs.Tokens.{fileTokens, ascending}
 use Rattle.qcir_tokens.specs.Held.{tokensFrom, Room, tokenLimit}
 use Rattle.qcir_text.specs.Machine.{accepts, alive, start, tokensOf}
 use Rattle.qcir_reader.specs.declared.Answer.{Answer}
 use Rattle.qcir_reader.specs.Reads.{after, Reads}
-use Rattle.qcir_reader.specs.Stages.{refusal, Spelt}
+use Rattle.qcir_reader.specs.Stages.{refusal, HoldsFile}
 use Rattle.qcir_text.proofs.Spelling.{complete, sound, refused as misspelt, unique, ordered, ranged}
 use Rattle.qcir_reader.proofs.Numbers.{numbers-ranged}
 use Rattle.qcir_reader.proofs.Stages.{refusal-after}
@@ -65,7 +65,7 @@ number : Outcome → ℕ
 number o = o .number
 
 pub outcome-done : (f : File) (words list : List ℕ) → outcome limits f words list .number ≡ 0 → Done f words list (outcome limits f words list)
-unfolding outcome limits number
+unfolding outcome stored limits number
 outcome-done f words list h =
     let a = passed-any (misplaced f) _ _ (λ x. refused-not-done 11 x words list (lit< tt)) h in
     let ha = sym (ap number (a .1)) ∙ h in
@@ -139,8 +139,8 @@ spelled-reads text words list words′ list′ r f h s e =
     }
 
 -- The tokens of a text that is a file.
-pub spelt : (text roles numbers positions : List ℕ) (count : ℕ) → accepts 65535 text ≡ true → tokensFrom roles numbers positions 0 count ≡ tokensOf 65535 text → Room roles numbers positions count → count ≤ tokenLimit → Spelt roles numbers positions count
-spelt text roles numbers positions count h e room few =
+pub holds-file : (text roles numbers positions : List ℕ) (count : ℕ) → accepts 65535 text ≡ true → tokensFrom roles numbers positions 0 count ≡ tokensOf 65535 text → Room roles numbers positions count → count ≤ tokenLimit → HoldsFile roles numbers positions count
+holds-file text roles numbers positions count h e room few =
     let found = sound 65535 text h in
     record {
       file = found .file;

@@ -5,11 +5,11 @@ ghost use mathlib.Core.Path.{_≡_};
 ghost use Prim.Native.Nat.{ℕ, _≤_, min};
 ghost use lib.ListN.{length};
 ghost use Rattle.qcir.specs.File.{File};
-ghost use Rattle.qcir.specs.Reading.{limits, outcome};
+ghost use Rattle.qcir.specs.Reading.{limits, outcome, stored};
 ghost use Rattle.qcir_tokens.specs.Tokens.{fileTokens, ascending};
 ghost use Rattle.qcir_tokens.specs.Held.{tokensFrom, Definitions};
 ghost use Rattle.qcir_reader.specs.Reads.{after, Reads};
-ghost use Rattle.qcir_reader.specs.Stages.{refusal, Spelt, stored};
+ghost use Rattle.qcir_reader.specs.Stages.{refusal, HoldsFile};
 use qcir_tokens::NUMBERS;
 use qcir_tokens::TOKENS;
 use table_check::BUFFER_TOO_SHORT;
@@ -39,7 +39,7 @@ pub struct Answer {
     pub entries: u32,
 }
 
-// A text and a place in it.
+// A text and a position in it.
 pub struct Reader<'a> {
     pub text: &'a [u8],
     pub at: usize,
@@ -52,7 +52,8 @@ pub fn begin<'a>(text: &'a [u8]) -> Reader<'a>
     Reader { text, at: 0 }
 }
 
-// Reads from the reader's place on.
+// Reads from the reader's position on: what is read is the rest of the text, and positions in the
+// answer count from there.
 pub fn read_from<'a>(r: Reader<'a>, words: &mut [u32], list: &mut [u32]) -> Answer
     ensures { λ s. ⌜ Reads (now (r .entry .text)) (r .entry .at) (now (words .entry)) (now (list .entry)) (now (words .exit)) (now (list .exit)) s ⌝ }
 {
@@ -130,7 +131,7 @@ fn read_tokens(
     words: &mut [u32],
     list: &mut [u32],
 ) -> Answer
-    requires { ⌜ Spelt (now roles) (now numbers) (now positions) count ⌝ }
+    requires { ⌜ HoldsFile (now roles) (now numbers) (now positions) count ⌝ }
     ensures { λ r. ⌜ ((f : File) → tokensFrom (now (roles .entry)) (now (numbers .entry)) (now (positions .entry)) 0 count ≡ fileTokens f → ascending 0 (fileTokens f) ≡ true → after r (now (words .exit)) (now (list .exit)) ≡ outcome limits f (now (words .entry)) (now (list .entry))) ⌝ }
 {
     let mut gates = [0u16; NUMBERS];
@@ -148,7 +149,7 @@ fn read_names(
     words: &mut [u32],
     list: &mut [u32],
 ) -> Answer
-    requires { ⌜ Spelt (now roles) (now numbers) (now positions) count ⌝ }
+    requires { ⌜ HoldsFile (now roles) (now numbers) (now positions) count ⌝ }
     requires { ⌜ ((ps : List ℕ) → Definitions (now gates) (tokensFrom (now roles) (now numbers) ps 0 count)) ⌝ }
     ensures { λ r. ⌜ ((f : File) → tokensFrom (now (roles .entry)) (now (numbers .entry)) (now (positions .entry)) 0 count ≡ fileTokens f → ascending 0 (fileTokens f) ≡ true → after r (now (words .exit)) (now (list .exit)) ≡ outcome limits f (now (words .entry)) (now (list .entry))) ⌝ }
 {
@@ -177,7 +178,7 @@ fn store_table(
     words: &mut [u32],
     list: &mut [u32],
 ) -> Answer
-    requires { ⌜ Spelt (now roles) (now numbers) (now positions) count ⌝ }
+    requires { ⌜ HoldsFile (now roles) (now numbers) (now positions) count ⌝ }
     requires { ⌜ ((ps : List ℕ) → Definitions (now gates) (tokensFrom (now roles) (now numbers) ps 0 count)) ⌝ }
     ensures { λ r. ⌜ ((f : File) → tokensFrom (now (roles .entry)) (now (numbers .entry)) (now (positions .entry)) 0 count ≡ fileTokens f → after r (now (words .exit)) (now (list .exit)) ≡ stored limits f (now (words .entry)) (now (list .entry))) ⌝ }
 {

@@ -41,7 +41,8 @@ const COMMENTS: usize = 74;
 
 const WORDS: usize = 77;
 
-// What an entry of the table does if a name begins; if less, the pending name ends in this role, or, if 0, nothing is done.
+// What an entry of the table does if a name begins; if less, the pending name ends in this role, or,
+// if 0, nothing is done; if more, a further digit of the name is taken.
 const NAME: u8 = 25;
 
 // The highest number of a name.

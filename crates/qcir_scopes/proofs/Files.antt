@@ -13,7 +13,7 @@ use Rattle.lists.specs.Members.{mem}
 use Rattle.lists.proofs.Members.{mem-nil}
 use Rattle.lists.proofs.Stores.{getD-filled}
 use Rattle.qcir.specs.File.{Literal, Name, Gate, gateName, gateVariables, gateInputs, File, numbersOf, prefixVariables}
-use Rattle.qcir.specs.Refusals.{least, gateNames, outerNames, quantifiedNames, repeated, gatesListed, earlyUses, misplaced, inputNumbers, usedNumbers, notUsedOnce, openNames, unbound}
+use Rattle.qcir.specs.Refusals.{least, gateNames, outerNames, quantifiedNames, repeated, gatesListed, earlyUses, misplaced, inputNumbers, usedNumbers, notUsedOnce, freeInGates, unbound}
 use Rattle.qcir_tokens.specs.declared.Found.{Found}
 use Rattle.qcir_tokens.specs.Tokens.{Token, token, isUse, isDefinition, outputToken, outputRole, freeTokens, prefixTokens, inputsTokens, anyInputsTokens, gateTokens, gatesTokens, fileTokens, definitionFrom, definition}
 use Rattle.qcir_tokens.specs.Held.{tokenAt, tokensFrom, numberCount, foundOf, tokenLimit}
@@ -199,7 +199,7 @@ module _ (t : Tokens) (f : File) (held : Held t 0 (fileTokens f)) where
   module _ (defined : (x : ℕ) → t .gate x ≡ definition (fileTokens f) x) (placed : misplaced f ≡ []) (once : notUsedOnce f ≡ [])
       (m s : ℕ → Bool) (c : ℕ → ℕ) (outer : (x : ℕ) → m x ≡ mem x (numbersOf (outerNames f))) where
     names-good : Held t (suc (length (outerTokens f))) (gatesTokens (f .gates))
-        → (x : ℕ) → Good t (suc (length (outerTokens f)) + length (gatesTokens (f .gates))) (openNames (λ y. y ∷ []) (f .gates) x) (weights (λ y. 0) (f .gates) x) x
+        → (x : ℕ) → Good t (suc (length (outerTokens f)) + length (gatesTokens (f .gates))) (freeInGates (λ y. y ∷ []) (f .gates) x) (weights (λ y. 0) (f .gates) x) x
     names-good h =
         let apart = gates-apart f placed in
         passed-all t (f .gates) (suc (length (outerTokens f))) [] (λ y. y ∷ []) (λ y. 0) h (apart .0) (apart .1)
@@ -212,7 +212,7 @@ module _ (t : Tokens) (f : File) (held : Held t 0 (fileTokens f)) where
     ends w (held-more r n h) =
         let i : ℕ = length (outerTokens f) in
         let y : ℕ = f .output .name .number in
-        let xs : List ℕ = openNames (λ z. z ∷ []) (f .gates) y in
+        let xs : List ℕ = freeInGates (λ z. z ∷ []) (f .gates) y in
         let k : ℕ = weights (λ z. 0) (f .gates) y in
         let q : ℕ = suc i + length (gatesTokens (f .gates)) in
         let tests = output-tests (f .output .minus) in

@@ -12,7 +12,7 @@ use Rattle.lists.specs.Choice.{pick, pick-yes, pick-no, Is, is-true, is-false, 
 use Rattle.lists.specs.Members.{mem}
 use Rattle.lists.proofs.Members.{mem-nil}
 use Rattle.qcir.specs.File.{Name, Gate, gateName, gateVariables, gateInputs, numbersOf, namesOf}
-use Rattle.qcir.specs.Refusals.{keep, gateNames, repeated, namingGates, without, earlyUses, Open, openInputs, openNames}
+use Rattle.qcir.specs.Refusals.{keep, gateNames, repeated, namingGates, without, earlyUses, FreeIn, freeInInputs, freeInGates}
 use Rattle.qcir_tokens.specs.Tokens.{Token, token, isDefinition, gateTokens, gatesTokens, definitionFrom, anyInputsTokens}
 use Rattle.qcir_scopes.specs.Steps.{Tokens}
 use Rattle.qcir_scopes.proofs.Roles.{definition-tests, Each, each-none, each-more, each-append, each-map, boundTokens, bound-each, any-each, gate-line, Held, held-left, held-right}
@@ -92,7 +92,7 @@ not-early names before (y ∷ ys) e x h n = go (look (mem (y .number) before)) (
     go (is-false b) (is-false c) r = r (without-new names before y ys b e .1) x (rw c at h) n
 
 -- What is known of the names once the lines before token p are passed: of those lines' gates, and of all other names.
-pub record Passed (t : Tokens) (p : ℕ) (before : List ℕ) (gs : List Gate) (o : Open) (n : ℕ → ℕ) : Type 0 where
+pub record Passed (t : Tokens) (p : ℕ) (before : List ℕ) (gs : List Gate) (o : FreeIn) (n : ℕ → ℕ) : Type 0 where
   pub later : (x : ℕ) → mem x before ≡ false → t .gate x ≡ definitionFrom p (gatesTokens gs) x
   pub known : (x : ℕ) → mem x before ≡ true → Good t p (o x) (n x) x
   pub alone : (x : ℕ) → mem x before ≡ false → o x ≡ x ∷ []
@@ -111,7 +111,7 @@ good-more l (good-gate d g k r) = good-gate d g (omega arith) (λ w m s c. done-
 
 module _ (t : Tokens) where
   -- a name that no gate line from here on defines, unless an earlier one does
-  name-good : {p : ℕ} {before : List ℕ} {gs : List Gate} {o : Open} {n : ℕ → ℕ} → Passed t p before gs o n
+  name-good : {p : ℕ} {before : List ℕ} {gs : List Gate} {o : FreeIn} {n : ℕ → ℕ} → Passed t p before gs o n
       → (x : ℕ) → (mem x before ≡ false → mem x (numbersOf (gateNames gs)) ≡ false) → Good t p (o x) (n x) x
   name-good {p} {before} {gs} {o} {n} a x h = go (look (mem x before))
     where
@@ -119,7 +119,7 @@ module _ (t : Tokens) where
       go (is-true e) = a .known x e
       go (is-false e) = good-variable (a .later x e ∙ no-definition gs p x (h e)) (a .alone x e) (a .light x e)
 
-  module _ (g : Gate) (gs : List Gate) (p : ℕ) (before : List ℕ) (o : Open) (n : ℕ → ℕ) (held : Held t p (gateTokens g))
+  module _ (g : Gate) (gs : List Gate) (p : ℕ) (before : List ℕ) (o : FreeIn) (n : ℕ → ℕ) (held : Held t p (gateTokens g))
       (new : mem (gateName g .number) before ≡ false)
       (early : namingGates (numbersOf (gateNames (g ∷ gs))) (without before (namesOf (gateInputs g))) ≡ [])
       (a : Passed t p before (g ∷ gs) o n) where
@@ -127,7 +127,7 @@ module _ (t : Tokens) where
     own = gateName g .number
 
     opened : List ℕ
-    opened = keep (λ y. not (mem y (numbersOf (gateVariables g)))) (openInputs o (gateInputs g))
+    opened = keep (λ y. not (mem y (numbersOf (gateVariables g)))) (freeInInputs o (gateInputs g))
 
     steps : ℕ
     steps = 2 * length (gateTokens g) + total n (numbersOf (namesOf (gateInputs g)))
@@ -143,7 +143,7 @@ module _ (t : Tokens) where
         (λ x i. name-good a x (λ b. not-early (numbersOf (gateNames (g ∷ gs))) before (namesOf (gateInputs g)) early x i b)))
 
     passed-line : Passed t (p + length (gateTokens g)) (gateName g .number ∷ before) gs
-        (λ x. pick (eqb x (gateName g .number)) (keep (λ y. not (mem y (numbersOf (gateVariables g)))) (openInputs o (gateInputs g))) (o x))
+        (λ x. pick (eqb x (gateName g .number)) (keep (λ y. not (mem y (numbersOf (gateVariables g)))) (freeInInputs o (gateInputs g))) (o x))
         (λ x. pick (eqb x (gateName g .number)) (2 * length (gateTokens g) + total n (numbersOf (namesOf (gateInputs g)))) (n x))
     unfolding own opened steps gatesTokens mem
     passed-line =
@@ -167,10 +167,10 @@ module _ (t : Tokens) where
             (good-more (omega arith) (a .known x (rw e at h)))
 
   -- through all the lines
-  pub passed-all : (gs : List Gate) (p : ℕ) (before : List ℕ) (o : Open) (n : ℕ → ℕ) → Held t p (gatesTokens gs)
+  pub passed-all : (gs : List Gate) (p : ℕ) (before : List ℕ) (o : FreeIn) (n : ℕ → ℕ) → Held t p (gatesTokens gs)
       → repeated before (gateNames gs) ≡ [] → earlyUses before gs ≡ [] → Passed t p before gs o n
-      → (x : ℕ) → Good t (p + length (gatesTokens gs)) (openNames o gs x) (weights n gs x) x
-  unfolding gatesTokens gateNames repeated earlyUses openNames weights numbersOf
+      → (x : ℕ) → Good t (p + length (gatesTokens gs)) (freeInGates o gs x) (weights n gs x) x
+  unfolding gatesTokens gateNames repeated earlyUses freeInGates weights numbersOf
   passed-all [] p before o n held rep early a x =
       good-more (omega arith) (name-good a x (λ e. mem-nil x))
   passed-all (g ∷ gs) p before o n held rep early a x =

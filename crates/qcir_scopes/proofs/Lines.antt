@@ -11,7 +11,7 @@ use Rattle.lists.specs.Choice.{pick-yes, pick-no, Is, is-true, is-false, look}
 use Rattle.lists.specs.Members.{mem}
 use Rattle.lists.proofs.Members.{mem-head, mem-tail}
 use Rattle.qcir.specs.File.{Name, Literal, Gate, gateName, gateVariables, gateInputs, numbersOf, namesOf}
-use Rattle.qcir.specs.Refusals.{keep, Open, openInputs}
+use Rattle.qcir.specs.Refusals.{keep, FreeIn, freeInInputs}
 use Rattle.qcir_tokens.specs.Tokens.{Token, token, isUse, isBound, isDefinition, inputsTokens, anyInputsTokens, gateTokens}
 use Rattle.qcir_scopes.specs.declared.Walk.{Walk}
 use Rattle.qcir_scopes.specs.Steps.{Tokens, State, put, isEnd, isAbove, moved, past, run}
@@ -204,13 +204,13 @@ module _ (t : Tokens) (q : ℕ) where
         callers-kept = λ j h. e .callers-kept j h ∙ put-other c d j i (λ z. omega arith);
       }
 
-  module _ (o : Open) (n : ℕ → ℕ) where
+  module _ (o : FreeIn) (n : ℕ → ℕ) where
     inputs-run : (l : Literal) (ls : List Literal) (p : ℕ) → Held t p (inputsTokens l ls)
         → ((x : ℕ) → mem x (numbersOf (namesOf (l ∷ ls))) ≡ true → Good t q (o x) (n x) x)
         → (w : Walk) (m s : ℕ → Bool) (c : ℕ → ℕ)
         → Done t q (suc (length ls) + total n (numbersOf (namesOf (l ∷ ls)))) (stand (moved p false w) m s c)
-        (moved (p + length ls) true (listed m (openInputs o (l ∷ ls)) w)) m
-    unfolding inputsTokens token total numbersOf namesOf openInputs
+        (moved (p + length ls) true (listed m (freeInInputs o (l ∷ ls)) w)) m
+    unfolding inputsTokens token total numbersOf namesOf freeInInputs
     inputs-run l [] p (held-more r e held-none) good w m s c =
         let x : ℕ = l .name .number in
         let h = input-tests (l .minus) true in
@@ -233,8 +233,8 @@ module _ (t : Tokens) (q : ℕ) where
         let a : suc (n x) + (suc (length ks) + total n (numbersOf (namesOf (k ∷ ks)))) ≡ suc (suc (length ks)) + (n x + total n (numbersOf (namesOf (k ∷ ks)))) = omega arith in
         let b : suc p + length ks ≡ p + suc (length ks) = omega arith in
         done-as a
-        (ap (λ i. moved i true (listed m (openInputs o (k ∷ ks)) (listed m (o x) w))) b
-        ∙ ap (moved (p + suc (length ks)) true) (sym (listed-append m (o x) (openInputs o (k ∷ ks)) w)))
+        (ap (λ i. moved i true (listed m (freeInInputs o (k ∷ ks)) (listed m (o x) w))) b
+        ∙ ap (moved (p + suc (length ks)) true) (sym (listed-append m (o x) (freeInInputs o (k ∷ ks)) w)))
         (done-then first rest)
 
     inputs-length : (l : Literal) (ls : List Literal) → length (inputsTokens l ls) ≡ suc (length ls)
@@ -247,8 +247,8 @@ module _ (t : Tokens) (q : ℕ) where
         → ((x : ℕ) → mem x (numbersOf (namesOf ls)) ≡ true → Good t q (o x) (n x) x)
         → (w : Walk) (m s : ℕ → Bool) (c : ℕ → ℕ)
         → Done t q (length (anyInputsTokens g ls) + total n (numbersOf (namesOf ls))) (stand (moved p false w) m s c)
-        (moved (p + length (anyInputsTokens g ls) - 1) true (listed m (openInputs o ls) w)) m
-    unfolding anyInputsTokens token total numbersOf namesOf openInputs run
+        (moved (p + length (anyInputsTokens g ls) - 1) true (listed m (freeInInputs o ls) w)) m
+    unfolding anyInputsTokens token total numbersOf namesOf freeInInputs run
     end-run g [] p (held-more r e held-none) good w m s c =
         let h = empty-tests in
         let b : p ≡ p + 1 - 1 = omega arith in
@@ -266,7 +266,7 @@ module _ (t : Tokens) (q : ℕ) where
         let k = inputs-length l ls in
         let b : p + length ls ≡ p + length (inputsTokens l ls) - 1 = omega arith in
         done-as (ap (λ a. a + total n (numbersOf (namesOf (l ∷ ls)))) (sym k))
-        (ap (λ i. moved i true (listed m (openInputs o (l ∷ ls)) w)) b)
+        (ap (λ i. moved i true (listed m (freeInInputs o (l ∷ ls)) w)) b)
         (inputs-run l ls p held good w m s c)
 
 pub numbers-length : (ks : List Token) → length (tokenNumbers ks) ≡ length ks
@@ -281,18 +281,18 @@ listed-marked m ys xs w =
     ap (λ l. notedAll l w) (keep-cong (λ y. not (marked m ys y)) (λ y. not (mem y ys || m y)) xs (λ y. ap not (marked-is m ys y)) ∙ keep-two (λ y. mem y ys) m xs)
 
 -- Through a line of a definition, entries and what comes after them, and back.
-module _ (t : Tokens) (o : Open) (n : ℕ → ℕ) (r : ℕ) (tests : Tests r false false false false true false) (g : Name) (xs : List Name) (ls : List Literal)
+module _ (t : Tokens) (o : FreeIn) (n : ℕ → ℕ) (r : ℕ) (tests : Tests r false false false false true false) (g : Name) (xs : List Name) (ls : List Literal)
     (p : ℕ) (good : (x : ℕ) → mem x (numbersOf (namesOf ls)) ≡ true → Good t p (o x) (n x) x)
     (vs es : List Token) (vs-are : vs ≡ boundTokens xs) (es-are : es ≡ anyInputsTokens g ls)
     (role : t .role p ≡ r) (held-vs : Held t (suc p) vs) (held-es : Held t (suc p + length vs) es) where
-  through : Runs t (p + suc (length (vs ++ es))) p (2 * suc (length (vs ++ es)) + total n (numbersOf (namesOf ls))) (keep (λ y. not (mem y (numbersOf xs))) (openInputs o ls))
+  through : Runs t (p + suc (length (vs ++ es))) p (2 * suc (length (vs ++ es)) + total n (numbersOf (namesOf ls))) (keep (λ y. not (mem y (numbersOf xs))) (freeInInputs o ls))
   through w m s c =
       let ys : List ℕ = tokenNumbers vs in
       let ks : ys ≡ numbersOf xs = ap tokenNumbers vs-are ∙ bound-numbers xs in
       let k = numbers-length vs in
       let mm : ℕ → Bool = marked m ys in
       let ss : ℕ → Bool = savedAll (suc p) m s ys in
-      let v : Walk = listed mm (openInputs o ls) w in
+      let v : Walk = listed mm (freeInInputs o ls) w in
       let each-vs = subst (Each GateEntry) (sym vs-are) (bound-each xs) in
       let each-es = subst (Each Plain) (sym es-are) (any-each g ls) in
       let tot : ℕ = total n (numbersOf (namesOf ls)) in
@@ -322,15 +322,15 @@ module _ (t : Tokens) (o : Open) (n : ℕ → ℕ) (r : ℕ) (tests : Tests r fa
             (undo-run t vs each-vs (suc p) held-vs v m (d .saves) (d .calls) saves ∙ ap (λ i. stand (moved i true v) m (d .saves) (d .calls)) b)
             out))))
             ∙ ap (λ u. stand (past (t .role (c p)) (c p) u) m (d .saves) (d .calls))
-            (listed-marked m ys (openInputs o ls) w ∙ ap (λ zs. listed m (keep (λ y. not (mem y zs)) (openInputs o ls)) w) ks);
+            (listed-marked m ys (freeInInputs o ls) w ∙ ap (λ zs. listed m (keep (λ y. not (mem y zs)) (freeInInputs o ls)) w) ks);
         saved-kept = λ i h. d .saved-kept i (omega arith) ∙ saved-after ys (suc p) m s i (omega (arith, length-append vs es));
         callers-kept = λ i h. d .callers-kept i (omega arith);
       }
 
-pub line-run : (t : Tokens) (o : Open) (n : ℕ → ℕ) (g : Gate) (p : ℕ) → Held t p (gateTokens g)
+pub line-run : (t : Tokens) (o : FreeIn) (n : ℕ → ℕ) (g : Gate) (p : ℕ) → Held t p (gateTokens g)
     → ((x : ℕ) → mem x (numbersOf (namesOf (gateInputs g))) ≡ true → Good t p (o x) (n x) x)
     → Runs t (p + length (gateTokens g)) p (2 * length (gateTokens g) + total n (numbersOf (namesOf (gateInputs g))))
-    (keep (λ y. not (mem y (numbersOf (gateVariables g)))) (openInputs o (gateInputs g)))
+    (keep (λ y. not (mem y (numbersOf (gateVariables g)))) (freeInInputs o (gateInputs g)))
 unfolding token
 line-run t o n g p held good = go (subst (Held t p) (gate-line g) held)
   where
@@ -342,9 +342,9 @@ line-run t o n g p held good = go (subst (Held t p) (gate-line g) held)
 
     go : Held t p (token (definitionRole g) (gateName g) ∷ (vs ++ es))
         → Runs t (p + length (gateTokens g)) p (2 * length (gateTokens g) + total n (numbersOf (namesOf (gateInputs g))))
-        (keep (λ y. not (mem y (numbersOf (gateVariables g)))) (openInputs o (gateInputs g)))
+        (keep (λ y. not (mem y (numbersOf (gateVariables g)))) (freeInInputs o (gateInputs g)))
     go (held-more r e h) =
-        subst (λ k. Runs t (p + k) p (2 * k + total n (numbersOf (namesOf (gateInputs g)))) (keep (λ y. not (mem y (numbersOf (gateVariables g)))) (openInputs o (gateInputs g))))
+        subst (λ k. Runs t (p + k) p (2 * k + total n (numbersOf (namesOf (gateInputs g)))) (keep (λ y. not (mem y (numbersOf (gateVariables g)))) (freeInInputs o (gateInputs g))))
         (sym (ap length (gate-line g)))
         (through t o n (definitionRole g) (definition-tests g) (gateName g) (gateVariables g) (gateInputs g) p good vs es refl refl r
         (held-left t (suc p) vs es h) (held-right t (suc p) vs es h))

@@ -9,7 +9,7 @@ use Rattle.lists.specs.Choice.{pick, pick-yes, pick-no, Is, is-true, is-false, 
 use Rattle.lists.specs.Members.{mem, all}
 use Rattle.lists.proofs.Members.{mem-nil, mem-head, mem-tail, mem-left, mem-right}
 use Rattle.qcir.specs.File.{Literal, Gate, gateName, gateVariables, gateInputs, File, numbersOf, namesOf}
-use Rattle.qcir.specs.Refusals.{keep, gateNames, outerNames, namingGates, without, earlyUses, inputNumbers, usedNumbers, Open, openInputs, openNames, unbound}
+use Rattle.qcir.specs.Refusals.{keep, gateNames, outerNames, namingGates, without, earlyUses, inputNumbers, usedNumbers, FreeIn, freeInInputs, freeInGates, unbound}
 use Rattle.qcir_scopes.proofs.Gates.{not-early}
 
 module _ (p : ℕ → Bool) where
@@ -36,29 +36,29 @@ module _ (p : ℕ → Bool) where
   unfolding all
   all-one x h = and-both (p x) true h refl
 
-  all-inputs : (o : Open) (ls : List Literal) → ((x : ℕ) → mem x (numbersOf (namesOf ls)) ≡ true → all p (o x) ≡ true) → all p (openInputs o ls) ≡ true
-  unfolding openInputs all numbersOf namesOf
+  all-inputs : (o : FreeIn) (ls : List Literal) → ((x : ℕ) → mem x (numbersOf (namesOf ls)) ≡ true → all p (o x) ≡ true) → all p (freeInInputs o ls) ≡ true
+  unfolding freeInInputs all numbersOf namesOf
   all-inputs o [] h = refl
   all-inputs o (l ∷ ls) h =
       let y : ℕ = l .name .number in
-      all-append (o y) (openInputs o ls) (h y (mem-head y (numbersOf (namesOf ls)))) (all-inputs o ls (λ x m. h x (mem-tail x y (numbersOf (namesOf ls)) m)))
+      all-append (o y) (freeInInputs o ls) (h y (mem-head y (numbersOf (namesOf ls)))) (all-inputs o ls (λ x m. h x (mem-tail x y (numbersOf (namesOf ls)) m)))
 
   -- Once some lines are passed: the variables of their gates pass the test, and every other name stands for itself.
-  record Passing (before : List ℕ) (o : Open) : Type 0 where
+  record Passing (before : List ℕ) (o : FreeIn) : Type 0 where
     known : (x : ℕ) → mem x before ≡ true → all p (o x) ≡ true
     alone : (x : ℕ) → mem x before ≡ false → o x ≡ x ∷ []
 
-  name-passes : {before : List ℕ} {o : Open} → Passing before o → (x : ℕ) → (mem x before ≡ false → p x ≡ true) → all p (o x) ≡ true
+  name-passes : {before : List ℕ} {o : FreeIn} → Passing before o → (x : ℕ) → (mem x before ≡ false → p x ≡ true) → all p (o x) ≡ true
   name-passes {before} {o} a x h = go (look (mem x before))
     where
       go : Is (mem x before) → all p (o x) ≡ true
       go (is-true e) = a .known x e
       go (is-false e) = ap (all p) (a .alone x e) ∙ all-one x (h e)
 
-  module _ (g : Gate) (before : List ℕ) (o : Open) (a : Passing before o)
+  module _ (g : Gate) (before : List ℕ) (o : FreeIn) (a : Passing before o)
       (h : (x : ℕ) → mem x (numbersOf (namesOf (gateInputs g))) ≡ true → mem x before ≡ false → p x ≡ true) where
     passing-line : Passing (gateName g .number ∷ before)
-        (λ x. pick (eqb x (gateName g .number)) (keep (λ y. not (mem y (numbersOf (gateVariables g)))) (openInputs o (gateInputs g))) (o x))
+        (λ x. pick (eqb x (gateName g .number)) (keep (λ y. not (mem y (numbersOf (gateVariables g)))) (freeInInputs o (gateInputs g))) (o x))
     unfolding mem
     passing-line =
         record {
@@ -69,17 +69,17 @@ module _ (p : ℕ → Bool) where
         }
       where
         known-from : (x : ℕ) → (eqb x (gateName g .number) || mem x before) ≡ true → Is (eqb x (gateName g .number))
-            → all p (pick (eqb x (gateName g .number)) (keep (λ y. not (mem y (numbersOf (gateVariables g)))) (openInputs o (gateInputs g))) (o x)) ≡ true
+            → all p (pick (eqb x (gateName g .number)) (keep (λ y. not (mem y (numbersOf (gateVariables g)))) (freeInInputs o (gateInputs g))) (o x)) ≡ true
         known-from x e (is-true q) =
             ap (all p) (pick-yes _ _ _ q)
-            ∙ all-keep (λ y. not (mem y (numbersOf (gateVariables g)))) (openInputs o (gateInputs g)) (all-inputs o (gateInputs g) (λ y m. name-passes a y (h y m)))
+            ∙ all-keep (λ y. not (mem y (numbersOf (gateVariables g)))) (freeInInputs o (gateInputs g)) (all-inputs o (gateInputs g) (λ y m. name-passes a y (h y m)))
         known-from x e (is-false q) = ap (all p) (pick-no _ _ _ q) ∙ a .known x (rw q at e)
 
   -- through all the lines: where every variable used passes, those of each name do
-  all-open : (gs : List Gate) (before : List ℕ) (o : Open) → earlyUses before gs ≡ [] → Passing before o
+  all-open : (gs : List Gate) (before : List ℕ) (o : FreeIn) → earlyUses before gs ≡ [] → Passing before o
       → ((x : ℕ) → mem x (inputNumbers gs) ≡ true → mem x before ≡ false → mem x (numbersOf (gateNames gs)) ≡ false → p x ≡ true)
-      → (x : ℕ) → (mem x before ≡ false → mem x (numbersOf (gateNames gs)) ≡ false → p x ≡ true) → all p (openNames o gs x) ≡ true
-  unfolding mem numbersOf gateNames inputNumbers openNames earlyUses
+      → (x : ℕ) → (mem x before ≡ false → mem x (numbersOf (gateNames gs)) ≡ false → p x ≡ true) → all p (freeInGates o gs x) ≡ true
+  unfolding mem numbersOf gateNames inputNumbers freeInGates earlyUses
   all-open [] before o e a h x out = name-passes a x (λ b. out b (mem-nil x))
   all-open (g ∷ gs) before o e a h x out =
       let own : ℕ = gateName g .number in
@@ -100,7 +100,7 @@ pub none-unbound : (f : File) → earlyUses [] (f .gates) ≡ []
 unfolding unbound usedNumbers
 none-unbound f e h =
     let y : ℕ = f .output .name .number in
-    none-kept (λ x. mem x (numbersOf (outerNames f))) (openNames (λ x. x ∷ []) (f .gates) y)
+    none-kept (λ x. mem x (numbersOf (outerNames f))) (freeInGates (λ x. x ∷ []) (f .gates) y)
     (all-open (λ x. mem x (numbersOf (outerNames f))) (f .gates) [] (λ x. x ∷ []) e
     (record { known = λ x m. clash m (mem-nil x); alone = λ x m. refl })
     (λ x m b n. h x (mem-tail x y (inputNumbers (f .gates)) m) n)

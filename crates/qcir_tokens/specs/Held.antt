@@ -6,7 +6,6 @@ use mathlib.Core.Path.{_≡_}
 use Prim.Native.Nat.{ℕ, zero, suc, _≤_}
 use lib.Dec.{eqb}
 use lib.ListN.{length, getD}
-use Rattle.qcir.specs.File.{Name}
 use Rattle.qcir.specs.Refusals.{least}
 use Rattle.qcir_tokens.specs.declared.Found.{Found}
 use Rattle.qcir_tokens.specs.Tokens.{Token, definition}

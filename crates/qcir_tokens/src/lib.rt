@@ -18,11 +18,7 @@ pub const AND_GATE: u8 = 13;
 
 pub const OR_GATE: u8 = 14;
 
-pub const XOR_GATE: u8 = 15;
-
 pub const EXISTS_GATE: u8 = 16;
-
-pub const FOR_ALL_GATE: u8 = 17;
 
 pub const EMPTY: u8 = 24;
 

@@ -2,7 +2,7 @@
 -- Assumes nothing.
 use mathlib.Core.Path.{sym, _∙_}
 use Rattle.qcir_text.proofs.Spelling.{complete, sound, ordered}
-use Rattle.qcir_reader.proofs.Texts.{misspelled-reads, spelled-reads, spelt}
+use Rattle.qcir_reader.proofs.Texts.{misspelled-reads, spelled-reads, holds-file}
 use native.Mathlib.Omega.{arith}
 use borrow.Author.Needs.{needs}
 use Rattle.qcir_reader.proofs.read_spelled.Statement.{statement}
@@ -34,7 +34,7 @@ read-tokens-requires c κs =
     let s = c .before .before .before .before .before .before .before .before .before .before .before .before .before .before .before .before in
     let n = c .before .before .before .before .before .before .before .before .before .scan in
     let h = c .before .before .before .before .before .if1 .taken in
-    spelt (s .args .text .now) _ _ _ _ (sym (n .ensures .spelled-is) ∙ h) (n .ensures .tokens-are h) (record { roles-hold = omega (arith, n .ensures .few, n .kept .1 .0); numbers-hold = omega (arith, n .ensures .few, n .kept .1 .1 .0); positions-hold = omega (arith, n .ensures .few, n .kept .1 .1 .1 .0) }) (n .ensures .few)
+    holds-file (s .args .text .now) _ _ _ _ (sym (n .ensures .spelled-is) ∙ h) (n .ensures .tokens-are h) (record { roles-hold = omega (arith, n .ensures .few, n .kept .1 .0); numbers-hold = omega (arith, n .ensures .few, n .kept .1 .1 .0); positions-hold = omega (arith, n .ensures .few, n .kept .1 .1 .1 .0) }) (n .ensures .few)
 
 same-length : tie.Need-same-length
 same-length c = search needs
