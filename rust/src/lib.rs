@@ -13,6 +13,7 @@ pub mod generate;
 pub mod generate_qcir;
 pub mod qcir;
 pub mod reference;
+pub mod timing;
 
 pub use answer::{Reason, Refusal, Sizes, Written};
 

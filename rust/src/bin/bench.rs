@@ -5,12 +5,10 @@
 use std::hint::black_box;
 use std::time::{Duration, Instant};
 use wakubinryo::generate::{Table, FAMILIES};
+use wakubinryo::timing::{growth, Times, ROUNDS, RUNS, WARM_UP};
 use wakubinryo::{reference, PrenexForm, Refusal, Sizes};
 
 const NODES: [usize; 3] = [1024, 2048, 4096];
-const ROUNDS: usize = 20;
-const RUNS: usize = 50;
-const WARM_UP: usize = 10;
 
 type Measure = fn(&[u32], &[u32]) -> Result<Sizes, Refusal>;
 type Lift = fn(&[u32], &[u32], &mut [u32], &mut [u32], &mut [u32]) -> Result<Sizes, Refusal>;
@@ -32,17 +30,12 @@ fn run(measure: Measure, lift: Lift, table: &Table, form: &mut PrenexForm) -> Du
     time
 }
 
-fn median(times: &mut [Duration]) -> f64 {
-    times.sort();
-    times[times.len() / 2].as_secs_f64() * 1e6
-}
-
 /// A table, and for library and reference a form to write and times.
 struct Bench {
     table: Table,
     sizes: Sizes,
     forms: [PrenexForm; 2],
-    times: [Vec<Duration>; 2],
+    times: Times,
 }
 
 impl Bench {
@@ -52,7 +45,7 @@ impl Bench {
             table,
             sizes,
             forms: [(); 2].map(|()| PrenexForm::with_sizes(&sizes)),
-            times: [Vec::new(), Vec::new()],
+            times: Times::default(),
         }
     }
 
@@ -62,23 +55,15 @@ impl Bench {
             (wakubinryo::measure, wakubinryo::lift),
             (reference::measure, reference::lift),
         ];
-        for turn in 0..WARM_UP + RUNS {
-            for (side, (measure, lift)) in sides.into_iter().enumerate() {
-                let time = run(measure, lift, &self.table, &mut self.forms[side]);
-                if turn >= WARM_UP {
-                    self.times[side].push(time);
-                }
-            }
-        }
+        let (table, forms) = (&self.table, &mut self.forms);
+        self.times.round(|side| {
+            let (measure, lift) = sides[side];
+            run(measure, lift, table, &mut forms[side])
+        });
         assert!(
             self.forms[0] == self.forms[1],
             "library and reference differ"
         );
-    }
-
-    /// Median times in microseconds.
-    fn medians(&mut self) -> [f64; 2] {
-        [median(&mut self.times[0]), median(&mut self.times[1])]
     }
 }
 
@@ -110,11 +95,8 @@ fn main() {
         }
         let mut before: Option<[f64; 2]> = None;
         for bench in &mut benches {
-            let [library, plain] = bench.medians();
-            let growth = match before {
-                Some([l, p]) => format!("{:>11.2} {:>10.2}", library / l, plain / p),
-                None => String::new(),
-            };
+            let [library, plain] = bench.times.medians();
+            let growth = growth(before, [library, plain]);
             let Sizes { n, nodes, .. } = bench.sizes;
             let line = format!(
                 "{name:<20} {n:>5} {nodes:>8} {library:>7.1} {plain:>10.1} {:>7.2} {growth}",

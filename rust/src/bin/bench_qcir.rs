@@ -6,12 +6,10 @@ use std::hint::black_box;
 use std::time::{Duration, Instant};
 use wakubinryo::generate_qcir::FAMILIES;
 use wakubinryo::reference::LIMIT;
+use wakubinryo::timing::{growth, Times, ROUNDS, RUNS, WARM_UP};
 use wakubinryo::{qcir, read_qcir_into, Refusal, Table, Written};
 
 const BYTES: [usize; 3] = [16_384, 32_768, 65_536];
-const ROUNDS: usize = 20;
-const RUNS: usize = 50;
-const WARM_UP: usize = 10;
 
 type Answer = Result<Written, Refusal>;
 type Read = fn(&[u8], &mut [u32], &mut [u32]) -> Answer;
@@ -33,18 +31,13 @@ fn run(read: Read, text: &[u8], table: &mut Table) -> (Duration, Answer) {
     (start.elapsed(), answer)
 }
 
-fn median(times: &mut [Duration]) -> f64 {
-    times.sort();
-    times[times.len() / 2].as_secs_f64() * 1e6
-}
-
 /// A file and its answer, and for library and reference a table to fill and
 /// times.
 struct Bench {
     text: Vec<u8>,
     answer: Answer,
     tables: [Table; 2],
-    times: [Vec<Duration>; 2],
+    times: Times,
 }
 
 impl Bench {
@@ -55,30 +48,22 @@ impl Bench {
             text,
             answer,
             tables: [room(), room()],
-            times: [Vec::new(), Vec::new()],
+            times: Times::default(),
         }
     }
 
     /// Some runs, library and reference in turn.
     fn round(&mut self) {
-        for turn in 0..WARM_UP + RUNS {
-            for (side, read) in SIDES.into_iter().enumerate() {
-                let (time, answer) = run(read, &self.text, &mut self.tables[side]);
-                assert!(answer == self.answer, "library and reference differ");
-                if turn >= WARM_UP {
-                    self.times[side].push(time);
-                }
-            }
-        }
+        let (text, expected, tables) = (&self.text, &self.answer, &mut self.tables);
+        self.times.round(|side| {
+            let (time, answer) = run(SIDES[side], text, &mut tables[side]);
+            assert!(answer == *expected, "library and reference differ");
+            time
+        });
         assert!(
             self.tables[0] == self.tables[1],
             "library and reference differ"
         );
-    }
-
-    /// Median times in microseconds.
-    fn medians(&mut self) -> [f64; 2] {
-        [median(&mut self.times[0]), median(&mut self.times[1])]
     }
 }
 
@@ -112,11 +97,8 @@ fn main() {
         }
         let mut before: Option<[f64; 2]> = None;
         for bench in &mut benches {
-            let [library, plain] = bench.medians();
-            let growth = match before {
-                Some([l, p]) => format!("{:>11.2} {:>10.2}", library / l, plain / p),
-                None => String::new(),
-            };
+            let [library, plain] = bench.times.medians();
+            let growth = growth(before, [library, plain]);
             let (number, nodes) = match bench.answer {
                 Ok(written) => (0, (written.words / 4).to_string()),
                 Err(refusal) => (refusal.reason.number(), String::new()),
