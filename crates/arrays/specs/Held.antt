@@ -13,7 +13,9 @@ use Rattle.lists.specs.Parts.{upTo}
 use Rattle.formula.specs.Node.{Node, constant, variable, negation, operator, block, Table, isBlock, bound}
 use Rattle.formula.specs.Words.{tableOf}
 use Rattle.formula.specs.Tree.{boundBelow}
-use Rattle.table_check.specs.Verdict.{limit, verdict, accepted}
+use Rattle.refusals.specs.Verdict.{accepted}
+use Rattle.acceptance.specs.Limits.{limit}
+use Rattle.acceptance.specs.Verdict.{verdict}
 use Rattle.prenex_form.specs.Scope.{above, binder, inner, level}
 use Rattle.prenex_form.specs.Names.{highestNumber, boundCount, definitionVariable}
 use Rattle.arrays.specs.Link.{Chains}

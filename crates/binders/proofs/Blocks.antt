@@ -13,9 +13,11 @@ use Rattle.formula.specs.Words.{nodeCount, field, range, nodeAt, tableOf}
 use Rattle.formula.specs.Tree.{Tree, count, boundBelow}
 use Rattle.formula.proofs.Nodes.{block-kind, node-block}
 use Rattle.formula.proofs.Ranges.{range-length, range-at}
-use Rattle.table_check.specs.Verdict.{limit, verdict, accepted}
-use Rattle.table_check.specs.Accepted.{Accepted}
-use Rattle.table_check.proofs.Accepted.{accepted-holds}
+use Rattle.refusals.specs.Verdict.{accepted}
+use Rattle.acceptance.specs.Limits.{limit}
+use Rattle.acceptance.specs.Verdict.{verdict}
+use Rattle.acceptance.specs.Accepted.{Accepted}
+use Rattle.acceptance.proofs.Accepted.{accepted-holds}
 use Rattle.prenex_form.specs.Names.{highestNumber, boundCount}
 use Rattle.prenex_form.proofs.NameLaws.{bound-le}
 use Rattle.prenex_form.proofs.Limits.{bound-limit}

@@ -12,7 +12,7 @@ use Rattle.lists.specs.Choice.{and-left, and-right, and-both}
 use Rattle.lists.proofs.Search.{lowest-cong}
 use Rattle.lists.proofs.Stores.{set-cases, set-all}
 use Rattle.formula.specs.Node.{Table}
-use Rattle.table_check.specs.Verdict.{limit}
+use Rattle.acceptance.specs.Limits.{limit}
 use Rattle.prenex_form.specs.Names.{highestNumber, boundCount}
 use Rattle.arrays.specs.Link.{link}
 use Rattle.arrays.specs.Held.{entries}

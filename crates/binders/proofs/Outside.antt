@@ -7,7 +7,7 @@ use lib.ListN.{replicate, length-replicate, getD-replicate}
 use Rattle.lists.specs.Choice.{clash}
 use Rattle.formula.specs.Node.{Table}
 use Rattle.formula.specs.Tree.{Tree}
-use Rattle.table_check.specs.Verdict.{limit}
+use Rattle.acceptance.specs.Limits.{limit}
 use Rattle.prenex_form.specs.Names.{highestNumber, boundCount}
 use Rattle.arrays.proofs.Link.{link-stops}
 use Rattle.binders.specs.Scope.{inChain, Open}

@@ -15,8 +15,9 @@ use Rattle.lists.proofs.Members.{place-lt, getD-place, place-getD, mem-getD}
 use Rattle.formula.specs.Node.{variable, Table, isBlock, bound}
 use Rattle.formula.specs.Words.{nodeCount, field, nodeAt, tableOf}
 use Rattle.formula.specs.Tree.{Tree, Proper, count, boundBelow}
-use Rattle.table_check.specs.Verdict.{verdict, accepted}
-use Rattle.table_check.proofs.Accepted.{accepted-holds}
+use Rattle.refusals.specs.Verdict.{accepted}
+use Rattle.acceptance.specs.Verdict.{verdict}
+use Rattle.acceptance.proofs.Accepted.{accepted-holds}
 use Rattle.prenex_form.specs.Scope.{above, binder}
 use Rattle.prenex_form.specs.Names.{boundCount}
 use Rattle.prenex_form.proofs.Paths.{binder-above}

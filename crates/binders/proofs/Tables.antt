@@ -10,8 +10,9 @@ use Rattle.lists.specs.Choice.{clash, Is, is-true, is-false, look}
 use Rattle.formula.specs.Node.{Node, constant, variable, negation, operator, block, isBlock}
 use Rattle.formula.specs.Words.{width, nodeCount, field, nodeAt, tableOf}
 use Rattle.formula.proofs.Nodes.{node-variable}
-use Rattle.table_check.specs.Verdict.{verdict, accepted}
-use Rattle.table_check.proofs.Accepted.{accepted-holds}
+use Rattle.refusals.specs.Verdict.{accepted}
+use Rattle.acceptance.specs.Verdict.{verdict}
+use Rattle.acceptance.proofs.Accepted.{accepted-holds}
 use Rattle.prenex_form.specs.Names.{highestNumber}
 use Rattle.prenex_form.proofs.NameLaws.{variable-le}
 use Rattle.arrays.specs.Held.{isMember}

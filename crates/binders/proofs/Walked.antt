@@ -15,8 +15,8 @@ use Rattle.lists.specs.Members.{mem}
 use Rattle.formula.specs.Node.{variable, Table, isBlock}
 use Rattle.formula.specs.Words.{width, nodeCount, field, nodeAt, tableOf}
 use Rattle.formula.specs.Tree.{Tree, boundBelow}
-use Rattle.table_check.specs.Verdict.{limit}
-use Rattle.table_check.proofs.Accepted.{accepted-holds}
+use Rattle.acceptance.specs.Limits.{limit}
+use Rattle.acceptance.proofs.Accepted.{accepted-holds}
 use Rattle.arrays.specs.Link.{link}
 use Rattle.arrays.specs.Held.{enclosing, isMember, member, boundEntry, Bindings}
 use Rattle.arrays.proofs.Link.{link-le, link-some}

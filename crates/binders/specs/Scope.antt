@@ -9,7 +9,7 @@ use lib.ListN.{length, getD}
 use Rattle.lists.specs.Search.{lowest}
 use Rattle.formula.specs.Node.{Table}
 use Rattle.formula.specs.Tree.{boundBelow}
-use Rattle.table_check.specs.Verdict.{limit}
+use Rattle.acceptance.specs.Limits.{limit}
 use Rattle.prenex_form.specs.Scope.{above}
 use Rattle.prenex_form.specs.Names.{highestNumber, boundCount}
 use Rattle.arrays.specs.Held.{entries}

@@ -11,7 +11,9 @@ use Rattle.lists.specs.Choice.{pick}
 use Rattle.lists.specs.Members.{mem}
 use Rattle.formula.specs.Node.{variable, Table, isBlock}
 use Rattle.formula.specs.Words.{nodeCount, tableOf}
-use Rattle.table_check.specs.Verdict.{limit, verdict, accepted}
+use Rattle.refusals.specs.Verdict.{accepted}
+use Rattle.acceptance.specs.Limits.{limit}
+use Rattle.acceptance.specs.Verdict.{verdict}
 use Rattle.arrays.specs.Chains.{between}
 use Rattle.arrays.specs.Held.{enclosing, member, Parents, MemberChains, Starts, boundEntry}
 use Rattle.binders.specs.Scope.{Open}

@@ -15,7 +15,7 @@ use Rattle.lists.proofs.Stores.{set-all}
 use Rattle.lists.proofs.Parts.{pick-le}
 use Rattle.formula.specs.Node.{Table, isBlock}
 use Rattle.formula.specs.Words.{tableOf}
-use Rattle.table_check.specs.Accepted.{Accepted}
+use Rattle.acceptance.specs.Accepted.{Accepted}
 use Rattle.prenex_form.specs.Scope.{inner}
 use Rattle.prenex_form.specs.Names.{boundCount, innerBelow, definitionVariable}
 use Rattle.prenex_form.specs.Matrix.{kept}

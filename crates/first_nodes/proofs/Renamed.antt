@@ -14,16 +14,16 @@ use Rattle.lists.specs.Parts.{upTo, overwrite}
 use Rattle.lists.proofs.Parts.{flatMap-append, length-each}
 use Rattle.lists.proofs.Overwrite.{overwrite-nil, overwrite-append}
 use Rattle.formula.specs.Node.{Node, constant, variable, negation, operator, block, Table, isBlock}
-use Rattle.formula.specs.Words.{width, nodeCount, field, nodeAt, tableOf}
+use Rattle.formula.specs.Words.{width, nodeCount, field, nodeAt, tableOf, nodeWords}
 use Rattle.formula.specs.Truth.{digit}
 use Rattle.formula.specs.Tree.{Proper}
 use Rattle.formula.proofs.Nodes.{node-constant, node-variable, node-negation, node-operator, node-exists, node-for-all}
-use Rattle.table_check.specs.Accepted.{Accepted}
-use Rattle.table_check.proofs.Accepted.{Formed, formed-constant, formed-variable, formed-negation, formed-operator, formed-exists, formed-for-all}
-use Rattle.table_check.proofs.Accepted.{formed-cases, accepted-holds}
+use Rattle.acceptance.specs.Accepted.{Accepted}
+use Rattle.acceptance.proofs.Accepted.{Formed, formed-constant, formed-variable, formed-negation, formed-operator, formed-exists, formed-for-all}
+use Rattle.acceptance.proofs.Accepted.{formed-cases, accepted-holds}
 use Rattle.prenex_form.specs.Scope.{binder, inner}
 use Rattle.prenex_form.specs.Names.{highestNumber, boundCount, firstName, newName, definitionVariable}
-use Rattle.prenex_form.specs.Matrix.{kept, renamed, firstNodes, nodeWords}
+use Rattle.prenex_form.specs.Matrix.{kept, renamed, firstNodes}
 use Rattle.prenex_form.proofs.Paths.{kept-le, kept-inner}
 use Rattle.prenex_form.proofs.NodeLists.{length-words}
 use Rattle.prenex_form.proofs.Limits.{bound-limit, highest-limit}

@@ -7,7 +7,9 @@ use Prim.Native.Nat.{ℕ, _+_, _<_}
 use lib.ListN.{length, getD}
 use Rattle.formula.specs.Node.{Table}
 use Rattle.formula.specs.Words.{tableOf}
-use Rattle.table_check.specs.Verdict.{limit, verdict, accepted}
+use Rattle.refusals.specs.Verdict.{accepted}
+use Rattle.acceptance.specs.Limits.{limit}
+use Rattle.acceptance.specs.Verdict.{verdict}
 use Rattle.prenex_form.specs.Scope.{inner}
 use Rattle.prenex_form.specs.Names.{highestNumber, boundCount, innerBoundBelow, innerBelow, definitionVariable}
 use Rattle.arrays.specs.Held.{firstNew, Bound}

@@ -1,16 +1,52 @@
 -- Which node the words of a table make at each kind, and which kinds make blocks.
 -- Assumes nothing.
-use mathlib.Core.Path.{_≡_, refl, sym, _∙_}
-use mathlib.Core.Bool.{true, false}
-use mathlib.Core.List.{List}
-use Prim.Native.Nat.{ℕ, zero, suc, _<_}
+use mathlib.Core.Path.{_≡_, refl, sym, _∙_, ap}
+use mathlib.Core.Bool.{Bool, true, false}
+use mathlib.Core.List.{List, _++_}
+use Prim.Native.Nat.{ℕ, zero, suc, _+_, _*_, _<_}
 use native.Mathlib.Omega.{arith}
 use lib.Dec.{eqb}
+use lib.ListN.{length, getD}
 use borrow.Author.Tests.{ne-eqb}
 use Rattle.lists.specs.Choice.{pick, clash}
-use Rattle.formula.specs.Node.{exists, for-all, constant, variable, negation, operator, block, isBlock}
-use Rattle.formula.specs.Words.{field, isBlockKind, range, nodeOf, nodeAt}
+use Rattle.formula.specs.Node.{exists, for-all, Node, constant, variable, negation, operator, block, isBlock}
+use Rattle.formula.specs.Truth.{digit}
+use Rattle.formula.specs.Words.{width, field, isBlockKind, range, wordsAt, nodeOf, wordsOf, wordList, nodeAt}
+use Rattle.formula.specs.declared.NodeWords.{NodeWords}
 use Rattle.formula.specs.Form.{quantifierOf}
+
+-- The words of a node, read back.
+
+digit-back : (b : Bool) → eqb (digit b) 1 ≡ b
+unfolding digit
+digit-back true = refl
+digit-back false = refl
+
+pub words-node : (ls : List ℕ) (nd : Node) → isBlock nd ≡ false → nodeOf ls (wordsOf nd) ≡ nd
+unfolding wordsOf nodeOf pick isBlock
+words-node ls (constant b) h = ap constant (digit-back b)
+words-node ls (variable x) h = refl
+words-node ls (negation a) h = refl
+words-node ls (operator f a b) h = refl
+words-node ls (block q xs a) h = clash refl h
+
+pub wordList-length : (w : NodeWords) → length (wordList w) ≡ width
+unfolding wordList
+wordList-length w = refl
+
+-- the words that stand first, and those of the nodes after them
+pub words-first : (w : NodeWords) (ws : List ℕ) → wordsAt (wordList w ++ ws) 0 ≡ w
+unfolding wordList field
+words-first w ws = refl
+
+field-after : (w : NodeWords) (ws : List ℕ) (i f : ℕ) → field (wordList w ++ ws) (suc i) f ≡ field ws i f
+unfolding wordList field
+field-after w ws i f =
+    let e : width * suc i + f ≡ suc (suc (suc (suc (width * i + f)))) = omega arith in
+    ap (λ (k : ℕ). getD (wordList w ++ ws) k 0) e
+
+pub words-after : (w : NodeWords) (ws : List ℕ) (i : ℕ) → wordsAt (wordList w ++ ws) (suc i) ≡ wordsAt ws i
+words-after w ws i = rw (field-after w ws i 0, field-after w ws i 1, field-after w ws i 2, field-after w ws i 3)
 
 -- A word is one of the six kinds, or none.
 pub data Kind (k : ℕ) : Type 0 where

@@ -1,6 +1,6 @@
 pub mod Node
-pub mod Words
 pub mod Valuation
 pub mod Truth
+pub mod Words
 pub mod Form
 pub mod Tree

@@ -2,12 +2,14 @@
 -- and a lent list of 32-bit variable numbers. Nodes count from 0. The last node is the root."
 -- Assumes nothing.
 use mathlib.Core.Bool.{Bool, false, _||_}
-use mathlib.Core.List.{List}
+use mathlib.Core.List.{List, [], _∷_}
 use Prim.Native.Nat.{ℕ, _+_, _*_, _/_}
 use lib.Dec.{eqb}
 use lib.ListN.{length, getD, take, drop}
 use Rattle.lists.specs.Choice.{pick}
 use Rattle.formula.specs.Node.{exists, for-all, Node, constant, variable, negation, operator, block, Table}
+use Rattle.formula.specs.Truth.{digit}
+use Rattle.formula.specs.declared.NodeWords.{NodeWords}
 
 -- The words of a node: a kind and three fields. Nothing else says how many there are.
 abbrev pub width : ℕ
@@ -28,20 +30,40 @@ isBlockKind kind = eqb kind 5 || eqb kind 6
 unfoldable pub range : List ℕ → ℕ → ℕ → List ℕ
 range ls first count = take count (drop first ls)
 
--- The node of a kind with three fields. A word that is no kind reads as constant 0; no accepted table has one.
-unfoldable pub nodeOf : List ℕ → ℕ → ℕ → ℕ → ℕ → Node
-nodeOf ls kind a b c =
-    pick (eqb kind 1) (constant (eqb a 1))
-    (pick (eqb kind 2) (variable a)
-    (pick (eqb kind 3) (negation a)
-    (pick (eqb kind 4) (operator a b c)
-    (pick (eqb kind 5) (block exists (range ls a b) c)
-    (pick (eqb kind 6) (block for-all (range ls a b) c)
+-- The words of node i: its kind and what stands in its fields.
+abbrev pub wordsAt : List ℕ → ℕ → NodeWords
+wordsAt ws i = record { kind = field ws i 0; a = field ws i 1; b = field ws i 2; c = field ws i 3 }
+
+-- The node that words make. A word that is no kind reads as constant 0; no accepted table has one.
+unfoldable pub nodeOf : List ℕ → NodeWords → Node
+nodeOf ls w =
+    pick (eqb (w .kind) 1) (constant (eqb (w .a) 1))
+    (pick (eqb (w .kind) 2) (variable (w .a))
+    (pick (eqb (w .kind) 3) (negation (w .a))
+    (pick (eqb (w .kind) 4) (operator (w .a) (w .b) (w .c))
+    (pick (eqb (w .kind) 5) (block exists (range ls (w .a) (w .b)) (w .c))
+    (pick (eqb (w .kind) 6) (block for-all (range ls (w .a) (w .b)) (w .c))
     (constant false))))))
+
+-- The words of a node, "fields not named .. are 0". Where a block's variables stand in the list is not the node's to say, so a
+-- block has none. Read back, the words of any other node make it (proofs/Nodes.antt: words-node).
+unfoldable pub wordsOf : Node → NodeWords
+wordsOf (constant b) = record { kind = 1; a = digit b; b = 0; c = 0 }
+wordsOf (variable x) = record { kind = 2; a = x; b = 0; c = 0 }
+wordsOf (negation i) = record { kind = 3; a = i; b = 0; c = 0 }
+wordsOf (operator f i j) = record { kind = 4; a = f; b = i; c = j }
+wordsOf (block q xs i) = record { kind = 0; a = 0; b = 0; c = 0 }
+
+-- A node's words in the order in which they stand in a table.
+unfoldable pub wordList : NodeWords → List ℕ
+wordList w = w .kind ∷ w .a ∷ w .b ∷ w .c ∷ []
+
+unfoldable pub nodeWords : Node → List ℕ
+nodeWords n = wordList (wordsOf n)
 
 -- Node i of the table with words ws and list ls.
 unfoldable pub nodeAt : List ℕ → List ℕ → ℕ → Node
-nodeAt ws ls i = nodeOf ls (field ws i 0) (field ws i 1) (field ws i 2) (field ws i 3)
+nodeAt ws ls i = nodeOf ls (wordsAt ws i)
 
 unfoldable pub tableOf : List ℕ → List ℕ → Table
 tableOf ws ls = record { size = nodeCount ws; node = nodeAt ws ls }

@@ -1,12 +1,12 @@
 // What formula tables and prenex forms mean: nodes, ranges, valuations, truth. Definitions stand
 // in specs/, their laws in proofs/. The code here reads and writes one node's words and
 // tests its kind.
-ghost use mathlib.Core.List.{[], _∷_};
 ghost use mathlib.Core.Path.{_≡_};
 ghost use Prim.Native.Nat.{_+_, _*_, _≤_};
 ghost use lib.ListN.{length};
 ghost use Rattle.lists.specs.Parts.{overwrite};
-ghost use Rattle.formula.specs.Words.{width, field, isBlockKind};
+ghost use Rattle.formula.specs.Node.{variable, operator};
+ghost use Rattle.formula.specs.Words.{width, isBlockKind, wordsAt, wordsOf, wordList};
 
 // The words of a node: a kind and three fields. Nothing else says how many there are.
 pub const WIDTH: usize = 4;
@@ -42,7 +42,7 @@ pub struct NodeWords {
 // Node i of a table.
 pub fn node_at(words: &[u32], i: usize) -> NodeWords
     requires { ⌜ width * i + width ≤ length (now words) ⌝ }
-    ensures { λ r. ⌜ (r .kind ≡ field (now (words .entry)) i 0) × (r .a ≡ field (now (words .entry)) i 1) × (r .b ≡ field (now (words .entry)) i 2) × (r .c ≡ field (now (words .entry)) i 3) ⌝ }
+    ensures { λ r. ⌜ r ≡ wordsAt (now (words .entry)) i ⌝ }
 {
     let at = WIDTH * i;
     NodeWords {
@@ -54,13 +54,37 @@ pub fn node_at(words: &[u32], i: usize) -> NodeWords
 }
 
 // Writes a node's words over node `at`.
-pub fn put_node(nodes: &mut [u32], at: usize, kind: u32, a: u32, b: u32, c: u32)
+pub fn put_node(nodes: &mut [u32], at: usize, node: NodeWords)
     requires { ⌜ width * at + width ≤ length (now nodes) ⌝ }
-    ensures { λ _. ⌜ now (nodes .exit) ≡ overwrite (now (nodes .entry)) (width * at) (kind ∷ a ∷ b ∷ c ∷ []) ⌝ }
+    ensures { λ _. ⌜ now (nodes .exit) ≡ overwrite (now (nodes .entry)) (width * at) (wordList node) ⌝ }
 {
     let first = WIDTH * at;
-    nodes[first] = kind;
-    nodes[first + 1] = a;
-    nodes[first + 2] = b;
-    nodes[first + 3] = c;
+    nodes[first] = node.kind;
+    nodes[first + 1] = node.a;
+    nodes[first + 2] = node.b;
+    nodes[first + 3] = node.c;
+}
+
+// The words of a variable node.
+pub fn variable_node(x: u32) -> NodeWords
+    ensures { λ r. ⌜ r ≡ wordsOf (variable x) ⌝ }
+{
+    NodeWords {
+        kind: VARIABLE,
+        a: x,
+        b: 0,
+        c: 0,
+    }
+}
+
+// The words of an operator node.
+pub fn operator_node(table: u32, left: u32, right: u32) -> NodeWords
+    ensures { λ r. ⌜ r ≡ wordsOf (operator table left right) ⌝ }
+{
+    NodeWords {
+        kind: OPERATOR,
+        a: table,
+        b: left,
+        c: right,
+    }
 }

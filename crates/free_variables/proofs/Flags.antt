@@ -23,8 +23,8 @@ use Rattle.formula.specs.Node.{bound}
 use Rattle.formula.specs.Words.{nodeCount, field, isBlockKind, range, nodeAt, tableOf}
 use Rattle.formula.proofs.Nodes.{Kind, kind-constant, kind-variable, kind-negation, kind-operator, kind-exists, kind-for-all, kind-none, kind-of, node-constant, node-variable, node-negation, node-operator, node-exists, node-for-all, node-none}
 use Rattle.formula.proofs.Ranges.{range-length, range-at}
-use Rattle.table_check.specs.Verdict.{isNumber}
-use Rattle.table_check.specs.Accepted.{Accepted}
+use Rattle.acceptance.specs.Verdict.{isNumber}
+use Rattle.acceptance.specs.Accepted.{Accepted}
 use Rattle.prenex_form.specs.Names.{highestNumber}
 use Rattle.prenex_form.specs.FreeVariables.{standsAt, someNode, isFreeVariable, freeVariables}
 use Rattle.prenex_form.proofs.NameLaws.{variable-le}
@@ -229,7 +229,7 @@ entry-in-range ls first count k fits h =
 -- Nodes of an accepted table.
 
 number-below : (x : ℕ) → isNumber x ≡ true → x < 65536
-unfolding isNumber
+unfolding isNumberTo
 number-below x h = let l : x ≤ 65535 = leb-true x 65535 (and-right (leb 1 x) (leb x 65535) h) in omega arith
 
 module _ (ws ls : List ℕ) where

@@ -11,7 +11,7 @@ use Rattle.lists.specs.Choice.{pick, pick-yes, pick-no}
 use Rattle.lists.specs.Parts.{upTo, overwrite}
 use Rattle.lists.proofs.Overwrite.{overwrite-next, length-next, room-for-part}
 use Rattle.formula.specs.Words.{tableOf}
-use Rattle.table_check.specs.Verdict.{verdict}
+use Rattle.acceptance.specs.Verdict.{verdict}
 use Rattle.prenex_form.specs.FreeVariables.{freeVariables}
 use Rattle.free_variables.specs.declared.Listed.{Listed}
 use Rattle.free_variables.specs.Outcome.{Outcome, refused, listing, listed}

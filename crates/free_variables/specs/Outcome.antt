@@ -7,7 +7,7 @@ use lib.ListN.{length}
 use Rattle.lists.specs.Choice.{pick}
 use Rattle.lists.specs.Parts.{overwrite}
 use Rattle.formula.specs.Words.{tableOf}
-use Rattle.table_check.specs.Verdict.{verdict}
+use Rattle.acceptance.specs.Verdict.{verdict}
 use Rattle.prenex_form.specs.FreeVariables.{freeVariables}
 use Rattle.free_variables.specs.declared.Listed.{Listed}
 

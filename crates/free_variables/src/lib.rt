@@ -7,7 +7,7 @@ ghost use Rattle.lists.specs.Choice.{pick};
 ghost use Rattle.lists.specs.Members.{mem};
 ghost use Rattle.lists.specs.Parts.{overwrite};
 ghost use Rattle.formula.specs.Words.{nodeCount, range, tableOf};
-ghost use Rattle.table_check.specs.Accepted.{Accepted};
+ghost use Rattle.acceptance.specs.Accepted.{Accepted};
 ghost use Rattle.prenex_form.specs.FreeVariables.{freeVariables};
 ghost use Rattle.free_variables.specs.Outcome.{Outcome, listing, listed};
 ghost use Rattle.free_variables.specs.Steps.{
@@ -18,8 +18,8 @@ ghost use Rattle.free_variables.specs.Steps.{
   flagged,
 };
 use formula::VARIABLE;
-use table_check::ACCEPTED;
-use table_check::BUFFER_TOO_SHORT;
+use refusals::ACCEPTED;
+use refusals::BUFFER_TOO_SHORT;
 
 // The length of an array that a variable's number is an index of.
 const NUMBERS: usize = 65536;

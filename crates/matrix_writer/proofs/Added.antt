@@ -10,9 +10,9 @@ use borrow.Author.Tests.{leb-true, leb-false}
 use Rattle.lists.specs.Choice.{Is, is-true, is-false, look}
 use Rattle.lists.specs.Parts.{overwrite}
 use Rattle.formula.specs.Node.{Node, Table}
-use Rattle.formula.specs.Words.{width}
+use Rattle.formula.specs.Words.{width, nodeWords}
 use Rattle.prenex_form.specs.Levels.{levels}
-use Rattle.prenex_form.specs.Matrix.{kept, firstNodes, levelNodes, nodesTo, prenexNodes, nodeWords, writtenNodes}
+use Rattle.prenex_form.specs.Matrix.{kept, firstNodes, levelNodes, nodesTo, prenexNodes, writtenNodes}
 use Rattle.prenex_form.proofs.Written.{length-firstNodes}
 use Rattle.matrix_writer.specs.Added.{addedNodes}
 use Rattle.matrix_writer.specs.Buffer.{longestForm, withNodes, Room}

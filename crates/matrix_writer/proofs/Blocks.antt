@@ -16,10 +16,12 @@ use Rattle.formula.specs.Words.{width, nodeCount, field, nodeOf, nodeAt, tableO
 use Rattle.formula.specs.Form.{quantifierOf}
 use Rattle.formula.specs.Tree.{count, boundBelow}
 use Rattle.formula.proofs.Nodes.{Kind, kind-of, kind-constant, kind-variable, kind-negation, kind-operator, kind-exists, kind-for-all, kind-none, block-kind, node-block}
-use Rattle.table_check.specs.Verdict.{limit, verdict, accepted}
-use Rattle.table_check.specs.Accepted.{Accepted}
-use Rattle.table_check.proofs.Accepted.{count-at, accepted-holds}
-use Rattle.table_check.proofs.Faults.{count-block}
+use Rattle.refusals.specs.Verdict.{accepted}
+use Rattle.acceptance.specs.Limits.{limit}
+use Rattle.acceptance.specs.Verdict.{verdict}
+use Rattle.acceptance.specs.Accepted.{Accepted}
+use Rattle.acceptance.proofs.Accepted.{count-at, accepted-holds}
+use Rattle.acceptance.proofs.Accepted.{count-block}
 use Rattle.prenex_form.specs.Scope.{inner}
 use Rattle.prenex_form.specs.Names.{highestNumber, firstName, newNames, boundCount, copies}
 use Rattle.prenex_form.specs.Levels.{quantifierAt}

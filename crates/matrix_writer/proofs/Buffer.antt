@@ -9,8 +9,7 @@ use Rattle.lists.specs.Parts.{overwrite}
 use Rattle.lists.proofs.Parts.{flatMap-append}
 use Rattle.lists.proofs.Overwrite.{overwrite-nil, overwrite-append}
 use Rattle.formula.specs.Node.{Node}
-use Rattle.formula.specs.Words.{width}
-use Rattle.prenex_form.specs.Matrix.{nodeWords}
+use Rattle.formula.specs.Words.{width, nodeWords}
 use Rattle.prenex_form.proofs.NodeLists.{length-words}
 use Rattle.matrix_writer.specs.Buffer.{withNodes, Wrote}
 

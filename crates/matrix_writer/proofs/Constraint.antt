@@ -13,9 +13,9 @@ use Rattle.formula.specs.Node.{Node, Table}
 use Rattle.formula.specs.Words.{width, nodeCount, field, tableOf}
 use Rattle.formula.specs.Form.{quantifierOf}
 use Rattle.formula.specs.Tree.{count}
-use Rattle.table_check.specs.Verdict.{limit}
-use Rattle.table_check.specs.Accepted.{Accepted}
-use Rattle.table_check.proofs.Accepted.{accepted-holds}
+use Rattle.acceptance.specs.Limits.{limit}
+use Rattle.acceptance.specs.Accepted.{Accepted}
+use Rattle.acceptance.proofs.Accepted.{accepted-holds}
 use Rattle.prenex_form.specs.Names.{highestNumber, boundCount, definitionVariable}
 use Rattle.prenex_form.specs.Levels.{quantifierAt}
 use Rattle.prenex_form.specs.Matrix.{bodyOf, equation, guard, constraint}

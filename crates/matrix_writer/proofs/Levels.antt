@@ -11,13 +11,14 @@ use borrow.Author.Tests.{eq-eqb, ne-eqb}
 use Rattle.lists.specs.Choice.{pick-yes, pick-no}
 use Rattle.lists.specs.Parts.{overwrite}
 use Rattle.formula.specs.Node.{exists, for-all, dual, Node, operator, Table}
-use Rattle.formula.specs.Words.{width, nodeCount, field, tableOf}
+use Rattle.formula.specs.Words.{width, nodeCount, field, tableOf, nodeWords}
 use Rattle.formula.specs.Form.{quantifierOf}
-use Rattle.table_check.specs.Verdict.{verdict, accepted}
-use Rattle.table_check.proofs.Accepted.{accepted-holds}
+use Rattle.refusals.specs.Verdict.{accepted}
+use Rattle.acceptance.specs.Verdict.{verdict}
+use Rattle.acceptance.proofs.Accepted.{accepted-holds}
 use Rattle.prenex_form.specs.Scope.{level}
 use Rattle.prenex_form.specs.Levels.{blocksAt, levels, levelQuantifier}
-use Rattle.prenex_form.specs.Matrix.{and, implies, kept, constraint, further, constraints, levelJoin, levelNodes, nodeWords}
+use Rattle.prenex_form.specs.Matrix.{and, implies, kept, constraint, further, constraints, levelJoin, levelNodes}
 use Rattle.prenex_form.specs.Prefix.{kindOf}
 use Rattle.prenex_form.proofs.Alternation.{quantifier-read}
 use Rattle.arrays.specs.Link.{link}

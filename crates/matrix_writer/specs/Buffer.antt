@@ -6,8 +6,7 @@ use Prim.Native.Nat.{ℕ, _+_, _*_, _≤_}
 use lib.ListN.{length}
 use Rattle.lists.specs.Parts.{overwrite}
 use Rattle.formula.specs.Node.{Node}
-use Rattle.formula.specs.Words.{width}
-use Rattle.prenex_form.specs.Matrix.{nodeWords}
+use Rattle.formula.specs.Words.{width, nodeWords}
 
 -- No prenex form has more nodes: 4,096 of the table, 5 for each of as many blocks and 4 for each of as many bound variables.
 abbrev pub longestForm : ℕ

@@ -3,12 +3,12 @@
 ghost use Prim.Native.Nat.{_+_, _≤_};
 ghost use lib.ListN.{length};
 ghost use Rattle.io.specs.Counts.{Counts};
+use acceptance::LIMIT;
 use formula::WIDTH;
 use libc::STDERR_FILENO;
 use prenex::Answer;
 use prenex_form::Sizes;
-use table_check::ACCEPTED;
-use table_check::LIMIT;
+use refusals::ACCEPTED;
 
 // A byte more than files may have, so that a longer one is seen to be too long.
 const ROOM: usize = 65537;

@@ -12,9 +12,11 @@ use Rattle.lists.specs.Choice.{Is, is-true, is-false, look, and-left}
 use Rattle.formula.specs.Node.{Table}
 use Rattle.formula.specs.Words.{nodeCount, tableOf}
 use Rattle.formula.specs.Tree.{Tree}
-use Rattle.table_check.specs.Verdict.{limit, verdict, accepted}
-use Rattle.table_check.specs.Accepted.{Accepted}
-use Rattle.table_check.proofs.Accepted.{accepted-holds}
+use Rattle.refusals.specs.Verdict.{accepted}
+use Rattle.acceptance.specs.Limits.{limit}
+use Rattle.acceptance.specs.Verdict.{verdict}
+use Rattle.acceptance.specs.Accepted.{Accepted}
+use Rattle.acceptance.proofs.Accepted.{accepted-holds}
 use Rattle.prenex_form.specs.Scope.{inner}
 use Rattle.prenex_form.specs.Names.{boundCount}
 use Rattle.prenex_form.specs.Levels.{levels}

@@ -13,9 +13,10 @@ use Rattle.lists.proofs.Members.{mem-head, mem-tail}
 use Rattle.lists.proofs.Parts.{length-numbers}
 use Rattle.formula.specs.Words.{nodeCount, tableOf}
 use Rattle.formula.specs.Tree.{Tree, count, boundBelow}
-use Rattle.table_check.specs.Verdict.{limit, countAt}
-use Rattle.table_check.specs.Accepted.{Accepted}
-use Rattle.table_check.proofs.Accepted.{accepted-holds, count-at}
+use Rattle.acceptance.specs.Limits.{limit}
+use Rattle.acceptance.specs.Verdict.{countAt}
+use Rattle.acceptance.specs.Accepted.{Accepted}
+use Rattle.acceptance.proofs.Accepted.{accepted-holds, count-at}
 use Rattle.prenex_form.specs.Scope.{inner}
 use Rattle.prenex_form.specs.Names.{firstName, newNames, copies, definitionVariable}
 use Rattle.prenex_form.specs.Levels.{blocksAt}

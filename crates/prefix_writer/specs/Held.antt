@@ -5,7 +5,8 @@ use Prim.Native.Nat.{ℕ, zero, suc, _+_, _-_}
 use lib.ListN.{getD}
 use Rattle.lists.specs.Parts.{numbers}
 use Rattle.formula.specs.Words.{nodeCount, tableOf}
-use Rattle.table_check.specs.Verdict.{limit, countAt}
+use Rattle.acceptance.specs.Limits.{limit}
+use Rattle.acceptance.specs.Verdict.{countAt}
 use Rattle.prenex_form.specs.Levels.{blocksAt}
 
 -- No first new name and no first copy is higher: numbers go up to 65,535, and at most 4,096 variables are bound.

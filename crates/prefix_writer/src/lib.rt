@@ -7,7 +7,9 @@ ghost use lib.ListN.{length};
 ghost use Rattle.lists.specs.Parts.{numbers, overwrite};
 ghost use Rattle.formula.specs.Words.{nodeCount, tableOf};
 ghost use Rattle.formula.specs.Form.{prefixWidth};
-ghost use Rattle.table_check.specs.Verdict.{limit, countAt, verdict, accepted};
+ghost use Rattle.refusals.specs.Verdict.{accepted};
+ghost use Rattle.acceptance.specs.Limits.{limit};
+ghost use Rattle.acceptance.specs.Verdict.{countAt, verdict};
 ghost use Rattle.prenex_form.specs.Levels.{blocksAt, levels, levelQuantifier};
 ghost use Rattle.prenex_form.specs.Prefix.{
   blockCount,

@@ -13,15 +13,15 @@ use Rattle.lists.specs.Search.{lowest}
 use Rattle.lists.specs.Members.{mem, all, distinct, times, place}
 use Rattle.lists.specs.Parts.{upTo, numbers, sum, highest, overwrite}
 use Rattle.formula.specs.Node.{dual, operands, isBlock, bound}
-use Rattle.formula.specs.Words.{width, field, isBlockKind, range, nodeOf, nodeAt, tableOf}
+use Rattle.formula.specs.Words.{width, field, isBlockKind, range, nodeOf, nodeAt, tableOf, nodeWords}
 use Rattle.formula.specs.Valuation.{Valuation, update, join, quant}
 use Rattle.formula.specs.Truth.{bit, digit, operatorValue, nodeValue, value, truth}
 use Rattle.formula.specs.Tree.{timesNamed, count, boundBelow}
-use Rattle.table_check.specs.Verdict.{isNumber, partialNode, tooLarge, wellFormed, forwardReference, rangePastEnd, countAt, tooManyVariables, badVariable, nodeFault, notNamedOnce, verdict}
+use Rattle.acceptance.specs.Verdict.{isNumber, partialNode, tooLarge, wellFormed, forwardReference, rangePastEnd, countAt, tooManyVariables, badVariable, nodeFault, notNamedOnce, verdict}
 use Rattle.prenex_form.specs.Scope.{parent, pathUp, path, above, binder, inner, howMany, level, depth}
 use Rattle.prenex_form.specs.Names.{maximum, highestAt, highestNumber, boundCount, firstName, newNames, newName, innerBoundBelow, innerBelow, copies, definitionVariable}
 use Rattle.prenex_form.specs.Levels.{blocksAt, levels, quantifierAt, levelQuantifier}
-use Rattle.prenex_form.specs.Matrix.{kept, renamed, firstNodes, bodyOf, equation, guard, constraint, further, constraints, levelJoin, levelNodes, nodesTo, prenexNodes, nodeWords, writtenNodes}
+use Rattle.prenex_form.specs.Matrix.{kept, renamed, firstNodes, bodyOf, equation, guard, constraint, further, constraints, levelJoin, levelNodes, nodesTo, prenexNodes, writtenNodes}
 use Rattle.prenex_form.specs.Prefix.{blockCount, leading, prefixBlock, prefixBlocks, kindOf, prefixWords, writtenPrefix, writtenVariables}
 use Rattle.prenex_form.specs.Sizes.{addedBy, prefixCount, sizes}
 use Rattle.prenex.specs.Outcome.{noSizes, refusal, done, answerWords, Outcome, tooShort, after, lifted}
@@ -181,7 +181,7 @@ examples =
     ∷ []
 
 examples-pass : every passes examples ≡ true
-unfolding Rattle.table_check.specs.Verdict.accepted Rattle.table_check.specs.Verdict.refusal every passes sameNumbers sameLists hasTruth holding leaves shouldLeave left filled examples refusedRow doneRow belowXor belowXorRow nodesOf answerWords noSizes refusal done tooShort after lifted verdict partialNode tooLarge nodeFault wellFormed forwardReference rangePastEnd tooManyVariables countAt badVariable notNamedOnce isNumber isBlockKind field range nodeOf nodeAt tableOf timesNamed operands isBlock bound dual lowest pick sum all distinct mem times place upTo numbers highest overwrite update join quant bit digit operatorValue nodeValue value truth count boundBelow parent pathUp path above binder inner howMany level depth maximum highestAt highestNumber boundCount firstName newNames newName innerBoundBelow innerBelow copies definitionVariable blocksAt levels quantifierAt levelQuantifier kept renamed firstNodes bodyOf equation guard constraint further constraints levelJoin levelNodes nodesTo prenexNodes nodeWords writtenNodes blockCount leading prefixBlock prefixBlocks kindOf prefixWords writtenPrefix writtenVariables addedBy prefixCount sizes flatMap
+unfolding Rattle.refusals.specs.Verdict.accepted Rattle.refusals.specs.Verdict.refusal every passes sameNumbers sameLists hasTruth holding leaves shouldLeave left filled examples refusedRow doneRow belowXor belowXorRow nodesOf answerWords noSizes refusal done tooShort after lifted verdictWithin partialNode tooLarge nodeFault wellFormed forwardReference rangePastEnd tooManyVariables countAt badVariable notNamedOnce isNumberTo isBlockKind field range nodeOf nodeAt tableOf timesNamed operands isBlock bound dual lowest pick sum all distinct mem times place upTo numbers highest overwrite update join quant bit digit operatorValue nodeValue value truth count boundBelow parent pathUp path above binder inner howMany level depth maximum highestAt highestNumber boundCount firstName newNames newName innerBoundBelow innerBelow copies definitionVariable blocksAt levels quantifierAt levelQuantifier kept renamed firstNodes bodyOf equation guard constraint further constraints levelJoin levelNodes nodesTo prenexNodes nodeWords writtenNodes blockCount leading prefixBlock prefixBlocks kindOf prefixWords writtenPrefix writtenVariables addedBy prefixCount sizes flatMap
 examples-pass = refl
 
 -- From the computed test to the claim.

@@ -13,8 +13,9 @@ use Rattle.lists.specs.Choice.{pick-yes, pick-no, Is, is-true, is-false, look}
 use Rattle.lists.specs.Parts.{overwrite}
 use Rattle.formula.specs.Words.{width, tableOf}
 use Rattle.formula.specs.Form.{prefixWidth}
-use Rattle.table_check.specs.Verdict.{verdict, accepted}
-use Rattle.table_check.proofs.Accepted.{number-zero}
+use Rattle.refusals.specs.Verdict.{accepted}
+use Rattle.acceptance.specs.Verdict.{verdict}
+use Rattle.acceptance.proofs.Accepted.{number-zero}
 use Rattle.prenex_form.specs.declared.Sizes.{Sizes}
 use Rattle.prenex_form.specs.Matrix.{writtenNodes}
 use Rattle.prenex_form.specs.Prefix.{writtenPrefix, writtenVariables}

@@ -7,11 +7,12 @@ use native.Mathlib.Omega.{arith}
 use lib.ListN.{length}
 use Rattle.lists.specs.Parts.{overwrite}
 use Rattle.formula.specs.Node.{Table}
-use Rattle.formula.specs.Words.{width, nodeCount, tableOf}
-use Rattle.table_check.specs.Verdict.{verdict, accepted}
-use Rattle.table_check.proofs.Accepted.{accepted-holds}
+use Rattle.formula.specs.Words.{width, nodeCount, tableOf, nodeWords}
+use Rattle.refusals.specs.Verdict.{accepted}
+use Rattle.acceptance.specs.Verdict.{verdict}
+use Rattle.acceptance.proofs.Accepted.{accepted-holds}
 use Rattle.prenex_form.specs.Levels.{levels}
-use Rattle.prenex_form.specs.Matrix.{kept, firstNodes, nodeWords, prenexNodes, writtenNodes}
+use Rattle.prenex_form.specs.Matrix.{kept, firstNodes, prenexNodes, writtenNodes}
 use Rattle.prenex_form.proofs.NodeLists.{length-words}
 use Rattle.prenex_form.proofs.WrittenSizes.{length-prenexNodes, nodes-few}
 use Rattle.prenex_form.proofs.Limits.{bound-limit, size-limit}

@@ -12,8 +12,9 @@ use Rattle.lists.proofs.Parts.{pick-le}
 use Rattle.formula.specs.Node.{Table, isBlock}
 use Rattle.formula.specs.Words.{nodeCount, tableOf}
 use Rattle.formula.specs.Tree.{Tree}
-use Rattle.table_check.specs.Verdict.{verdict, accepted}
-use Rattle.table_check.proofs.Accepted.{accepted-holds}
+use Rattle.refusals.specs.Verdict.{accepted}
+use Rattle.acceptance.specs.Verdict.{verdict}
+use Rattle.acceptance.proofs.Accepted.{accepted-holds}
 use Rattle.prenex_form.specs.declared.Sizes.{Sizes}
 use Rattle.prenex_form.specs.Scope.{depth}
 use Rattle.prenex_form.specs.Names.{boundCount, innerBoundBelow, innerBelow}

@@ -8,7 +8,9 @@ ghost use Rattle.lists.specs.Parts.{overwrite};
 ghost use Rattle.formula.specs.Node.{isBlock};
 ghost use Rattle.formula.specs.Words.{width, nodeCount, nodeAt, tableOf};
 ghost use Rattle.formula.specs.Form.{prefixWidth};
-ghost use Rattle.table_check.specs.Verdict.{limit, verdict, accepted};
+ghost use Rattle.refusals.specs.Verdict.{accepted};
+ghost use Rattle.acceptance.specs.Limits.{limit};
+ghost use Rattle.acceptance.specs.Verdict.{verdict};
 ghost use Rattle.prenex_form.specs.Sizes.{sizes as sizesOf};
 ghost use Rattle.prenex_form.specs.Promise.{PrenexOf};
 ghost use Rattle.prenex_form.specs.Names.{highestNumber, boundCount};
@@ -19,13 +21,13 @@ ghost use Rattle.scopes.specs.Passes.{Placed, Blank, BlockCounts};
 ghost use Rattle.first_nodes.specs.Given.{Given, Counted};
 ghost use Rattle.prenex.specs.Arrays.{Room, Written};
 ghost use Rattle.prenex.specs.Outcome.{refusal as refusalOf, done as doneOf, measured, after, lifted};
+use acceptance::LIMIT;
 use names::NameCounter;
 use prefix_writer::PREFIX_WIDTH;
 use prenex_form::Sizes;
+use refusals::ACCEPTED;
+use refusals::BUFFER_TOO_SHORT;
 use scopes::Counts;
-use table_check::ACCEPTED;
-use table_check::BUFFER_TOO_SHORT;
-use table_check::LIMIT;
 
 // One scope for each node, and that outside all blocks.
 const SCOPES: usize = LIMIT + 1;

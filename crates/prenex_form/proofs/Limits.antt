@@ -11,15 +11,16 @@ use Rattle.lists.specs.Choice.{and-left, and-right}
 use Rattle.lists.specs.Members.{all}
 use Rattle.lists.proofs.Parts.{highest-le}
 use Rattle.formula.specs.Node.{Node, constant, variable, negation, operator, block, bound}
-use Rattle.formula.specs.Words.{nodeCount, field, nodeAt, tableOf}
+use Rattle.formula.specs.Words.{nodeCount, wordsAt, nodeAt, tableOf}
 use Rattle.formula.proofs.Nodes.{node-constant, node-variable, node-negation, node-operator, node-exists, node-for-all}
-use Rattle.table_check.specs.Verdict.{isNumber}
-use Rattle.table_check.specs.Accepted.{Accepted}
-use Rattle.table_check.proofs.Accepted.{Formed, formed-constant, formed-variable, formed-negation, formed-operator, formed-exists, formed-for-all, formed-cases}
+use Rattle.acceptance.specs.Limits.{tableLimits}
+use Rattle.acceptance.specs.Verdict.{isNumberTo, isNumber}
+use Rattle.acceptance.specs.Accepted.{Accepted}
+use Rattle.acceptance.proofs.Accepted.{Formed, formed-constant, formed-variable, formed-negation, formed-operator, formed-exists, formed-for-all, formed-cases}
 use Rattle.prenex_form.specs.Names.{maximum, highestAt, highestNumber, boundCount}
 
 number-le : (x : ℕ) → isNumber x ≡ true → x ≤ 65535
-unfolding isNumber
+unfolding isNumberTo
 number-le x h = leb-true x 65535 (and-right (leb 1 x) (leb x 65535) h)
 
 maximum-le : (xs : List ℕ) → all isNumber xs ≡ true → maximum xs ≤ 65535
@@ -51,15 +52,15 @@ number-of nd md e h x f = subst (λ (n : ℕ). n ≤ 65535) (ap variable-number 
 module _ (ws ls : List ℕ) (a : Accepted ws ls) where
   variable-limit : (i : ℕ) → i < nodeCount ws → (x : ℕ) → nodeAt ws ls i ≡ variable x → x ≤ 65535
   unfolding variable-number
-  variable-limit i h = go (formed-cases _ _ _ _ (a .formed i h))
+  variable-limit i h = go (formed-cases tableLimits (wordsAt ws i) (a .formed i h))
     where
-      go : Formed (field ws i 0) (field ws i 1) (field ws i 2) (field ws i 3) → (x : ℕ) → nodeAt ws ls i ≡ variable x → x ≤ 65535
+      go : Formed tableLimits (wordsAt ws i) → (x : ℕ) → nodeAt ws ls i ≡ variable x → x ≤ 65535
       go (formed-constant e _ _ _) = number-of _ _ (node-constant ws ls i e) (omega arith)
       go (formed-variable e n _ _) = number-of _ _ (node-variable ws ls i e) (number-le _ n)
       go (formed-negation e _ _) = number-of _ _ (node-negation ws ls i e) (omega arith)
       go (formed-operator e _) = number-of _ _ (node-operator ws ls i e) (omega arith)
-      go (formed-exists e) = number-of _ _ (node-exists ws ls i e) (omega arith)
-      go (formed-for-all e) = number-of _ _ (node-for-all ws ls i e) (omega arith)
+      go (formed-exists e _) = number-of _ _ (node-exists ws ls i e) (omega arith)
+      go (formed-for-all e _) = number-of _ _ (node-for-all ws ls i e) (omega arith)
 
   pub highest-limit : highestNumber (tableOf ws ls) ≤ 65535
   unfolding highestNumber tableOf

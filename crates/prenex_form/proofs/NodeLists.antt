@@ -11,10 +11,11 @@ use lib.ListN.{length, getD, length-append, List·getD-append}
 use lib.Seq.{getD-append-add}
 use Rattle.lists.specs.Choice.{pick, clash}
 use Rattle.formula.specs.Node.{Node, constant, variable, negation, operator, block, Table, isBlock}
-use Rattle.formula.specs.Words.{nodeCount, field, nodeOf, nodeAt, tableOf}
+use Rattle.formula.specs.Words.{width, nodeCount, field, wordsAt, nodeOf, wordsOf, wordList, nodeAt, tableOf, nodeWords}
+use Rattle.formula.specs.declared.NodeWords.{NodeWords}
+use Rattle.formula.proofs.Nodes.{words-node, wordList-length, words-first, words-after}
 use Rattle.formula.specs.Valuation.{Valuation}
-use Rattle.formula.specs.Truth.{digit, operatorValue, nodeValue, value, truth}
-use Rattle.prenex_form.specs.Matrix.{nodeWords}
+use Rattle.formula.specs.Truth.{operatorValue, nodeValue, value, truth}
 
 -- A list of nodes as a table.
 unfoldable pub listTable : List Node → Table
@@ -25,86 +26,53 @@ abbrev pub Plain : List Node → Type 0
 Plain ns = (i : ℕ) → i < length ns → isBlock (getD ns i (constant false)) ≡ false
 
 -- the words of a list of nodes, read back
-pub length-words : (ns : List Node) → length (flatMap nodeWords ns) ≡ 4 * length ns
+pub length-words : (ns : List Node) → length (flatMap nodeWords ns) ≡ width * length ns
 unfolding flatMap nodeWords
 length-words [] = refl
-length-words (constant b ∷ ns) = omega (arith, length-words ns)
-length-words (variable x ∷ ns) = omega (arith, length-words ns)
-length-words (negation a ∷ ns) = omega (arith, length-words ns)
-length-words (operator f a b ∷ ns) = omega (arith, length-words ns)
-length-words (block q xs a ∷ ns) = omega (arith, length-words ns)
+length-words (nd ∷ ns) =
+    omega (arith, length-words ns, length-append (wordList (wordsOf nd)) (flatMap nodeWords ns), wordList-length (wordsOf nd))
 
 pub words-count : (ns : List Node) → nodeCount (flatMap nodeWords ns) ≡ length ns
 words-count ns = omega (arith, length-words ns)
 
--- four words further on
-field-next : (a b c d : ℕ) (ws : List ℕ) (i f : ℕ) → field (a ∷ b ∷ c ∷ d ∷ ws) (suc i) f ≡ field ws i f
-unfolding field
-field-next a b c d ws i f =
-    let e : 4 * suc i + f ≡ suc (suc (suc (suc (4 * i + f)))) = omega arith in
-    ap (λ (k : ℕ). getD (a ∷ b ∷ c ∷ d ∷ ws) k 0) e
-
-node-next : (a b c d : ℕ) (ws : List ℕ) (i : ℕ) → nodeAt (a ∷ b ∷ c ∷ d ∷ ws) [] (suc i) ≡ nodeAt ws [] i
-unfolding nodeAt
-node-next a b c d ws i =
-    rw (field-next a b c d ws i 0, field-next a b c d ws i 1, field-next a b c d ws i 2, field-next a b c d ws i 3)
-
-words-next : (nd : Node) (ns : List Node) (i : ℕ) → nodeAt (flatMap nodeWords (nd ∷ ns)) [] (suc i) ≡ nodeAt (flatMap nodeWords ns) [] i
+words-here : (nd : Node) (ns : List Node) → wordsAt (flatMap nodeWords (nd ∷ ns)) 0 ≡ wordsOf nd
 unfolding flatMap nodeWords
-words-next (constant b) ns i = node-next _ _ _ _ _ i
-words-next (variable x) ns i = node-next _ _ _ _ _ i
-words-next (negation a) ns i = node-next _ _ _ _ _ i
-words-next (operator f a b) ns i = node-next _ _ _ _ _ i
-words-next (block q xs a) ns i = node-next _ _ _ _ _ i
+words-here nd ns = words-first (wordsOf nd) (flatMap nodeWords ns)
 
-digit-back : (b : Bool) → eqb (digit b) 1 ≡ b
-unfolding digit
-digit-back true = refl
-digit-back false = refl
-
-words-first : (nd : Node) (ns : List Node) → isBlock nd ≡ false → nodeAt (flatMap nodeWords (nd ∷ ns)) [] 0 ≡ nd
-unfolding flatMap nodeWords nodeAt field nodeOf pick isBlock
-words-first (constant b) ns h = ap constant (digit-back b)
-words-first (variable x) ns h = refl
-words-first (negation a) ns h = refl
-words-first (operator f a b) ns h = refl
-words-first (block q xs a) ns h = clash refl h
+words-next : (nd : Node) (ns : List Node) (i : ℕ) → wordsAt (flatMap nodeWords (nd ∷ ns)) (suc i) ≡ wordsAt (flatMap nodeWords ns) i
+unfolding flatMap nodeWords
+words-next nd ns i = words-after (wordsOf nd) (flatMap nodeWords ns) i
 
 words-none : (i : ℕ) → nodeAt [] [] i ≡ constant false
 unfolding nodeAt field nodeOf pick
 words-none i = refl
 
--- every node's kind is 1 to 4
-kind-first : (nd : Node) (ns : List Node) → isBlock nd ≡ false
-    → (1 ≤ field (flatMap nodeWords (nd ∷ ns)) 0 0) × (field (flatMap nodeWords (nd ∷ ns)) 0 0 ≤ 4)
-unfolding flatMap nodeWords field isBlock
-kind-first (constant b) ns h = omega arith
-kind-first (variable x) ns h = omega arith
-kind-first (negation a) ns h = omega arith
-kind-first (operator f a b) ns h = omega arith
-kind-first (block q xs a) ns h = clash refl h
+-- node i's words, where there is one
+pub words-at : (ns : List Node) (i : ℕ) → i < length ns → wordsAt (flatMap nodeWords ns) i ≡ wordsOf (getD ns i (constant false))
+words-at [] i h = absurd (not-suc-le-zero h)
+words-at (nd ∷ ns) zero h = words-here nd ns
+words-at (nd ∷ ns) (suc i) h = words-next nd ns i ∙ words-at ns i (omega arith)
 
-kind-next : (nd : Node) (ns : List Node) (i : ℕ) → field (flatMap nodeWords (nd ∷ ns)) (suc i) 0 ≡ field (flatMap nodeWords ns) i 0
-unfolding flatMap nodeWords
-kind-next (constant b) ns i = field-next _ _ _ _ _ i 0
-kind-next (variable x) ns i = field-next _ _ _ _ _ i 0
-kind-next (negation a) ns i = field-next _ _ _ _ _ i 0
-kind-next (operator f a b) ns i = field-next _ _ _ _ _ i 0
-kind-next (block q xs a) ns i = field-next _ _ _ _ _ i 0
+-- every node's kind is 1 to 4
+kind-plain : (nd : Node) → isBlock nd ≡ false → (1 ≤ wordsOf nd .kind) × (wordsOf nd .kind ≤ 4)
+unfolding wordsOf isBlock
+kind-plain (constant b) h = omega arith
+kind-plain (variable x) h = omega arith
+kind-plain (negation a) h = omega arith
+kind-plain (operator f a b) h = omega arith
+kind-plain (block q xs a) h = clash refl h
 
 pub kinds-plain : (ns : List Node) → Plain ns → (i : ℕ) → i < length ns
     → (1 ≤ field (flatMap nodeWords ns) i 0) × (field (flatMap nodeWords ns) i 0 ≤ 4)
-kinds-plain [] plain i h = absurd (not-suc-le-zero h)
-kinds-plain (nd ∷ ns) plain zero h = kind-first nd ns (plain zero h)
-kinds-plain (nd ∷ ns) plain (suc i) h =
-    rw (kind-next nd ns i) (kinds-plain ns (λ j l. plain (suc j) (omega arith)) i (omega arith))
+kinds-plain ns plain i h =
+    rw (ap (λ (w : NodeWords). w .kind) (words-at ns i h)) (kind-plain (getD ns i (constant false)) (plain i h))
 
 -- beyond the end too, both read as constant 0
 pub words-read : (ns : List Node) → Plain ns → (i : ℕ) → nodeAt (flatMap nodeWords ns) [] i ≡ getD ns i (constant false)
-unfolding flatMap
+unfolding nodeAt flatMap
 words-read [] plain i = words-none i
-words-read (nd ∷ ns) plain zero = words-first nd ns (plain zero (omega arith))
-words-read (nd ∷ ns) plain (suc i) = words-next nd ns i ∙ words-read ns (λ j h. plain (suc j) (omega arith)) i
+words-read (nd ∷ ns) plain zero = ap (nodeOf []) (words-here nd ns) ∙ words-node [] nd (plain zero (omega arith))
+words-read (nd ∷ ns) plain (suc i) = ap (nodeOf []) (words-next nd ns i) ∙ words-read ns (λ j h. plain (suc j) (omega arith)) i
 
 pub words-table : (ns : List Node) → Plain ns → tableOf (flatMap nodeWords ns) [] ≡ listTable ns
 unfolding tableOf listTable

@@ -8,9 +8,10 @@ use lib.ListN.{getD}
 use Rattle.formula.specs.Node.{constant, Table}
 use Rattle.formula.specs.Words.{width, nodeAt, tableOf}
 use Rattle.formula.specs.Tree.{Tree}
-use Rattle.table_check.specs.Verdict.{verdict, accepted}
-use Rattle.table_check.specs.Accepted.{Accepted}
-use Rattle.table_check.proofs.Accepted.{accepted-holds}
+use Rattle.refusals.specs.Verdict.{accepted}
+use Rattle.acceptance.specs.Verdict.{verdict}
+use Rattle.acceptance.specs.Accepted.{Accepted}
+use Rattle.acceptance.proofs.Accepted.{accepted-holds}
 use Rattle.prenex_form.specs.Matrix.{prenexNodes, writtenNodes}
 use Rattle.prenex_form.specs.Prefix.{writtenPrefix, writtenVariables}
 use Rattle.prenex_form.specs.Sizes.{sizes}

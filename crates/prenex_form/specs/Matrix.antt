@@ -7,7 +7,7 @@ use lib.ListN.{length, getD}
 use Rattle.lists.specs.Choice.{pick}
 use Rattle.lists.specs.Parts.{upTo}
 use Rattle.formula.specs.Node.{Quantifier, exists, for-all, Node, constant, variable, negation, operator, block, Table, isBlock}
-use Rattle.formula.specs.Truth.{digit}
+use Rattle.formula.specs.Words.{nodeWords}
 use Rattle.formula.specs.Tree.{count}
 use Rattle.prenex_form.specs.Names.{newName, newNames, copies, definitionVariable}
 use Rattle.prenex_form.specs.Levels.{blocksAt, levels, quantifierAt, levelQuantifier}
@@ -109,13 +109,6 @@ nodesTo t (suc j) = let ns = nodesTo t j in ns ++ levelNodes t j (length ns)
 unfoldable pub prenexNodes : Table → List Node
 prenexNodes t = nodesTo t (levels t)
 
--- A node's words: kind and three fields, unused ones 0. No prenex form holds a block.
-unfoldable pub nodeWords : Node → List ℕ
-nodeWords (constant b) = 1 ∷ digit b ∷ 0 ∷ 0 ∷ []
-nodeWords (variable x) = 2 ∷ x ∷ 0 ∷ 0 ∷ []
-nodeWords (negation a) = 3 ∷ a ∷ 0 ∷ 0 ∷ []
-nodeWords (operator f a b) = 4 ∷ f ∷ a ∷ b ∷ []
-nodeWords (block q xs a) = 0 ∷ 0 ∷ 0 ∷ 0 ∷ []
-
+-- The nodes' words, one node after the other. No prenex form holds a block.
 unfoldable pub writtenNodes : Table → List ℕ
 writtenNodes t = flatMap nodeWords (prenexNodes t)

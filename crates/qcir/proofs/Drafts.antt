@@ -16,7 +16,7 @@ use Rattle.formula.specs.Words.{nodeCount, isBlockKind, nodeOf, tableOf}
 use Rattle.formula.specs.Valuation.{Valuation, quant}
 use Rattle.formula.specs.Truth.{operatorValue}
 use Rattle.formula.specs.Tree.{timesNamed}
-use Rattle.table_check.specs.Verdict.{isNumber, wellFormed}
+use Rattle.acceptance.specs.Verdict.{isNumber, wellFormed}
 use Rattle.qcir.specs.Meaning.{Meaning}
 use Rattle.qcir.specs.Table.{Draft, Stored, store, storeBlock, blockKind}
 use Rattle.qcir.proofs.StoredWords.{withNode, Extends, extends-same, extends-append, range-appended, count-with}

@@ -11,7 +11,7 @@ use borrow.Author.Tests.{eqb-true, not-false}
 use Rattle.lists.specs.Choice.{pick, pick-yes, pick-no, Is, is-true, is-false, look, clash, absent, and-both, or-neither, or-neither-right, or-right}
 use Rattle.lists.specs.Members.{mem, times, distinct}
 use Rattle.lists.proofs.Members.{mem-head, mem-left, mem-right, mem-tail, times-zero, times-append}
-use Rattle.table_check.specs.Verdict.{isNumber}
+use Rattle.acceptance.specs.Verdict.{isNumber}
 use Rattle.qcir.specs.File.{Name, Gate, gateName, gateVariables, gateInputs, Line, lineVariables, prefixVariables, File, numbersOf, namesOf}
 use Rattle.qcir.specs.Refusals.{keep, gateNames, outerNames, quantifiedNames, repeated, repeatedInGates, gatesListed, namingGates, without, earlyUses, misplaced, inputNumbers, usedNumbers, notUsedOnce}
 use Rattle.qcir.proofs.Keep.{keep-none}

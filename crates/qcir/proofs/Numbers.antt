@@ -5,7 +5,7 @@ use mathlib.Core.Bool.{true}
 use mathlib.Core.List.{List, [], _∷_, _++_}
 use Prim.Native.Nat.{ℕ}
 use Rattle.lists.specs.Members.{mem}
-use Rattle.table_check.specs.Verdict.{isNumber}
+use Rattle.acceptance.specs.Verdict.{isNumber}
 use Rattle.qcir.specs.File.{Name, Gate, gateName, gateVariables, gateInputs, File, numbersOf, namesOf}
 use Rattle.qcir.specs.Refusals.{outerNames}
 

@@ -13,8 +13,8 @@ use Rattle.lists.specs.Parts.{sum}
 use Rattle.lists.proofs.Parts.{sum-cong}
 use Rattle.formula.specs.Node.{Quantifier, exists, for-all}
 use Rattle.formula.specs.Words.{width, nodeCount, field, isBlockKind}
-use Rattle.table_check.specs.Verdict.{countAt}
-use Rattle.table_check.proofs.Faults.{count-block, count-none}
+use Rattle.acceptance.specs.Verdict.{countAt}
+use Rattle.acceptance.proofs.Accepted.{count-block, count-none}
 use Rattle.qcir.specs.File.{Literal, Gate, junction-gate, xor-gate, quantified-gate, Line, lineVariables, File, numbersOf}
 use Rattle.qcir.specs.Table.{Draft, Stored, store, storeName, storeLiteral, storeInputs, blockKind, storeBlock, junctionTable, emptyValue, storeGate, storeGates, storePrefix, emptyDraft, fileDraft, tableWords, tableList}
 use Rattle.qcir.specs.Reading.{exceeds}

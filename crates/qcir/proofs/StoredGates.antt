@@ -15,7 +15,7 @@ use Rattle.formula.specs.Words.{tableOf}
 use Rattle.formula.specs.Valuation.{Valuation}
 use Rattle.formula.specs.Truth.{bit, digit, operatorValue}
 use Rattle.formula.specs.Tree.{timesNamed}
-use Rattle.table_check.specs.Verdict.{isNumber}
+use Rattle.acceptance.specs.Verdict.{isNumber}
 use Rattle.qcir.specs.File.{Name, Literal, Junction, conjunction, disjunction, Gate, junction-gate, xor-gate, quantified-gate, gateName, gateVariables, gateInputs, Line, lineVariables, numbersOf, namesOf}
 use Rattle.qcir.specs.Meaning.{Meaning, literalValue, junctionValue, gateValue, meaning, prefixValue}
 use Rattle.qcir.specs.Refusals.{inputNumbers}

@@ -14,8 +14,8 @@ use Rattle.formula.specs.Node.{Node, operands, bound}
 use Rattle.formula.specs.Words.{width, nodeCount, field, isBlockKind, nodeOf, nodeAt, tableOf}
 use Rattle.formula.specs.Tree.{timesNamed}
 use Rattle.formula.proofs.Unfolding.{Lower}
-use Rattle.table_check.specs.Verdict.{isNumber, wellFormed}
-use Rattle.table_check.proofs.Accepted.{Fits}
+use Rattle.acceptance.specs.Verdict.{isNumber, wellFormed}
+use Rattle.acceptance.proofs.Accepted.{Fits}
 use Rattle.qcir.proofs.StoredWords.{withNode, Extends, count-with, whole-with, field-kept, field-new, node-kept, node-new}
 use Rattle.qcir.proofs.StoredValues.{Kept}
 

@@ -10,7 +10,7 @@ use lib.Seq.{getD-append-add, drop-append-le, drop-append-seam, take-append-le, 
 use Rattle.lists.specs.Choice.{pick}
 use Rattle.formula.specs.Words.{width, nodeCount, field, isBlockKind, range, nodeOf, nodeAt}
 use Rattle.formula.proofs.Nodes.{Kind, kind-of, kind-constant, kind-variable, kind-negation, kind-operator, kind-exists, kind-for-all, kind-none}
-use Rattle.table_check.proofs.Accepted.{Fits}
+use Rattle.acceptance.proofs.Accepted.{Fits}
 
 -- The words of ws and of one node more.
 abbrev pub withNode : List ℕ → ℕ → ℕ → ℕ → ℕ → List ℕ

@@ -18,9 +18,11 @@ use Rattle.formula.specs.Words.{width, nodeCount, nodeAt, tableOf}
 use Rattle.formula.specs.Valuation.{Valuation}
 use Rattle.formula.specs.Truth.{truth}
 use Rattle.formula.specs.Tree.{timesNamed, Tree}
-use Rattle.table_check.specs.Verdict.{limit, countAt, verdict, accepted}
-use Rattle.table_check.specs.Accepted.{Accepted}
-use Rattle.table_check.proofs.Accepted.{counts-below, holds-accepted}
+use Rattle.refusals.specs.Verdict.{accepted}
+use Rattle.acceptance.specs.Limits.{limit}
+use Rattle.acceptance.specs.Verdict.{countAt, verdict}
+use Rattle.acceptance.specs.Accepted.{Accepted}
+use Rattle.acceptance.proofs.Accepted.{counts-below, holds-accepted}
 use Rattle.qcir.specs.File.{File}
 use Rattle.qcir.specs.Meaning.{Meaning, literalValue, meaning, prefixValue, fileTruth}
 use Rattle.qcir.specs.Refusals.{misplaced, notUsedOnce}

@@ -12,7 +12,9 @@ use Rattle.lists.specs.Parts.{sum, overwrite}
 use Rattle.formula.specs.Words.{nodeCount, field, isBlockKind, tableOf}
 use Rattle.formula.specs.Valuation.{Valuation}
 use Rattle.formula.specs.Truth.{truth}
-use Rattle.table_check.specs.Verdict.{limit, countAt, verdict, accepted}
+use Rattle.refusals.specs.Verdict.{accepted}
+use Rattle.acceptance.specs.Limits.{limit}
+use Rattle.acceptance.specs.Verdict.{countAt, verdict}
 use Rattle.qcir.specs.File.{File}
 use Rattle.qcir.specs.Spelling.{Spells, SpellingFault}
 use Rattle.qcir.specs.Meaning.{fileTruth}

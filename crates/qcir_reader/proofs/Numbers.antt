@@ -8,7 +8,7 @@ use lib.Dec.{leb}
 use Rattle.lists.specs.Choice.{and-left, and-right, and-both, or-cases, clash}
 use Rattle.lists.specs.Members.{mem, all}
 use Rattle.lists.proofs.Members.{mem-left, mem-right, mem-append, mem-tail, all-mem}
-use Rattle.table_check.specs.Verdict.{isNumber}
+use Rattle.acceptance.specs.Verdict.{isNumber}
 use Rattle.qcir.specs.File.{Name, Literal, Gate, junction-gate, xor-gate, quantified-gate, gateName, gateVariables, gateInputs, Line, lineVariables, prefixVariables, File, numbersOf, namesOf}
 use Rattle.qcir.specs.Refusals.{outerNames}
 use Rattle.qcir.proofs.Numbers.{lineNames, linesNames, allNumbers, Ranged}
@@ -83,7 +83,7 @@ output-names x f h =
     (λ k. numbers-right x (f .output .name ∷ []) (tokenNames (gatesTokens (f .gates))) (gates-names x (f .gates) k))
 
 all-numbered : (ts : List Token) → numbered 65535 ts ≡ true → all isNumber (numbersOf (tokenNames ts)) ≡ true
-unfolding numbered tokenNames numbersOf all isNumber
+unfolding numbered tokenNames numbersOf all isNumberTo
 all-numbered [] h = refl
 all-numbered (t ∷ ts) h =
     let n = t .name .number in

@@ -12,7 +12,7 @@ use Rattle.lists.specs.Choice.{pick, pick-yes, pick-no, clash, or-left, or-righ
 use Rattle.lists.specs.Parts.{overwrite}
 use Rattle.lists.specs.Search.{lowest}
 use Rattle.formula.specs.Words.{width, nodeCount}
-use Rattle.table_check.specs.Verdict.{limit}
+use Rattle.acceptance.specs.Limits.{limit}
 use Rattle.qcir.specs.File.{File}
 use Rattle.qcir.specs.Refusals.{least, misplaced, notUsedOnce, unbound}
 use Rattle.qcir.specs.Table.{tableWords, tableList}

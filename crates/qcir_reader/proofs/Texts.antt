@@ -17,7 +17,7 @@ use Rattle.lists.proofs.Overwrite.{take-overwrite}
 use Rattle.formula.specs.Words.{nodeCount, tableOf}
 use Rattle.formula.specs.Valuation.{Valuation}
 use Rattle.formula.specs.Truth.{truth}
-use Rattle.table_check.specs.Verdict.{limit}
+use Rattle.acceptance.specs.Limits.{limit}
 use Rattle.qcir.specs.File.{File}
 use Rattle.qcir.specs.Spelling.{Spells, SpellingFault}
 use Rattle.qcir.specs.Meaning.{fileTruth}

@@ -10,10 +10,10 @@ ghost use Rattle.qcir_tokens.specs.Tokens.{fileTokens, ascending};
 ghost use Rattle.qcir_tokens.specs.Held.{tokensFrom, Definitions};
 ghost use Rattle.qcir_reader.specs.Reads.{after, Reads};
 ghost use Rattle.qcir_reader.specs.Stages.{refusal, HoldsFile};
+use acceptance::LIMIT;
 use qcir_tokens::NUMBERS;
 use qcir_tokens::TOKENS;
-use table_check::BUFFER_TOO_SHORT;
-use table_check::LIMIT;
+use refusals::BUFFER_TOO_SHORT;
 
 // The most bytes of a text.
 const BYTES: usize = 65536;

@@ -15,7 +15,8 @@ use Rattle.lists.specs.Parts.{sum}
 use Rattle.lists.proofs.Search.{lowest-cong}
 use Rattle.lists.proofs.Parts.{sum-cong}
 use Rattle.formula.specs.Words.{nodeCount, field, isBlockKind}
-use Rattle.table_check.specs.Verdict.{limit, countAt}
+use Rattle.acceptance.specs.Limits.{limit}
+use Rattle.acceptance.specs.Verdict.{countAt}
 use Rattle.qcir.specs.Reading.{exceeds}
 use Rattle.qcir.specs.Table.{Draft, store, emptyDraft}
 

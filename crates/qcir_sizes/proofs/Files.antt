@@ -14,7 +14,7 @@ use Rattle.lists.proofs.Members.{eqb-swap}
 use Rattle.lists.specs.Search.{lowest}
 use Rattle.formula.specs.Node.{Quantifier, exists, for-all}
 use Rattle.formula.specs.Words.{nodeCount, isBlockKind}
-use Rattle.table_check.specs.Verdict.{limit}
+use Rattle.acceptance.specs.Limits.{limit}
 use Rattle.qcir.specs.File.{Name, Literal, Junction, Gate, junction-gate, xor-gate, quantified-gate, gateName, Line, lineVariables, File, numbersOf}
 use Rattle.qcir.specs.Table.{Draft, Stored, store, storeName, storeLiteral, storeInputs, blockKind, storeBlock, junctionTable, emptyValue, storeGate, storeGates, storePrefix, emptyDraft, fileDraft, tableWords, tableList}
 use Rattle.qcir.specs.Reading.{exceeds}

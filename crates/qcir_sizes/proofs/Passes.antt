@@ -10,7 +10,7 @@ use lib.Dec.{eqb, leb, ltb}
 use lib.ListN.{getD}
 use Rattle.lists.specs.Choice.{pick, pick-yes, pick-no}
 use Rattle.lists.proofs.Parts.{pick-le}
-use Rattle.table_check.specs.Verdict.{limit}
+use Rattle.acceptance.specs.Limits.{limit}
 use Rattle.qcir_tokens.specs.Tokens.{Token, isOuter, isFree, isDefinition, isBound, isInput, isMinus}
 use Rattle.qcir_tokens.specs.Held.{tokenAt, tokensFrom}
 use Rattle.qcir_tokens.proofs.Tokens.{tokens-end, tokens-next}

@@ -6,7 +6,7 @@ use Prim.Native.Nat.{ℕ, zero, suc, _+_, _*_, _≤_}
 use lib.Dec.{eqb, leb, ltb}
 use lib.ListN.{getD}
 use Rattle.lists.specs.Choice.{pick}
-use Rattle.table_check.specs.Verdict.{limit}
+use Rattle.acceptance.specs.Limits.{limit}
 use Rattle.qcir_tokens.specs.Tokens.{Token, isOuter, isFree, isDefinition, isBound, isInput, isMinus}
 use Rattle.qcir_sizes.specs.declared.Pass.{Pass}
 use Rattle.qcir_sizes.specs.declared.TableSizes.{TableSizes}

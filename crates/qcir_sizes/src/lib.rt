@@ -8,7 +8,7 @@ ghost use lib.ListN.{length, getD};
 ghost use Rattle.lists.specs.Choice.{pick};
 ghost use Rattle.lists.specs.Search.{lowest};
 ghost use Rattle.formula.specs.Words.{nodeCount};
-ghost use Rattle.table_check.specs.Verdict.{limit};
+ghost use Rattle.acceptance.specs.Limits.{limit};
 ghost use Rattle.qcir.specs.File.{File};
 ghost use Rattle.qcir.specs.Table.{tableWords, tableList};
 ghost use Rattle.qcir.specs.Reading.{exceeds};
@@ -241,7 +241,7 @@ fn add_block(s: Pass) -> Pass
 fn excess_or(entries: u32, excess: u32, other: u32) -> u32
     ensures { λ r. ⌜ r ≡ pick (ltb limit entries) excess other ⌝ }
 {
-    if table_check::LIMIT < entries as usize {
+    if acceptance::LIMIT < entries as usize {
         return excess;
     }
     other

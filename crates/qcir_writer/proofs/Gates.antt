@@ -14,7 +14,7 @@ use Rattle.lists.specs.Parts.{overwrite}
 use Rattle.lists.proofs.Overwrite.{overwrite-nil}
 use Rattle.lists.proofs.Stores.{getD-set}
 use Rattle.formula.specs.Words.{width}
-use Rattle.table_check.specs.Verdict.{limit}
+use Rattle.acceptance.specs.Limits.{limit}
 use Rattle.qcir.specs.Table.{emptyDraft}
 use Rattle.qcir_tokens.specs.Tokens.{isDefinition, isBound, isLast}
 use Rattle.qcir_tokens.specs.Held.{numberCount}

@@ -11,7 +11,7 @@ use Rattle.lists.specs.Choice.{pick}
 use Rattle.lists.specs.Parts.{overwrite}
 use Rattle.lists.proofs.Overwrite.{overwrite-nil}
 use Rattle.formula.specs.Words.{width}
-use Rattle.table_check.specs.Verdict.{limit}
+use Rattle.acceptance.specs.Limits.{limit}
 use Rattle.qcir_writer.specs.declared.Progress.{Progress}
 use Rattle.qcir_writer.specs.Nodes.{Added, addNone, addNode, Room, Wrote}
 use Rattle.qcir_writer.specs.Passes.{startsLine, lineBlockKind, addLine, addIfLine, Lines, addOuter, linesWritten}

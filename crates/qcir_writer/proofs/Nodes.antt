@@ -11,7 +11,7 @@ use lib.ListN.{length, length-append}
 use Rattle.lists.specs.Choice.{pick, pick-yes, pick-no}
 use Rattle.lists.proofs.Overwrite.{overwrite-nil}
 use Rattle.formula.specs.Words.{width}
-use Rattle.table_check.specs.Verdict.{limit}
+use Rattle.acceptance.specs.Limits.{limit}
 use Rattle.qcir_tokens.specs.Tokens.{isMinus, isLast, emptyRole}
 use Rattle.qcir_writer.specs.declared.Progress.{Progress}
 use Rattle.qcir_writer.specs.Nodes.{

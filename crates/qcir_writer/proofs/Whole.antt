@@ -8,7 +8,7 @@ use lib.ListN.{length, getD, replicate, length-replicate, length-append}
 use Rattle.lists.specs.Parts.{overwrite}
 use Rattle.lists.proofs.Stores.{getD-filled}
 use Rattle.formula.specs.Words.{width}
-use Rattle.table_check.specs.Verdict.{limit}
+use Rattle.acceptance.specs.Limits.{limit}
 use Rattle.qcir.specs.File.{File}
 use Rattle.qcir.specs.Table.{tableWords, tableList}
 use Rattle.qcir_tokens.specs.Tokens.{isMinus, fileTokens}

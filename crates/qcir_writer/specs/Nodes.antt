@@ -9,7 +9,7 @@ use lib.ListN.{length}
 use Rattle.lists.specs.Choice.{pick}
 use Rattle.lists.specs.Parts.{overwrite}
 use Rattle.formula.specs.Words.{width}
-use Rattle.table_check.specs.Verdict.{limit}
+use Rattle.acceptance.specs.Limits.{limit}
 use Rattle.qcir_tokens.specs.Tokens.{isDefinition, isBound, isMinus, isLast, emptyRole}
 use Rattle.qcir_writer.specs.declared.Progress.{Progress}
 

@@ -5,7 +5,7 @@ use mathlib.Core.Path.{_≡_}
 use Prim.Native.Nat.{ℕ, _≤_}
 use lib.ListN.{length}
 use Rattle.formula.specs.Words.{nodeCount}
-use Rattle.table_check.specs.Verdict.{limit}
+use Rattle.acceptance.specs.Limits.{limit}
 use Rattle.qcir.specs.File.{File}
 use Rattle.qcir.specs.Table.{tableWords, tableList}
 use Rattle.qcir_tokens.specs.Tokens.{fileTokens}

@@ -8,7 +8,7 @@ ghost use lib.Seq.{slice};
 ghost use Rattle.lists.specs.Choice.{pick};
 ghost use Rattle.lists.specs.Parts.{overwrite};
 ghost use Rattle.formula.specs.Words.{width};
-ghost use Rattle.table_check.specs.Verdict.{limit};
+ghost use Rattle.acceptance.specs.Limits.{limit};
 ghost use Rattle.qcir.specs.File.{File};
 ghost use Rattle.qcir.specs.Table.{tableWords, tableList};
 ghost use Rattle.qcir_tokens.specs.Tokens.{isMinus, isLast, fileTokens};

@@ -17,8 +17,10 @@ use Rattle.formula.specs.declared.NodeWords.{NodeWords}
 use Rattle.formula.specs.Words.{nodeCount, range, nodeAt, tableOf}
 use Rattle.formula.specs.Tree.{count, boundBelow}
 use Rattle.formula.proofs.Nodes.{block-kind}
-use Rattle.table_check.specs.Verdict.{limit, verdict, accepted}
-use Rattle.table_check.proofs.Accepted.{accepted-holds}
+use Rattle.refusals.specs.Verdict.{accepted}
+use Rattle.acceptance.specs.Limits.{limit}
+use Rattle.acceptance.specs.Verdict.{verdict}
+use Rattle.acceptance.proofs.Accepted.{accepted-holds}
 use Rattle.prenex_form.specs.Scope.{inner, level}
 use Rattle.prenex_form.specs.Names.{maximum, highestAt, highestNumber, boundCount}
 use Rattle.prenex_form.proofs.NameLaws.{none-bound}

@@ -16,8 +16,10 @@ use Rattle.formula.specs.declared.NodeWords.{NodeWords}
 use Rattle.formula.specs.Words.{nodeCount, nodeAt, tableOf}
 use Rattle.formula.specs.Tree.{Tree, count, boundBelow}
 use Rattle.formula.proofs.Nodes.{block-kind}
-use Rattle.table_check.specs.Verdict.{limit, countAt, verdict, accepted}
-use Rattle.table_check.proofs.Accepted.{accepted-holds, count-at}
+use Rattle.refusals.specs.Verdict.{accepted}
+use Rattle.acceptance.specs.Limits.{limit}
+use Rattle.acceptance.specs.Verdict.{countAt, verdict}
+use Rattle.acceptance.proofs.Accepted.{accepted-holds, count-at}
 use Rattle.prenex_form.specs.Scope.{parent, inner, level}
 use Rattle.prenex_form.specs.Levels.{levels}
 use Rattle.prenex_form.specs.Names.{boundCount, innerBoundBelow, innerBelow}

@@ -15,8 +15,10 @@ use Rattle.formula.specs.declared.NodeWords.{NodeWords}
 use Rattle.formula.specs.Words.{nodeCount, field, isBlockKind, range, nodeOf, nodeAt, tableOf}
 use Rattle.formula.specs.Tree.{Tree}
 use Rattle.formula.proofs.Nodes.{Kind, kind-of, kind-constant, kind-variable, kind-negation, kind-operator, kind-exists, kind-for-all, kind-none, node-variable, is-block, node-block}
-use Rattle.table_check.specs.Verdict.{limit, verdict, accepted}
-use Rattle.table_check.proofs.Accepted.{accepted-holds}
+use Rattle.refusals.specs.Verdict.{accepted}
+use Rattle.acceptance.specs.Limits.{limit}
+use Rattle.acceptance.specs.Verdict.{verdict}
+use Rattle.acceptance.proofs.Accepted.{accepted-holds}
 use Rattle.prenex_form.specs.Names.{maximum, highestAt}
 use Rattle.arrays.specs.Held.{isMember}
 use Rattle.arrays.proofs.Members.{no-member}

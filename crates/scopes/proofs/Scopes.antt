@@ -18,7 +18,9 @@ use Rattle.lists.proofs.Parts.{highest-le}
 use Rattle.formula.specs.Node.{Table, operands, isBlock}
 use Rattle.formula.specs.Words.{nodeCount, nodeAt, tableOf}
 use Rattle.formula.specs.Tree.{Tree}
-use Rattle.table_check.specs.Verdict.{limit, verdict, accepted}
+use Rattle.refusals.specs.Verdict.{accepted}
+use Rattle.acceptance.specs.Limits.{limit}
+use Rattle.acceptance.specs.Verdict.{verdict}
 use Rattle.prenex_form.specs.Scope.{parent, inner, level}
 use Rattle.prenex_form.specs.Levels.{levels}
 use Rattle.prenex_form.proofs.Paths.{parent-is, parent-lt, parent-higher, root-parent, level-root, level-step, level-below}

@@ -12,7 +12,7 @@ use Rattle.lists.specs.Parts.{sum, highest}
 use Rattle.formula.specs.Node.{Table, isBlock}
 use Rattle.formula.specs.Words.{tableOf}
 use Rattle.formula.specs.Tree.{boundBelow}
-use Rattle.table_check.specs.Verdict.{limit}
+use Rattle.acceptance.specs.Limits.{limit}
 use Rattle.prenex_form.specs.Scope.{parent, inner, level}
 use Rattle.prenex_form.specs.Levels.{levels}
 use Rattle.prenex_form.specs.Names.{highestAt, highestNumber, boundCount, innerBoundBelow, innerBelow}

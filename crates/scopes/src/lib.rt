@@ -9,7 +9,9 @@ ghost use lib.ListN.{length, getD, set};
 ghost use Rattle.lists.specs.Choice.{pick};
 ghost use Rattle.formula.specs.Node.{isBlock};
 ghost use Rattle.formula.specs.Words.{nodeCount, range, nodeAt, tableOf};
-ghost use Rattle.table_check.specs.Verdict.{limit, verdict, accepted};
+ghost use Rattle.refusals.specs.Verdict.{accepted};
+ghost use Rattle.acceptance.specs.Limits.{limit};
+ghost use Rattle.acceptance.specs.Verdict.{verdict};
 ghost use Rattle.prenex_form.specs.Names.{maximum, highestNumber, boundCount};
 ghost use Rattle.arrays.specs.Held.{
   isMember,

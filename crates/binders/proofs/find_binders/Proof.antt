@@ -3,7 +3,7 @@
 use native.Mathlib.Omega.{arith}
 use borrow.Author.Needs.{needs}
 use Rattle.formula.specs.Words.{tableOf}
-use Rattle.table_check.proofs.Accepted.{accepted-holds}
+use Rattle.acceptance.proofs.Accepted.{accepted-holds}
 use Rattle.prenex_form.proofs.Limits.{highest-limit}
 use Rattle.binders.proofs.Outside.{open-outside}
 use Rattle.binders.proofs.find_binders.Statement.{statement}

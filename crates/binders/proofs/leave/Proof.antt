@@ -6,7 +6,7 @@ use native.Mathlib.Omega.{arith}
 use lib.ListN.{length}
 use borrow.Author.Needs.{needs}
 use Rattle.formula.specs.Words.{tableOf}
-use Rattle.table_check.specs.Verdict.{limit}
+use Rattle.acceptance.specs.Limits.{limit}
 use Rattle.binders.specs.Scope.{Open}
 use Rattle.binders.proofs.Tables.{node-within}
 use Rattle.binders.proofs.Blocks.{BlockAt, block-at, entry-lt, range-lt, entry-head, entry-taken, leave-start, leave-end}

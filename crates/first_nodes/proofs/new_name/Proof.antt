@@ -2,7 +2,7 @@
 -- Assumes nothing.
 use native.Mathlib.Omega.{arith}
 use borrow.Author.Needs.{needs}
-use Rattle.table_check.proofs.Accepted.{accepted-holds}
+use Rattle.acceptance.proofs.Accepted.{accepted-holds}
 use Rattle.first_nodes.proofs.Renamed.{keeps-number, name-small, takes-name}
 use Rattle.first_nodes.proofs.new_name.Statement.{statement}
 use Rattle.first_nodes.proofs.new_name.Tie as tie

@@ -2,7 +2,7 @@
 -- Assumes nothing.
 use native.Mathlib.Omega.{arith}
 use borrow.Author.Needs.{needs}
-use Rattle.table_check.proofs.Accepted.{accepted-holds}
+use Rattle.acceptance.proofs.Accepted.{accepted-holds}
 use Rattle.first_nodes.proofs.Defined.{name-left, named-none, is-definition, named-next}
 use Rattle.first_nodes.proofs.Renamed.{kept-lt, kept-node, is-inner, not-inner, variable-is, variable-written, block-written, copy-written}
 use Rattle.first_nodes.proofs.write_node.Statement.{statement}

@@ -45,7 +45,7 @@ shared-slice-read-t18 c = search needs
 
 returns : tie.Need-returns
 unfolding field
-returns c = (rw add-zero, refl, refl, refl)
+returns c = rw add-zero
 
 pub node-at-spec : {M : Type 1} → statement M
 node-at-spec =

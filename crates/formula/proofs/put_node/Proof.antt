@@ -2,6 +2,7 @@
 -- Assumes nothing.
 use lib.ListN.{length-set}
 use Rattle.lists.proofs.Overwrite.{set-four}
+use Rattle.formula.specs.Words.{wordList}
 use native.Mathlib.Omega.{arith}
 use borrow.Author.Needs.{needs}
 use Rattle.formula.proofs.put_node.Statement.{statement}
@@ -47,6 +48,7 @@ same-length : tie.Need-same-length
 same-length c = simp length-set
 
 returns : tie.Need-returns
+unfolding wordList
 returns c = set-four _ _ _ _ _ _ (omega arith)
 
 pub put-node-spec : {M : Type 1} → statement M

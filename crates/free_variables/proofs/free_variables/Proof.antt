@@ -3,7 +3,7 @@
 use mathlib.Core.Path.{_∙_, ap}
 use native.Mathlib.Omega.{arith}
 use borrow.Author.Needs.{needs}
-use Rattle.table_check.proofs.Accepted.{number-zero, accepted-holds}
+use Rattle.acceptance.proofs.Accepted.{number-zero, accepted-holds}
 use Rattle.free_variables.proofs.Listing.{listed-refused, listed-accepted}
 use Rattle.free_variables.proofs.free_variables.Statement.{statement}
 use Rattle.free_variables.proofs.free_variables.Tie as tie

@@ -3,7 +3,7 @@
 use mathlib.Core.Path.{_∙_, sym, ap}
 use borrow.Author.Needs.{needs}
 use Rattle.formula.specs.Words.{isBlockKind}
-use Rattle.table_check.proofs.Faults.{count-block, count-none}
+use Rattle.acceptance.proofs.Accepted.{count-block, count-none}
 use Rattle.prefix_writer.proofs.count_at.Statement.{statement}
 use Rattle.prefix_writer.proofs.count_at.Tie as tie
 

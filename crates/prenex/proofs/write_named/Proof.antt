@@ -2,7 +2,7 @@
 -- Assumes nothing.
 use mathlib.Core.Path.{refl}
 use Rattle.formula.specs.Words.{tableOf}
-use Rattle.table_check.proofs.Accepted.{accepted-holds}
+use Rattle.acceptance.proofs.Accepted.{accepted-holds}
 use Rattle.lists.specs.Parts.{sum}
 use Rattle.prenex_form.specs.Names.{boundCount, innerBelow}
 use Rattle.prenex_form.proofs.NameLaws.{innerBound-le}

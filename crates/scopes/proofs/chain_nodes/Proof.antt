@@ -4,7 +4,7 @@ use mathlib.Core.Path.{_≡_, sym, _∙_, subst}
 use Prim.Native.Nat.{_+_, _-_, _≤_}
 use native.Mathlib.Omega.{arith}
 use Rattle.formula.specs.Words.{nodeCount, tableOf}
-use Rattle.table_check.proofs.Accepted.{accepted-holds}
+use Rattle.acceptance.proofs.Accepted.{accepted-holds}
 use Rattle.prenex_form.proofs.Limits.{highest-limit}
 use Rattle.scopes.specs.Passes.{ChainedFrom}
 use Rattle.scopes.proofs.Chaining.{passed-none, levels-done, members-done, starts-done, highest-done}

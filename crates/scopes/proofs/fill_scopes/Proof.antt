@@ -6,7 +6,7 @@ use Prim.Native.Nat.{ℕ, _+_, _-_, _≤_, _<_}
 use native.Mathlib.Omega.{arith}
 use lib.ListN.{length, length-set}
 use Rattle.formula.specs.Words.{nodeCount, tableOf}
-use Rattle.table_check.specs.Verdict.{limit}
+use Rattle.acceptance.specs.Limits.{limit}
 use Rattle.scopes.specs.Passes.{ScopesFrom, CountsFrom}
 use Rattle.scopes.proofs.Nodes.{accepted-tree, nodes-few, nodes-some}
 use Rattle.scopes.proofs.Scopes.{scopes-begun, scopes-end}

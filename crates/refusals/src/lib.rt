@@ -1,0 +1,57 @@
+// The numbers of the refusals, the verdict that carries one, and what a call answers and leaves
+// (specs/).
+ghost use mathlib.Core.Path.{_≡_};
+ghost use Rattle.refusals.specs.Verdict.{refusal as refusalOf, accepted as acceptedOf};
+
+// The number of what is not refused (document 01: done).
+pub const ACCEPTED: u32 = 0;
+
+// The refusals of tables, each with document 01's word for it.
+// ragged
+pub const PARTIAL_NODE: u32 = 1;
+// oversize
+pub const TOO_LARGE: u32 = 2;
+// odd node
+pub const MALFORMED_NODE: u32 = 3;
+// forward
+pub const FORWARD_REFERENCE: u32 = 4;
+// overhang
+pub const RANGE_PAST_END: u32 = 5;
+// crowd
+pub const TOO_MANY_VARIABLES: u32 = 6;
+// bad name
+pub const BAD_VARIABLE: u32 = 7;
+// not a tree
+pub const NOT_A_TREE: u32 = 8;
+// no room, of an operation that writes to lent buffers
+pub const BUFFER_TOO_SHORT: u32 = 9;
+
+// The refusals of QCIR texts (request S-1).
+pub const MISSPELLED: u32 = 10;
+
+pub const MISPLACED_NAME: u32 = 11;
+
+pub const UNBOUND_VARIABLE: u32 = 12;
+
+pub const GATE_NOT_USED_ONCE: u32 = 13;
+
+// The number of a refusal (0: accepted) and its position.
+pub struct Verdict {
+    pub number: u32,
+    pub position: u32,
+}
+
+pub fn refusal(number: u32, position: u32) -> Verdict
+    ensures { λ r. ⌜ r ≡ refusalOf number position ⌝ }
+{
+    Verdict { number, position }
+}
+
+pub fn accepted() -> Verdict
+    ensures { λ r. ⌜ r ≡ acceptedOf ⌝ }
+{
+    Verdict {
+        number: ACCEPTED,
+        position: 0,
+    }
+}
