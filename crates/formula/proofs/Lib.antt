@@ -1,4 +1,5 @@
 pub mod Coincidence
+pub mod Meaning
 pub mod Nodes
 pub mod Operators
 pub mod Quantify

@@ -4,3 +4,5 @@ pub mod Truth
 pub mod Words
 pub mod Form
 pub mod Tree
+pub mod Meaning
+pub mod Laws
