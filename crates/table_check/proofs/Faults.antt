@@ -10,15 +10,26 @@ use lib.Dec.{eqb, leb, ltb}
 use lib.ListN.{length}
 use borrow.Author.Count.{below-none, below-more}
 use borrow.Author.Tests.{eqb-true, eqb-false, eq-eqb, ne-eqb, ltb-true, ltb-false, lt-ltb, le-ltb, le-leb, lt-leb, not-true, not-false}
-use Rattle.lists.specs.Choice.{pick, pick-yes, pick-no, Is, is-true, is-false, look, or-neither-left, or-neither-right}
+use Rattle.lists.specs.Choice.{pick, pick-yes, pick-no, Is, is-true, is-false, look, clash, or-neither-left, or-neither-right}
 use Rattle.lists.specs.Search.{lowest}
 use Rattle.lists.specs.Parts.{sum}
 use Rattle.lists.proofs.Search.{lowest-holds, lowest-before, lowest-is, lowest-none}
-use Rattle.formula.specs.Words.{width, nodeCount, field, isBlockKind}
-use Rattle.table_check.specs.Verdict.{limit, isNumber, partialNode, tooLarge, wellFormed, forwardReference, rangePastEnd, countAt, tooManyVariables, badVariable, nodeFault, refusal, accepted, verdict}
-use Rattle.table_check.specs.Steps.{goodRange, wordsFault, blockFault, blockNodeFault, nodesVerdict, treeVerdict}
-use Rattle.table_check.specs.declared.Verdict.{Verdict}
-use Rattle.table_check.proofs.Named.{block-elim, not-once-is}
+use Rattle.formula.specs.Words.{width, nodeCount, field, isBlockKind, wordsAt}
+use Rattle.formula.specs.declared.NodeWords.{NodeWords}
+use Rattle.formula.proofs.Nodes.{Kind, kind-of, kind-constant, kind-variable, kind-negation, kind-operator, kind-exists, kind-for-all, kind-none}
+use Rattle.refusals.specs.Verdict.{refusal, accepted}
+use Rattle.refusals.specs.declared.Verdict.{Verdict}
+use Rattle.acceptance.specs.Limits.{limit, tableLimits}
+use Rattle.acceptance.specs.Verdict.{isNumber, partialNode, tooLarge, wellFormed, forwardReference, rangePastEnd, countAt, tooManyVariables, badVariable, nodeFault, verdictWithin, verdict}
+use Rattle.acceptance.proofs.Accepted.{count-block, count-none}
+use Rattle.range_check.specs.Chains.{goodRange}
+use Rattle.tree_check.specs.Named.{treeVerdict}
+use Rattle.tree_check.proofs.Named.{not-once-is}
+use Rattle.table_check.specs.Steps.{wordsFault, blockFault, blockNodeFault, nodesVerdict}
+
+-- a node's fault within the limits of formula tables
+abbrev pub faultAt : List ℕ → List ℕ → ℕ → ℕ
+faultAt = nodeFault tableLimits
 
 -- a choice between a refusal's number and what comes after, where neither applies
 clear : (t : Bool) (n rest : ℕ) → 0 < n → pick t n rest ≡ 0 → (t ≡ false) × (rest ≡ 0)
@@ -26,120 +37,127 @@ unfolding pick
 clear true n rest l e = absurd (omega arith)
 clear false n rest l e = (refl, e)
 
--- how many variables a node binds, by its kind
-pub count-block : (ws : List ℕ) (i : ℕ) → isBlockKind (field ws i 0) ≡ true → countAt ws i ≡ field ws i 2
-unfolding countAt
-count-block ws i k = pick-yes _ _ _ k
-
-pub count-none : (ws : List ℕ) (i : ℕ) → isBlockKind (field ws i 0) ≡ false → countAt ws i ≡ 0
-unfolding countAt
-count-none ws i k = pick-no _ _ _ k
-
 -- a node that is no block binds nothing
-pub binds-none : (ws : List ℕ) (i before kind : ℕ) → field ws i 0 ≡ kind → isBlockKind kind ≡ false → before + countAt ws i ≡ before
-binds-none ws i before kind e k = omega (arith, count-none ws i (rw (← e) at k))
+pub binds-none : (ws : List ℕ) (i before : ℕ) → isBlockKind (field ws i 0) ≡ false → before + countAt ws i ≡ before
+binds-none ws i before k = omega (arith, count-none ws i k)
 
 -- A block above blocks that bind `before` variables.
-module _ (ls : List ℕ) (before first count : ℕ) where
-  pub block-past-end : length ls < first + count → blockFault ls before first count ≡ 5
+module _ (ls : List ℕ) (before : ℕ) (w : NodeWords) where
+  pub block-past-end : length ls < w .a + w .b → blockFault ls before w ≡ 5
   unfolding blockFault
   block-past-end h = pick-yes _ _ _ (lt-ltb _ _ h)
 
-  pub block-too-many : first + count ≤ length ls → limit < before + count → blockFault ls before first count ≡ 6
+  pub block-too-many : w .a + w .b ≤ length ls → limit < before + w .b → blockFault ls before w ≡ 6
   unfolding blockFault
   block-too-many f h = pick-no _ _ _ (le-ltb _ _ f) ∙ pick-yes _ _ _ (lt-ltb _ _ h)
 
-  pub block-bad : first + count ≤ length ls → before + count ≤ limit → goodRange ls first count ≡ false → blockFault ls before first count ≡ 7
+  pub block-bad : w .a + w .b ≤ length ls → before + w .b ≤ limit → goodRange ls (w .a) (w .b) ≡ false → blockFault ls before w ≡ 7
   unfolding blockFault
   block-bad f m g = pick-no _ _ _ (le-ltb _ _ f) ∙ pick-no _ _ _ (le-ltb _ _ m) ∙ pick-yes _ _ _ (ap not g)
 
-  pub block-none : first + count ≤ length ls → before + count ≤ limit → goodRange ls first count ≡ true → blockFault ls before first count ≡ 0
+  pub block-none : w .a + w .b ≤ length ls → before + w .b ≤ limit → goodRange ls (w .a) (w .b) ≡ true → blockFault ls before w ≡ 0
   unfolding blockFault
   block-none f m g = pick-no _ _ _ (le-ltb _ _ f) ∙ pick-no _ _ _ (le-ltb _ _ m) ∙ pick-no _ _ _ (ap not g)
 
 -- The words of a node that is no block, by kind.
-module _ (i a b c : ℕ) where
-  pub variable-sound : (isNumber a && eqb b 0 && eqb c 0) ≡ true → wordsFault i 2 a b c ≡ 0
+module _ (i : ℕ) (w : NodeWords) where
+  pub variable-sound : w .kind ≡ 2 → (isNumber (w .a) && eqb (w .b) 0 && eqb (w .c) 0) ≡ true → wordsFault i w ≡ 0
   unfolding wordsFault wellFormed forwardReference isBlockKind pick
-  variable-sound h = rw h
+  variable-sound k h = rw (k, h)
 
-  pub variable-malformed : (isNumber a && eqb b 0 && eqb c 0) ≡ false → wordsFault i 2 a b c ≡ 3
+  pub variable-malformed : w .kind ≡ 2 → (isNumber (w .a) && eqb (w .b) 0 && eqb (w .c) 0) ≡ false → wordsFault i w ≡ 3
   unfolding wordsFault wellFormed forwardReference isBlockKind pick
-  variable-malformed h = rw h
+  variable-malformed k h = rw (k, h)
 
-  pub constant-sound : (leb a 1 && eqb b 0 && eqb c 0) ≡ true → wordsFault i 1 a b c ≡ 0
+  pub constant-sound : w .kind ≡ 1 → (leb (w .a) 1 && eqb (w .b) 0 && eqb (w .c) 0) ≡ true → wordsFault i w ≡ 0
   unfolding wordsFault wellFormed forwardReference isBlockKind pick
-  constant-sound h = rw h
+  constant-sound k h = rw (k, h)
 
-  pub constant-malformed : (leb a 1 && eqb b 0 && eqb c 0) ≡ false → wordsFault i 1 a b c ≡ 3
+  pub constant-malformed : w .kind ≡ 1 → (leb (w .a) 1 && eqb (w .b) 0 && eqb (w .c) 0) ≡ false → wordsFault i w ≡ 3
   unfolding wordsFault wellFormed forwardReference isBlockKind pick
-  constant-malformed h = rw h
+  constant-malformed k h = rw (k, h)
 
-  pub operator-malformed : 15 < a → wordsFault i 4 a b c ≡ 3
+  pub operator-malformed : w .kind ≡ 4 → 15 < w .a → wordsFault i w ≡ 3
   unfolding wordsFault wellFormed forwardReference isBlockKind pick
-  operator-malformed h = rw (lt-leb a 15 h)
+  operator-malformed k h = rw (k, lt-leb (w .a) 15 h)
 
-  pub operator-forward : a ≤ 15 → (leb i b || leb i c) ≡ true → wordsFault i 4 a b c ≡ 4
+  pub operator-forward : w .kind ≡ 4 → w .a ≤ 15 → (leb i (w .b) || leb i (w .c)) ≡ true → wordsFault i w ≡ 4
   unfolding wordsFault wellFormed forwardReference isBlockKind pick
-  operator-forward h f = rw (le-leb a 15 h, f)
+  operator-forward k h f = rw (k, le-leb (w .a) 15 h, f)
 
-  pub operator-sound : a ≤ 15 → (leb i b || leb i c) ≡ false → wordsFault i 4 a b c ≡ 0
+  pub operator-sound : w .kind ≡ 4 → w .a ≤ 15 → (leb i (w .b) || leb i (w .c)) ≡ false → wordsFault i w ≡ 0
   unfolding wordsFault wellFormed forwardReference isBlockKind pick
-  operator-sound h f = rw (le-leb a 15 h, f)
+  operator-sound k h f = rw (k, le-leb (w .a) 15 h, f)
 
-  pub negation-malformed : (eqb b 0 && eqb c 0) ≡ false → wordsFault i 3 a b c ≡ 3
+  pub negation-malformed : w .kind ≡ 3 → (eqb (w .b) 0 && eqb (w .c) 0) ≡ false → wordsFault i w ≡ 3
   unfolding wordsFault wellFormed forwardReference isBlockKind pick
-  negation-malformed h = rw h
+  negation-malformed k h = rw (k, h)
 
-  pub negation-forward : (eqb b 0 && eqb c 0) ≡ true → i ≤ a → wordsFault i 3 a b c ≡ 4
+  pub negation-forward : w .kind ≡ 3 → (eqb (w .b) 0 && eqb (w .c) 0) ≡ true → i ≤ w .a → wordsFault i w ≡ 4
   unfolding wordsFault wellFormed forwardReference isBlockKind pick
-  negation-forward h f = rw (h, le-leb i a f)
+  negation-forward k h f = rw (k, h, le-leb i (w .a) f)
 
-  pub negation-sound : (eqb b 0 && eqb c 0) ≡ true → a < i → wordsFault i 3 a b c ≡ 0
+  pub negation-sound : w .kind ≡ 3 → (eqb (w .b) 0 && eqb (w .c) 0) ≡ true → w .a < i → wordsFault i w ≡ 0
   unfolding wordsFault wellFormed forwardReference isBlockKind pick
-  negation-sound h f = rw (h, lt-leb i a f)
+  negation-sound k h f = rw (k, h, lt-leb i (w .a) f)
 
 -- A block at node i, above blocks that bind `before` variables.
-module _ (ls : List ℕ) (i before first count body : ℕ) where
-  pub block-forward : i ≤ body → blockNodeFault ls i before first count body ≡ 4
+module _ (ls : List ℕ) (i before : ℕ) (w : NodeWords) where
+  pub block-forward : i ≤ w .c → blockNodeFault ls i before w ≡ 4
   unfolding blockNodeFault
-  block-forward h = pick-yes _ _ _ (le-leb i body h)
+  block-forward h = pick-yes _ _ _ (le-leb i (w .c) h)
 
-  pub block-backward : body < i → blockNodeFault ls i before first count body ≡ blockFault ls before first count
+  pub block-backward : w .c < i → blockNodeFault ls i before w ≡ blockFault ls before w
   unfolding blockNodeFault
-  block-backward h = pick-no _ _ _ (lt-leb i body h)
+  block-backward h = pick-no _ _ _ (lt-leb i (w .c) h)
 
 -- A block's words are well formed, and it names its body.
-module _ (kind a b c : ℕ) (k : isBlockKind kind ≡ true) where
-  block-formed : wellFormed kind a b c ≡ true
+module _ (w : NodeWords) (k : isBlockKind (w .kind) ≡ true) where
+  block-formed : wellFormed tableLimits w ≡ true
   unfolding wellFormed isBlockKind
-  block-formed = block-elim (λ n. wellFormed n a b c ≡ true) kind k refl refl
+  block-formed = go (kind-of (w .kind))
+    where
+      go : Kind (w .kind) → wellFormed tableLimits w ≡ true
+      go (kind-constant e) = clash k (rw e)
+      go (kind-variable e) = clash k (rw e)
+      go (kind-negation e) = clash k (rw e)
+      go (kind-operator e) = clash k (rw e)
+      go (kind-exists e) = rw e
+      go (kind-for-all e) = rw e
+      go (kind-none e1 e2 e3 e4 e5 e6) = clash k (rw (e5, e6))
 
-  block-names : (i : ℕ) → forwardReference i kind a b c ≡ leb i c
+  block-names : (i : ℕ) → forwardReference i w ≡ leb i (w .c)
   unfolding forwardReference isBlockKind
-  block-names i = block-elim (λ n. forwardReference i n a b c ≡ leb i c) kind k refl refl
+  block-names i = go (kind-of (w .kind))
+    where
+      go : Kind (w .kind) → forwardReference i w ≡ leb i (w .c)
+      go (kind-constant e) = clash k (rw e)
+      go (kind-variable e) = clash k (rw e)
+      go (kind-negation e) = clash k (rw e)
+      go (kind-operator e) = clash k (rw e)
+      go (kind-exists e) = rw e
+      go (kind-for-all e) = rw e
+      go (kind-none e1 e2 e3 e4 e5 e6) = clash k (rw (e5, e6))
 
 -- Node i of a table.
 module _ (ws ls : List ℕ) (i : ℕ) where
   -- a node that is no block has only refusals 3 and 4
-  pub fault-words : (kind : ℕ) → field ws i 0 ≡ kind → isBlockKind kind ≡ false → nodeFault ws ls i ≡ wordsFault i kind (field ws i 1) (field ws i 2) (field ws i 3)
+  pub fault-words : isBlockKind (field ws i 0) ≡ false → faultAt ws ls i ≡ wordsFault i (wordsAt ws i)
   unfolding nodeFault wordsFault rangePastEnd tooManyVariables badVariable pick
-  fault-words kind e k = rw (e, k)
+  fault-words k = rw k
 
-  pub fault-block : isBlockKind (field ws i 0) ≡ true → nodeFault ws ls i ≡ blockNodeFault ls i (sum (countAt ws) i) (field ws i 1) (field ws i 2) (field ws i 3)
+  pub fault-block : isBlockKind (field ws i 0) ≡ true → faultAt ws ls i ≡ blockNodeFault ls i (sum (countAt ws) i) (wordsAt ws i)
   unfolding nodeFault rangePastEnd tooManyVariables badVariable blockNodeFault blockFault goodRange
-  fault-block k =
-      pick-no _ _ _ (ap not (block-formed (field ws i 0) (field ws i 1) (field ws i 2) (field ws i 3) k))
-      ∙ rw (block-names (field ws i 0) (field ws i 1) (field ws i 2) (field ws i 3) k i, k)
+  fault-block k = pick-no _ _ _ (ap not (block-formed (wordsAt ws i) k)) ∙ rw (block-names (wordsAt ws i) k i, k)
 
   -- a word that is no kind
   pub fault-no-kind : (field ws i 0 ≡ 1 → ⊥) → (field ws i 0 ≡ 2 → ⊥) → (field ws i 0 ≡ 3 → ⊥) → (field ws i 0 ≡ 4 → ⊥) → isBlockKind (field ws i 0) ≡ false
-      → nodeFault ws ls i ≡ 3
+      → faultAt ws ls i ≡ 3
   unfolding nodeFault wellFormed
   fault-no-kind d1 d2 d3 d4 k =
       pick-yes _ _ _ (rw (ne-eqb (field ws i 0) 1 d1, ne-eqb (field ws i 0) 2 d2, ne-eqb (field ws i 0) 3 d3, ne-eqb (field ws i 0) 4 d4, k) refl)
 
-  module _ (none : nodeFault ws ls i ≡ 0) where
+  module _ (none : faultAt ws ls i ≡ 0) where
     few : isBlockKind (field ws i 0) ≡ true → sum (countAt ws) i + field ws i 2 ≤ limit
     unfolding blockNodeFault blockFault
     few k =
@@ -161,19 +179,19 @@ counts-more ws i = rw add-one
 pub record Checked (ws ls : List ℕ) (before i : ℕ) : Type 0 where
   pub counted : before ≡ sum (countAt ws) i
   pub few : before ≤ limit
-  pub faultless : (j : ℕ) → j < i → nodeFault ws ls j ≡ 0
+  pub faultless : (j : ℕ) → j < i → faultAt ws ls j ≡ 0
 
 pub checked-none : (ws ls : List ℕ) → Checked ws ls 0 0
 unfolding sum
-checked-none ws ls = record { counted = refl; few = omega arith; faultless = below-none (λ j. nodeFault ws ls j ≡ 0) }
+checked-none ws ls = record { counted = refl; few = omega arith; faultless = below-none (λ j. faultAt ws ls j ≡ 0) }
 
 -- the count and what node i adds to it
-pub checked-more : (ws ls : List ℕ) (before after i : ℕ) → Checked ws ls before i → nodeFault ws ls i ≡ 0 → after ≡ before + countAt ws i → Checked ws ls after (i + 1)
+pub checked-more : (ws ls : List ℕ) (before after i : ℕ) → Checked ws ls before i → faultAt ws ls i ≡ 0 → after ≡ before + countAt ws i → Checked ws ls after (i + 1)
 checked-more ws ls before after i p f e =
     record {
       counted = rw (e, p .counted) (sym (counts-more ws i));
       few = rw (e, p .counted) (counts-fit ws ls i f (rw (p .counted) at (p .few)));
-      faultless = below-more (λ j. nodeFault ws ls j ≡ 0) i (p .faultless) f;
+      faultless = below-more (λ j. faultAt ws ls j ≡ 0) i (p .faultless) f;
     }
 
 -- whole nodes, and one at least
@@ -186,29 +204,29 @@ some-node ws p =
 -- The two passes of a table.
 module _ (ws ls : List ℕ) where
   abbrev faulty : ℕ → Bool
-  faulty i = not (eqb (nodeFault ws ls i) 0)
+  faulty i = not (eqb (faultAt ws ls i) 0)
 
   abbrev at : ℕ
   at = lowest faulty (nodeCount ws)
 
-  not-faulty : (i : ℕ) → nodeFault ws ls i ≡ 0 → faulty i ≡ false
-  not-faulty i e = ap not (eq-eqb (nodeFault ws ls i) 0 e)
+  not-faulty : (i : ℕ) → faultAt ws ls i ≡ 0 → faulty i ≡ false
+  not-faulty i e = ap not (eq-eqb (faultAt ws ls i) 0 e)
 
-  pub nodes-refused : (i : ℕ) → i < nodeCount ws → ((j : ℕ) → j < i → nodeFault ws ls j ≡ 0) → (nodeFault ws ls i ≡ 0 → ⊥) → nodesVerdict ws ls ≡ refusal (nodeFault ws ls i) i
+  pub nodes-refused : (i : ℕ) → i < nodeCount ws → ((j : ℕ) → j < i → faultAt ws ls j ≡ 0) → (faultAt ws ls i ≡ 0 → ⊥) → nodesVerdict ws ls ≡ refusal (faultAt ws ls i) i
   unfolding nodesVerdict
   nodes-refused i h below f =
-      let e : at ≡ i = lowest-is faulty (nodeCount ws) i h (ap not (ne-eqb (nodeFault ws ls i) 0 f)) (λ j l. not-faulty j (below j l)) in
+      let e : at ≡ i = lowest-is faulty (nodeCount ws) i h (ap not (ne-eqb (faultAt ws ls i) 0 f)) (λ j l. not-faulty j (below j l)) in
       rw e (pick-yes _ _ _ (lt-ltb i (nodeCount ws) h))
 
-  pub nodes-passed : ((j : ℕ) → j < nodeCount ws → nodeFault ws ls j ≡ 0) → nodesVerdict ws ls ≡ refusal 0 0
-  unfolding nodesVerdict accepted refusal
+  pub nodes-passed : ((j : ℕ) → j < nodeCount ws → faultAt ws ls j ≡ 0) → nodesVerdict ws ls ≡ accepted
+  unfolding nodesVerdict
   nodes-passed below =
       let e : at ≡ nodeCount ws = lowest-none faulty (nodeCount ws) (λ j l. not-faulty j (below j l)) in
       pick-no _ _ _ (le-ltb at (nodeCount ws) (omega arith))
 
   -- what the first pass says of the table
   data Pass : Type 0 where
-    refused : at < nodeCount ws → nodesVerdict ws ls ≡ refusal (nodeFault ws ls at) at → Pass
+    refused : at < nodeCount ws → nodesVerdict ws ls ≡ refusal (faultAt ws ls at) at → Pass
     passed : nodeCount ws ≤ at → nodesVerdict ws ls ≡ accepted → Pass
 
   pass : Is (ltb at (nodeCount ws)) → Pass
@@ -219,36 +237,36 @@ module _ (ws ls : List ℕ) where
   first-pass : Pass
   first-pass = pass (look (ltb at (nodeCount ws)))
 
-  none-from : Pass → nodesVerdict ws ls .number ≡ 0 → (i : ℕ) → i < nodeCount ws → nodeFault ws ls i ≡ 0
+  none-from : Pass → nodesVerdict ws ls .number ≡ 0 → (i : ℕ) → i < nodeCount ws → faultAt ws ls i ≡ 0
   unfolding refusal
   none-from (refused h e) z i l =
-      let f : not (eqb (nodeFault ws ls at) 0) ≡ true = lowest-holds faulty (nodeCount ws) h in
-      let g : nodeFault ws ls at ≡ 0 = ap (λ (v : Verdict). v .number) (sym e) ∙ z in
-      absurd (eqb-false (nodeFault ws ls at) 0 (not-true _ f) g)
-  none-from (passed h e) z i l = eqb-true (nodeFault ws ls i) 0 (not-false _ (lowest-before faulty (nodeCount ws) i (omega arith)))
+      let f : not (eqb (faultAt ws ls at) 0) ≡ true = lowest-holds faulty (nodeCount ws) h in
+      let g : faultAt ws ls at ≡ 0 = ap (λ (v : Verdict). v .number) (sym e) ∙ z in
+      absurd (eqb-false (faultAt ws ls at) 0 (not-true _ f) g)
+  none-from (passed h e) z i l = eqb-true (faultAt ws ls i) 0 (not-false _ (lowest-before faulty (nodeCount ws) i (omega arith)))
 
   -- no node has a fault where the first pass accepts
-  none-faulty : nodesVerdict ws ls .number ≡ 0 → (i : ℕ) → i < nodeCount ws → nodeFault ws ls i ≡ 0
+  none-faulty : nodesVerdict ws ls .number ≡ 0 → (i : ℕ) → i < nodeCount ws → faultAt ws ls i ≡ 0
   none-faulty = none-from first-pass
 
   pub verdict-partial : partialNode ws ≡ true → verdict ws ls ≡ refusal 1 0
-  unfolding verdict
+  unfolding verdictWithin
   verdict-partial p = pick-yes _ _ _ p
 
-  pub verdict-large : partialNode ws ≡ false → tooLarge ws ls ≡ true → verdict ws ls ≡ refusal 2 0
-  unfolding verdict
+  pub verdict-large : partialNode ws ≡ false → tooLarge tableLimits ws ls ≡ true → verdict ws ls ≡ refusal 2 0
+  unfolding verdictWithin
   verdict-large p l = pick-no _ _ _ p ∙ pick-yes _ _ _ l
 
-  by-nodes : partialNode ws ≡ false → tooLarge ws ls ≡ false → (nodesVerdict ws ls .number ≡ 0 → ⊥) → Pass → verdict ws ls ≡ nodesVerdict ws ls
-  unfolding verdict accepted
+  by-nodes : partialNode ws ≡ false → tooLarge tableLimits ws ls ≡ false → (nodesVerdict ws ls .number ≡ 0 → ⊥) → Pass → verdict ws ls ≡ nodesVerdict ws ls
+  unfolding verdictWithin accepted
   by-nodes p l f (refused h e) = pick-no _ _ _ p ∙ pick-no _ _ _ l ∙ pick-yes _ _ _ (lt-ltb _ _ h) ∙ sym e
   by-nodes p l f (passed h e) = absurd (f (ap (λ (v : Verdict). v .number) e))
 
-  pub verdict-nodes : partialNode ws ≡ false → tooLarge ws ls ≡ false → (nodesVerdict ws ls .number ≡ 0 → ⊥) → verdict ws ls ≡ nodesVerdict ws ls
+  pub verdict-nodes : partialNode ws ≡ false → tooLarge tableLimits ws ls ≡ false → (nodesVerdict ws ls .number ≡ 0 → ⊥) → verdict ws ls ≡ nodesVerdict ws ls
   verdict-nodes p l f = by-nodes p l f first-pass
 
-  pub verdict-tree : partialNode ws ≡ false → tooLarge ws ls ≡ false → nodesVerdict ws ls .number ≡ 0 → verdict ws ls ≡ treeVerdict ws
-  unfolding verdict treeVerdict
+  pub verdict-tree : partialNode ws ≡ false → tooLarge tableLimits ws ls ≡ false → nodesVerdict ws ls .number ≡ 0 → verdict ws ls ≡ treeVerdict ws
+  unfolding verdictWithin treeVerdict
   verdict-tree p l z =
       let last : ℕ = nodeCount ws - 1 in
       let e : at ≡ nodeCount ws = lowest-none faulty (nodeCount ws) (λ j h. not-faulty j (none-faulty z j h)) in
@@ -257,6 +275,6 @@ module _ (ws ls : List ℕ) where
       ∙ pick-no _ _ _ (le-ltb at (nodeCount ws) (omega arith))
       ∙ ap (λ (j : ℕ). pick (ltb j last) (refusal 8 j) accepted) (not-once-is ws ls last)
 
-  pub few-nodes : tooLarge ws ls ≡ false → nodeCount ws ≤ limit
+  pub few-nodes : tooLarge tableLimits ws ls ≡ false → nodeCount ws ≤ limit
   unfolding tooLarge
   few-nodes l = ltb-false limit (nodeCount ws) (or-neither-left _ _ l)

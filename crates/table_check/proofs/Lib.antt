@@ -1,5 +1,1 @@
-pub mod Accepted
-pub mod Chains
 pub mod Faults
-pub mod Named
-pub mod Ranges

@@ -2,6 +2,7 @@
 -- Assumes nothing.
 use mathlib.Core.Path.{sym, _∙_}
 use Rattle.table_check.proofs.Faults.{block-forward, block-backward}
+use Rattle.tree_check.proofs.Named.{names-block}
 use native.Mathlib.Omega.{arith}
 use borrow.Author.Needs.{needs}
 use Rattle.table_check.proofs.block_node_fault.Statement.{statement}
@@ -11,11 +12,11 @@ cast-if1 : tie.Need-cast-if1
 cast-if1 c = search needs
 
 returns : tie.Need-returns
-returns c = (sym (block-forward _ _ _ _ _ _ (c .if1 .taken)), (λ z. absurd (omega arith), λ z. absurd (omega arith)))
+returns c = (sym (block-forward _ _ _ _ (c .if1 .taken)), (λ z. absurd (omega arith), λ z. absurd (omega arith)))
 
 count-name-requires : tie.Need-count-name-requires
 count-name-requires c κs =
-    (omega (arith, c .before .before .before .before .before .before .before .pre .1 .1 .wide), omega (arith, c .before .before .before .before .before .before .before .pre .1 .1 .room (c .before .before .before .before .before .before .before .args .node .c)))
+    let room = c .before .before .before .before .before .before .before .pre .1 .1 .1 in (omega (arith, room .wide), omega (arith, room .room (c .before .before .before .before .before .before .before .args .node .c)))
 
 block-fault-requires : tie.Need-block-fault-requires
 block-fault-requires c κs = search needs
@@ -32,7 +33,7 @@ same-length-3 c = c .before .before .before .before .before .before .before .bef
 returns-2 : tie.Need-returns-2
 returns-2 c =
     let r = c .before .before .before .before .block-fault .ensures in
-    (r .0 ∙ sym (block-backward _ _ _ _ _ _ (c .before .before .before .before .before .before .before .before .before .before .before .if1 .left)), (r .1, λ z x. c .before .before .before .before .before .before .before .before .before .count-name .ensures x))
+    (r .0 ∙ sym (block-backward _ _ _ _ (c .before .before .before .before .before .before .before .before .before .before .before .if1 .left)), (r .1, λ z x. rw (names-block (c .before .before .before .before .before .before .before .before .before .before .before .before .before .before .before .before .before .args .node) (c .before .before .before .before .before .before .before .before .before .before .before .before .before .before .before .before .before .pre .0)) (c .before .before .before .before .before .before .before .before .before .count-name .ensures x)))
 
 pub block-node-fault-spec : {M : Type 1} → statement M
 block-node-fault-spec =

@@ -4,9 +4,10 @@
 use mathlib.Core.Path.{_≡_, sym, _∙_, ap}
 use Prim.Native.Nat.{_≤_, _-_}
 use Rattle.formula.specs.Words.{nodeCount}
-use Rattle.table_check.specs.Verdict.{refusal}
-use Rattle.table_check.specs.declared.Verdict.{Verdict}
-use Rattle.table_check.specs.Steps.{Earlier, Counted}
+use Rattle.refusals.specs.Verdict.{refusal}
+use Rattle.refusals.specs.declared.Verdict.{Verdict}
+use Rattle.range_check.specs.Chains.{Earlier}
+use Rattle.tree_check.specs.Named.{Counted}
 use Rattle.table_check.proofs.Faults.{Checked, checked-none, checked-more, nodes-refused, nodes-passed}
 use borrow.Author.Needs.{needs}
 use native.Mathlib.Omega.{arith}
@@ -28,11 +29,11 @@ node-fault-requires c κs =
     let inv = c .before .before .before .before .before .loop .inv in
     ((c .before .before .before .before .loop-test .taken, c .before .before .before .before .before .before .before .before .before .before .before .pre .0), ((inv .1 .counted, inv .1 .few), (inv .2, inv .3)))
 
-cast-answer : tie.Need-cast-answer Inv-loop μ-loop
-cast-answer c = search needs
+cast-refusal : tie.Need-cast-refusal Inv-loop μ-loop
+cast-refusal c = search needs
 
-answer-requires : tie.Need-answer-requires Inv-loop μ-loop
-answer-requires c κs = search needs
+refusal-requires : tie.Need-refusal-requires Inv-loop μ-loop
+refusal-requires c κs = search needs
 
 same-length : tie.Need-same-length Inv-loop μ-loop
 same-length c = c .before .before .before .before .before .before .before .before .node-fault .kept .1 .1 .0 ∙ c .before .before .before .before .before .before .before .before .before .before .before .before .before .before .loop .inv .2 .heads-wide ∙ sym (c .before .before .before .before .before .before .before .before .before .before .before .before .before .before .before .before .before .before .before .before .pre .1 .0 .heads-wide)
@@ -49,10 +50,10 @@ returns c =
     let i = c .before .before .before .before .before .before .before .before .before .before .before .before .before .before .loop .i in
     let n = c .before .before .before .before .before .before .before .before .node-fault .ensures .0 in
     let f = c .before .if1 .taken in (
-      c .answer .ensures
+      c .refusal .ensures
           ∙ ap (λ f. refusal f i) n
           ∙ sym (nodes-refused _ _ i (c .before .before .before .before .before .before .before .before .before .before .before .before .before .loop-test .taken) (c .before .before .before .before .before .before .before .before .before .before .before .before .before .before .loop .inv .1 .faultless) (λ z. f (n ∙ z))),
-      λ z. absurd (f (sym (ap (λ (v : Verdict). v .number) (c .answer .ensures)) ∙ z)),
+      λ z. absurd (f (sym (ap (λ (v : Verdict). v .number) (c .refusal .ensures)) ∙ z)),
     )
 
 add-i : tie.Need-add-i Inv-loop μ-loop
@@ -67,8 +68,8 @@ loop-again c =
     let z = c .if1 .left in
     (omega arith, checked-more _ _ _ _ _ (c .before .before .before .before .before .before .before .before .before .before .before .before .before .loop .inv .1) (sym (r .0) ∙ z) (r .1 .0 z), r .1 .1 .0 z, r .1 .1 .1 z)
 
-answer-requires-2 : tie.Need-answer-requires-2 Inv-loop μ-loop
-answer-requires-2 c κs = search needs
+accepted-requires : tie.Need-accepted-requires Inv-loop μ-loop
+accepted-requires c κs = search needs
 
 same-length-4 : tie.Need-same-length-4 Inv-loop μ-loop
 same-length-4 c = c .before .before .loop .inv .2 .heads-wide ∙ sym (c .before .before .before .before .before .before .before .before .pre .1 .0 .heads-wide)
@@ -82,7 +83,7 @@ same-length-6 c = c .before .before .loop .inv .3 .wide ∙ sym (c .before .befo
 returns-2 : tie.Need-returns-2 Inv-loop μ-loop
 returns-2 c =
     let all : nodeCount (c .before .before .before .before .before .before .before .before .args .words .now) ≡ c .before .before .loop .i = omega arith in
-    (c .answer2 .ensures ∙ sym (nodes-passed _ _ (rw all (c .before .before .loop .inv .1 .faultless))), λ z. rw all (c .before .before .loop .inv .3))
+    (c .accepted .ensures ∙ sym (nodes-passed _ _ (rw all (c .before .before .loop .inv .1 .faultless))), λ z. rw all (c .before .before .loop .inv .3))
 
 pub check-each-node-spec : {M : Type 1} → statement M
 check-each-node-spec =
@@ -92,8 +93,8 @@ check-each-node-spec =
     μ-loop
     loop-holds
     node-fault-requires
-    cast-answer
-    answer-requires
+    cast-refusal
+    refusal-requires
     same-length
     same-length-2
     same-length-3
@@ -101,7 +102,7 @@ check-each-node-spec =
     add-i
     loop-less
     loop-again
-    answer-requires-2
+    accepted-requires
     same-length-4
     same-length-5
     same-length-6

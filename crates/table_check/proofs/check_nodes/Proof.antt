@@ -1,6 +1,6 @@
 -- `table_check::check_nodes` meets its contract: two new arrays chain no entry.
 -- Assumes nothing.
-use Rattle.table_check.proofs.Chains.{earlier-new}
+use Rattle.range_check.proofs.Chains.{earlier-new}
 use borrow.Author.Needs.{needs}
 use Rattle.table_check.proofs.check_nodes.Statement.{statement}
 use Rattle.table_check.proofs.check_nodes.Tie as tie

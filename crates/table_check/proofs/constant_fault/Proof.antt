@@ -6,10 +6,10 @@ use Rattle.table_check.proofs.constant_fault.Statement.{statement}
 use Rattle.table_check.proofs.constant_fault.Tie as tie
 
 returns : tie.Need-returns
-returns c i = sym (constant-sound i _ _ _ (c .if1 .taken))
+returns c i = sym (constant-sound i _ (c .before .before .before .before .pre) (c .if1 .taken))
 
 returns-2 : tie.Need-returns-2
-returns-2 c i = sym (constant-malformed i _ _ _ (c .if1 .left))
+returns-2 c i = sym (constant-malformed i _ (c .before .before .before .before .pre) (c .if1 .left))
 
 pub constant-fault-spec : {M : Type 1} → statement M
 constant-fault-spec = tie.close (tie.spec returns returns-2)

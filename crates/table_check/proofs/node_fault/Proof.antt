@@ -1,53 +1,58 @@
 -- `table_check::node_fault` meets its contract: at each kind the answer is that of `nodeFault`, and the names counted are the node's, once its words are read as the
 -- table's fields.
 -- Assumes nothing.
-use mathlib.Core.Path.{refl, sym, _∙_, ap}
-use Prim.Native.Nat.{_+_}
+use mathlib.Core.Path.{_≡_, refl, sym, _∙_, ap}
+use Prim.Native.Nat.{ℕ, _+_}
 use Rattle.formula.specs.Words.{field, isBlockKind}
-use Rattle.lists.specs.Choice.{pick}
-use Rattle.table_check.specs.Steps.{namedBy}
-use Rattle.table_check.proofs.Faults.{fault-words, fault-block, fault-no-kind, binds-none, count-block}
-use Rattle.table_check.proofs.Named.{names-block, counted-room, counted-more, counted-still}
+use Rattle.formula.specs.declared.NodeWords.{NodeWords}
+use Rattle.table_check.proofs.Faults.{fault-words, fault-block, fault-no-kind, binds-none}
+use Rattle.acceptance.proofs.Accepted.{count-block}
+use Rattle.tree_check.proofs.Named.{names-none, counted-room, counted-more, counted-still}
 use native.Mathlib.Omega.{arith}
 use borrow.Author.Needs.{needs}
 use Rattle.table_check.proofs.node_fault.Statement.{statement}
 use Rattle.table_check.proofs.node_fault.Tie as tie
 
+-- a field of the node that was read is the table's
+abbrev kindOf : NodeWords → ℕ
+kindOf w = w .kind
+
 node-at-requires : tie.Need-node-at-requires
 node-at-requires c κs = search needs
 
 variable-fault-requires : tie.Need-variable-fault-requires
-variable-fault-requires c κs = search needs
+variable-fault-requires c κs = c .if1 .taken
 
 returns : tie.Need-returns
-unfolding isBlockKind namedBy pick
+unfolding isBlockKind
 returns c =
     let a = c .before .before .before .before .before .before .before .before .before .args in
     let e = c .before .before .before .node-at .ensures in
-    let k = sym (e .0) ∙ c .before .if1 .taken in
-    let r = rw (e .1, e .2, e .3) at (c .variable-fault .ensures (a .i)) in
-    (r ∙ sym (fault-words _ _ _ 2 k refl), (λ z. sym (binds-none (a .words .now) (a .i) (a .before .now) 2 k refl), (λ z. c .before .before .before .before .before .before .before .before .before .pre .1 .1 .0, λ z. counted-still _ _ _ 2 k refl (c .before .before .before .before .before .before .before .before .before .pre .1 .1 .1))))
+    let k = sym (ap kindOf e) ∙ c .before .if1 .taken in
+    let r = rw e at (c .variable-fault .ensures (a .i)) in
+    (r ∙ sym (fault-words (a .words .now) (a .list .now) (a .i) (rw k refl)), (λ z. sym (binds-none (a .words .now) (a .i) (a .before .now) (rw k refl)), (λ z. c .before .before .before .before .before .before .before .before .before .pre .1 .1 .0, λ z. counted-still _ _ _ (names-none _ (rw k refl) (rw k refl) (rw k refl)) (c .before .before .before .before .before .before .before .before .before .pre .1 .1 .1))))
 
 operator-fault-requires : tie.Need-operator-fault-requires
-operator-fault-requires c κs = counted-room _ _ _ (omega (arith, c .before .before .before .before .before .before .before .before .before .before .before .pre .0)) (c .before .before .before .before .before .before .before .before .before .before .before .pre .1 .1 .1)
+operator-fault-requires c κs = (c .before .if2 .taken, counted-room _ _ _ (omega (arith, c .before .before .before .before .before .before .before .before .before .before .before .pre .0)) (c .before .before .before .before .before .before .before .before .before .before .before .pre .1 .1 .1))
 
 same-length : tie.Need-same-length
-same-length c = c .before .before .operator-fault .kept .1 .1 .1 .1 .0
+same-length c = c .before .before .operator-fault .kept .1 .1 .0
 
 returns-2 : tie.Need-returns-2
 unfolding isBlockKind
 returns-2 c =
     let a = c .before .before .before .before .before .before .before .before .before .before .before .before .before .before .args in
     let e = c .before .before .before .before .before .before .before .before .node-at .ensures in
-    let k = sym (e .0) ∙ c .before .before .before .before .if2 .taken in
-    let r = rw (e .1, e .2, e .3) at (c .before .before .operator-fault .ensures) in
-    (r .0 ∙ sym (fault-words _ _ _ 4 k refl), (λ z. sym (binds-none (a .words .now) (a .i) (a .before .now) 4 k refl), (λ z. c .before .before .before .before .before .before .before .before .before .before .before .before .before .before .pre .1 .1 .0, λ z. counted-more _ _ _ _ 4 k (c .before .before .operator-fault .kept .1 .1 .1 .1 .0) (c .before .before .before .before .before .before .before .before .before .before .before .before .before .before .pre .1 .1 .1) (r .1 z))))
+    let k = sym (ap kindOf e) ∙ c .before .before .before .before .if2 .taken in
+    let r = rw e at (c .before .before .operator-fault .ensures) in
+    (r .0 ∙ sym (fault-words _ _ _ (rw k refl)), (λ z. sym (binds-none (a .words .now) (a .i) (a .before .now) (rw k refl)), (λ z. c .before .before .before .before .before .before .before .before .before .before .before .before .before .before .pre .1 .1 .0, λ z. counted-more _ _ _ _ (c .before .before .operator-fault .kept .1 .1 .0) (c .before .before .before .before .before .before .before .before .before .before .before .before .before .before .pre .1 .1 .1) (r .1 z))))
 
 is-block-kind-requires : tie.Need-is-block-kind-requires
 is-block-kind-requires c κs = search needs
 
 block-node-fault-requires : tie.Need-block-node-fault-requires
-block-node-fault-requires c κs = (c .before .before .before .before .before .before .before .before .before .before .before .before .before .before .before .before .pre .1 .0 .1, (c .before .before .before .before .before .before .before .before .before .before .before .before .before .before .before .before .pre .1 .1 .0, counted-room _ _ _ (omega (arith, c .before .before .before .before .before .before .before .before .before .before .before .before .before .before .before .before .pre .0)) (c .before .before .before .before .before .before .before .before .before .before .before .before .before .before .before .before .pre .1 .1 .1)))
+block-node-fault-requires c κs =
+    (sym (c .before .before .before .before .before .is-block-kind .ensures) ∙ c .before .before .before .before .if3 .taken, (c .before .before .before .before .before .before .before .before .before .before .before .before .before .before .before .before .pre .1 .0 .1, (c .before .before .before .before .before .before .before .before .before .before .before .before .before .before .before .before .pre .1 .1 .0, counted-room _ _ _ (omega (arith, c .before .before .before .before .before .before .before .before .before .before .before .before .before .before .before .before .pre .0)) (c .before .before .before .before .before .before .before .before .before .before .before .before .before .before .before .before .pre .1 .1 .1))))
 
 cast-before : tie.Need-cast-before
 cast-before c = search needs
@@ -68,47 +73,47 @@ returns-3 : tie.Need-returns-3
 returns-3 c =
     let a = c .before .before .before .before .before .before .before .before .before .before .before .before .before .before .before .before .before .before .before .before .before .before .before .before .args in
     let e = c .before .before .before .before .before .before .before .before .before .before .before .before .before .before .before .before .before .before .node-at .ensures in
-    let k = rw (e .0) at (sym (c .before .before .before .before .before .before .before .before .before .before .before .before .before .is-block-kind .ensures) ∙ c .before .before .before .before .before .before .before .before .before .before .before .before .if3 .taken) in
+    let k = rw e at (sym (c .before .before .before .before .before .before .before .before .before .before .before .before .before .is-block-kind .ensures) ∙ c .before .before .before .before .before .before .before .before .before .before .before .before .if3 .taken) in
     let r = c .before .before .before .before .before .before .before .block-node-fault in
-    let f = rw (e .1, e .2, e .3, c .before .before .before .before .before .before .before .before .before .before .before .before .before .before .before .before .before .before .before .before .before .before .before .before .pre .1 .0 .0) at (r .ensures .0) in
-    let named = rw (e .3, ← names-block (field (a .words .now) (a .i) 0) (field (a .words .now) (a .i) 1) (field (a .words .now) (a .i) 2) (field (a .words .now) (a .i) 3) k) at (r .ensures .1 .1) in
-    (f ∙ sym (fault-block _ _ _ k), (λ z. ap (λ n. a .before .now + n) (e .2 ∙ sym (count-block _ _ k)), (r .ensures .1 .0, λ z. counted-more _ _ _ _ _ refl (r .kept .1 .1 .1 .0) (c .before .before .before .before .before .before .before .before .before .before .before .before .before .before .before .before .before .before .before .before .before .before .before .before .pre .1 .1 .1) (named z))))
+    let f = rw (e, c .before .before .before .before .before .before .before .before .before .before .before .before .before .before .before .before .before .before .before .before .before .before .before .before .pre .1 .0 .0) at (r .ensures .0) in
+    let named = rw e at (r .ensures .1 .1) in
+    (f ∙ sym (fault-block _ _ _ k), (λ z. ap (λ n. a .before .now + n) (ap (λ (w : NodeWords). w .b) e ∙ sym (count-block _ _ k)), (r .ensures .1 .0, λ z. counted-more _ _ _ _ (r .kept .1 .1 .1 .0) (c .before .before .before .before .before .before .before .before .before .before .before .before .before .before .before .before .before .before .before .before .before .before .before .before .pre .1 .1 .1) (named z))))
 
 negation-fault-requires : tie.Need-negation-fault-requires
-negation-fault-requires c κs = counted-room _ _ _ (omega (arith, c .before .before .before .before .before .before .before .before .before .before .before .before .before .before .before .pre .0)) (c .before .before .before .before .before .before .before .before .before .before .before .before .before .before .before .pre .1 .1 .1)
+negation-fault-requires c κs = (c .before .if4 .taken, counted-room _ _ _ (omega (arith, c .before .before .before .before .before .before .before .before .before .before .before .before .before .before .before .pre .0)) (c .before .before .before .before .before .before .before .before .before .before .before .before .before .before .before .pre .1 .1 .1))
 
 same-length-5 : tie.Need-same-length-5
-same-length-5 c = c .before .before .negation-fault .kept .1 .1 .1 .1 .0
+same-length-5 c = c .before .before .negation-fault .kept .1 .1 .0
 
 returns-4 : tie.Need-returns-4
 unfolding isBlockKind
 returns-4 c =
     let a = c .before .before .before .before .before .before .before .before .before .before .before .before .before .before .before .before .before .before .args in
     let e = c .before .before .before .before .before .before .before .before .before .before .before .before .node-at .ensures in
-    let k = sym (e .0) ∙ c .before .before .before .before .if4 .taken in
-    let r = rw (e .1, e .2, e .3) at (c .before .before .negation-fault .ensures) in
-    (r .0 ∙ sym (fault-words _ _ _ 3 k refl), (λ z. sym (binds-none (a .words .now) (a .i) (a .before .now) 3 k refl), (λ z. c .before .before .before .before .before .before .before .before .before .before .before .before .before .before .before .before .before .before .pre .1 .1 .0, λ z. counted-more _ _ _ _ 3 k (c .before .before .negation-fault .kept .1 .1 .1 .1 .0) (c .before .before .before .before .before .before .before .before .before .before .before .before .before .before .before .before .before .before .pre .1 .1 .1) (r .1 z))))
+    let k = sym (ap kindOf e) ∙ c .before .before .before .before .if4 .taken in
+    let r = rw e at (c .before .before .negation-fault .ensures) in
+    (r .0 ∙ sym (fault-words _ _ _ (rw k refl)), (λ z. sym (binds-none (a .words .now) (a .i) (a .before .now) (rw k refl)), (λ z. c .before .before .before .before .before .before .before .before .before .before .before .before .before .before .before .before .before .before .pre .1 .1 .0, λ z. counted-more _ _ _ _ (c .before .before .negation-fault .kept .1 .1 .0) (c .before .before .before .before .before .before .before .before .before .before .before .before .before .before .before .before .before .before .pre .1 .1 .1) (r .1 z))))
 
 constant-fault-requires : tie.Need-constant-fault-requires
-constant-fault-requires c κs = search needs
+constant-fault-requires c κs = c .if5 .taken
 
 returns-5 : tie.Need-returns-5
-unfolding isBlockKind namedBy pick
+unfolding isBlockKind
 returns-5 c =
     let a = c .before .before .before .before .before .before .before .before .before .before .before .before .before .before .before .before .before .args in
     let e = c .before .before .before .before .before .before .before .before .before .before .before .node-at .ensures in
-    let k = sym (e .0) ∙ c .before .if5 .taken in
-    let r = rw (e .1, e .2, e .3) at (c .constant-fault .ensures (a .i)) in
-    (r ∙ sym (fault-words _ _ _ 1 k refl), (λ z. sym (binds-none (a .words .now) (a .i) (a .before .now) 1 k refl), (λ z. c .before .before .before .before .before .before .before .before .before .before .before .before .before .before .before .before .before .pre .1 .1 .0, λ z. counted-still _ _ _ 1 k refl (c .before .before .before .before .before .before .before .before .before .before .before .before .before .before .before .before .before .pre .1 .1 .1))))
+    let k = sym (ap kindOf e) ∙ c .before .if5 .taken in
+    let r = rw e at (c .constant-fault .ensures (a .i)) in
+    (r ∙ sym (fault-words _ _ _ (rw k refl)), (λ z. sym (binds-none (a .words .now) (a .i) (a .before .now) (rw k refl)), (λ z. c .before .before .before .before .before .before .before .before .before .before .before .before .before .before .before .before .before .pre .1 .1 .0, λ z. counted-still _ _ _ (names-none _ (rw k refl) (rw k refl) (rw k refl)) (c .before .before .before .before .before .before .before .before .before .before .before .before .before .before .before .before .before .pre .1 .1 .1))))
 
 returns-6 : tie.Need-returns-6
 returns-6 c =
     let e = c .before .before .before .before .before .before .before .before .before .before .node-at .ensures in
-    let d1 = rw (e .0) at (c .if5 .left) in
-    let d2 = rw (e .0) at (c .before .before .before .before .before .before .before .before .if1 .left) in
-    let d3 = rw (e .0) at (c .before .before .if4 .left) in
-    let d4 = rw (e .0) at (c .before .before .before .before .before .before .if2 .left) in
-    let k = rw (e .0) at (sym (c .before .before .before .before .before .is-block-kind .ensures) ∙ c .before .before .before .before .if3 .left) in
+    let d1 = rw e at (c .if5 .left) in
+    let d2 = rw e at (c .before .before .before .before .before .before .before .before .if1 .left) in
+    let d3 = rw e at (c .before .before .if4 .left) in
+    let d4 = rw e at (c .before .before .before .before .before .before .if2 .left) in
+    let k = rw e at (sym (c .before .before .before .before .before .is-block-kind .ensures) ∙ c .before .before .before .before .if3 .left) in
     (sym (fault-no-kind _ _ _ d1 d2 d3 d4 k), (λ z. absurd (omega arith), (λ z. absurd (omega arith), λ z. absurd (omega arith))))
 
 pub node-fault-spec : {M : Type 1} → statement M

@@ -1,7 +1,7 @@
 -- `table_check::partial_node` meets its contract: its test is the definition.
 -- Assumes nothing.
 use mathlib.Core.Path.{refl}
-use Rattle.table_check.specs.Verdict.{partialNode}
+use Rattle.acceptance.specs.Verdict.{partialNode}
 use Rattle.table_check.proofs.partial_node.Statement.{statement}
 use Rattle.table_check.proofs.partial_node.Tie as tie
 

@@ -10,10 +10,10 @@ is-number-requires : tie.Need-is-number-requires
 is-number-requires c κs = search needs
 
 returns : tie.Need-returns
-returns c i = sym (variable-sound i _ _ _ (rw (c .before .is-number .ensures) at (c .if1 .taken)))
+returns c i = sym (variable-sound i _ (c .before .before .before .before .pre) (rw (c .before .before .before .is-number .ensures) at (c .if1 .taken)))
 
 returns-2 : tie.Need-returns-2
-returns-2 c i = sym (variable-malformed i _ _ _ (rw (c .before .is-number .ensures) at (c .if1 .left)))
+returns-2 c i = sym (variable-malformed i _ (c .before .before .before .before .pre) (rw (c .before .before .before .is-number .ensures) at (c .if1 .left)))
 
 pub variable-fault-spec : {M : Type 1} → statement M
 variable-fault-spec = tie.close (tie.spec is-number-requires returns returns-2)
