@@ -21,9 +21,12 @@ use Rattle.formula.specs.declared.NodeWords.{NodeWords}
 use Rattle.formula.specs.Tree.{timesNamed, count, boundBelow}
 use Rattle.formula.proofs.Nodes.{Kind, kind-of, kind-constant, kind-variable, kind-negation, kind-operator, kind-exists, kind-for-all, kind-none}
 use Rattle.refusals.specs.Verdict.{refusal, accepted}
+use Rattle.refusals.specs.declared.Verdict.{Verdict}
 use Rattle.acceptance.specs.Limits.{Limits, limit, tableLimits}
 use Rattle.acceptance.specs.Verdict.{isNumberTo, partialNode, tooLarge, wellFormed, forwardReference, rangePastEnd, countAt, tooManyVariables, badVariable, nodeFault, notNamedOnce, verdictWithin, verdict}
+use Rattle.acceptance.specs.Order.{Whole, FirstThatApplies, partial, large, fault, not-tree, none}
 use Rattle.acceptance.specs.Accepted.{AcceptedWithin, Accepted}
+use Rattle.acceptance.proofs.Order.{verdict-order}
 
 -- How many variables a node binds, by its kind.
 pub count-block : (ws : List ℕ) (i : ℕ) → isBlockKind (field ws i 0) ≡ true → countAt ws i ≡ field ws i 2
@@ -128,48 +131,9 @@ module _ (lim : Limits) (ws ls : List ℕ) (i : ℕ) where
       (pick-le _ 6 _ 7 (omega arith)
       (pick-le _ 7 _ 7 (omega arith) (omega arith)))))
 
--- The five ways that a verdict can be.
-
--- whether a node has a fault
-abbrev faulty : Limits → List ℕ → List ℕ → ℕ → Bool
-faulty lim ws ls i = not (eqb (nodeFault lim ws ls i) 0)
-
-abbrev firstFaulty : Limits → List ℕ → List ℕ → ℕ
-firstFaulty lim ws ls = lowest (faulty lim ws ls) (nodeCount ws)
-
-abbrev firstNotOnce : List ℕ → List ℕ → ℕ
-firstNotOnce ws ls = lowest (notNamedOnce ws ls) (nodeCount ws - 1)
-
-data Outcome (lim : Limits) (ws ls : List ℕ) : Type 0 where
-  partial : partialNode ws ≡ true → verdictWithin lim ws ls ≡ refusal 1 0 → Outcome lim ws ls
-  large : tooLarge lim ws ls ≡ true → verdictWithin lim ws ls ≡ refusal 2 0 → Outcome lim ws ls
-  fault : tooLarge lim ws ls ≡ false → firstFaulty lim ws ls < nodeCount ws
-      → verdictWithin lim ws ls ≡ refusal (nodeFault lim ws ls (firstFaulty lim ws ls)) (firstFaulty lim ws ls) → Outcome lim ws ls
-  not-tree : tooLarge lim ws ls ≡ false → firstNotOnce ws ls < nodeCount ws - 1 → verdictWithin lim ws ls ≡ refusal 8 (firstNotOnce ws ls) → Outcome lim ws ls
-  fine : partialNode ws ≡ false → tooLarge lim ws ls ≡ false → nodeCount ws ≤ firstFaulty lim ws ls → nodeCount ws - 1 ≤ firstNotOnce ws ls
-      → verdictWithin lim ws ls ≡ accepted → Outcome lim ws ls
+-- What a verdict says, by the first refusal that applies.
 
 module _ (lim : Limits) (ws ls : List ℕ) where
-  outcome : Outcome lim ws ls
-  unfolding verdictWithin
-  outcome = first (look (partialNode ws))
-    where
-      fourth : partialNode ws ≡ false → tooLarge lim ws ls ≡ false → ltb (firstFaulty lim ws ls) (nodeCount ws) ≡ false → Is (ltb (firstNotOnce ws ls) (nodeCount ws - 1)) → Outcome lim ws ls
-      fourth p l f (is-true t) = not-tree l (ltb-true _ _ t) (pick-no _ _ _ p ∙ pick-no _ _ _ l ∙ pick-no _ _ _ f ∙ pick-yes _ _ _ t)
-      fourth p l f (is-false t) = fine p l (ltb-false _ _ f) (ltb-false _ _ t) (pick-no _ _ _ p ∙ pick-no _ _ _ l ∙ pick-no _ _ _ f ∙ pick-no _ _ _ t)
-
-      third : partialNode ws ≡ false → tooLarge lim ws ls ≡ false → Is (ltb (firstFaulty lim ws ls) (nodeCount ws)) → Outcome lim ws ls
-      third p l (is-true t) = fault l (ltb-true _ _ t) (pick-no _ _ _ p ∙ pick-no _ _ _ l ∙ pick-yes _ _ _ t)
-      third p l (is-false t) = fourth p l t (look (ltb (firstNotOnce ws ls) (nodeCount ws - 1)))
-
-      second : partialNode ws ≡ false → Is (tooLarge lim ws ls) → Outcome lim ws ls
-      second p (is-true t) = large t (pick-no _ _ _ p ∙ pick-yes _ _ _ t)
-      second p (is-false t) = third p t (look (ltb (firstFaulty lim ws ls) (nodeCount ws)))
-
-      first : Is (partialNode ws) → Outcome lim ws ls
-      first (is-true t) = partial t (pick-yes _ _ _ t)
-      first (is-false t) = second t (look (tooLarge lim ws ls))
-
   few-nodes : tooLarge lim ws ls ≡ false → nodeCount ws ≤ lim .nodes
   unfolding tooLarge
   few-nodes l = ltb-false (lim .nodes) (nodeCount ws) (or-neither-left _ _ l)
@@ -178,75 +142,45 @@ module _ (lim : Limits) (ws ls : List ℕ) where
   unfolding tooLarge
   list-short l = ltb-false _ _ (or-neither-right (ltb (lim .nodes) (nodeCount ws)) (ltb (lim .entries) (length ls)) l)
 
-  position-within : verdictWithin lim ws ls .position ≤ lim .nodes
+  position-le : (v : Verdict) → FirstThatApplies lim ws ls v → v .position ≤ lim .nodes
   unfolding refusal accepted
-  position-within = go outcome
-    where
-      go : Outcome lim ws ls → verdictWithin lim ws ls .position ≤ lim .nodes
-      go (partial t e) = rw e (omega arith)
-      go (large t e) = rw e (omega arith)
-      go (fault l f e) = let k = few-nodes l in rw e (omega arith)
-      go (not-tree l f e) = let k = few-nodes l in rw e (omega arith)
-      go (fine p l f g e) = rw e (omega arith)
+  position-le _ (partial p) = omega arith
+  position-le _ (large p l) = omega arith
+  position-le _ (fault w i h f before) = omega (arith, few-nodes (w .small))
+  position-le _ (not-tree w clear j h o before) = omega (arith, few-nodes (w .small))
+  position-le _ (none w clear once) = omega arith
 
-  number-within : verdictWithin lim ws ls .number ≤ 8
+  number-le : (v : Verdict) → FirstThatApplies lim ws ls v → v .number ≤ 8
   unfolding refusal accepted
-  number-within = go outcome
-    where
-      go : Outcome lim ws ls → verdictWithin lim ws ls .number ≤ 8
-      go (partial t e) = rw e (omega arith)
-      go (large t e) = rw e (omega arith)
-      go (fault l f e) = let k = fault-le lim ws ls (firstFaulty lim ws ls) in rw e (omega arith)
-      go (not-tree l f e) = rw e (omega arith)
-      go (fine p l f g e) = rw e (omega arith)
+  number-le _ (partial p) = omega arith
+  number-le _ (large p l) = omega arith
+  number-le _ (fault w i h f before) = omega (arith, fault-le lim ws ls i)
+  number-le _ (not-tree w clear j h o before) = omega arith
+  number-le _ (none w clear once) = omega arith
 
 -- no refusal applies
 record Fine (lim : Limits) (ws ls : List ℕ) : Type 0 where
-  whole : partialNode ws ≡ false
-  small : tooLarge lim ws ls ≡ false
+  sizes : Whole lim ws ls
   clear : (i : ℕ) → i < nodeCount ws → Clear lim ws ls i
-  once : (i : ℕ) → i < nodeCount ws - 1 → notNamedOnce ws ls i ≡ false
+  once : (i : ℕ) → suc i < nodeCount ws → notNamedOnce ws ls i ≡ false
 
 module _ (lim : Limits) (ws ls : List ℕ) where
-  -- a refusal's number is not 0
-  refuses {ℓ} : {A : Type ℓ} (number position : ℕ) → (number ≡ 0 → ⊥) → verdictWithin lim ws ls ≡ refusal number position → verdictWithin lim ws ls .number ≡ 0 → A
+  -- the number 0 is an accepted table's alone
+  zero-fine : (v : Verdict) → FirstThatApplies lim ws ls v → v .number ≡ 0 → Fine lim ws ls × (v ≡ accepted)
   unfolding refusal
-  refuses number position h e z = absurd (h (ap (λ v. v .number) (sym e) ∙ z))
+  zero-fine _ (partial p) z = absurd (omega arith)
+  zero-fine _ (large p l) z = absurd (omega arith)
+  zero-fine _ (fault w i h f before) z = absurd (f z)
+  zero-fine _ (not-tree w clear j h o before) z = absurd (omega arith)
+  zero-fine _ (none w clear once) z =
+      (record { sizes = w; clear = λ i h. no-fault lim ws ls i (clear i h); once = once }, refl)
 
-  faulty-nonzero : (i : ℕ) → faulty lim ws ls i ≡ true → nodeFault lim ws ls i ≡ 0 → ⊥
-  faulty-nonzero i h = eqb-false _ _ (not-true _ h)
-
-  zero-fine : verdictWithin lim ws ls .number ≡ 0 → Fine lim ws ls × (verdictWithin lim ws ls ≡ accepted)
-  zero-fine z = go (outcome lim ws ls)
-    where
-      go : Outcome lim ws ls → Fine lim ws ls × (verdictWithin lim ws ls ≡ accepted)
-      go (partial t e) = refuses 1 0 (omega arith) e z
-      go (large t e) = refuses 2 0 (omega arith) e z
-      go (fault l f e) = refuses _ _ (faulty-nonzero (firstFaulty lim ws ls) (lowest-holds (faulty lim ws ls) (nodeCount ws) f)) e z
-      go (not-tree l f e) = refuses 8 _ (omega arith) e z
-      go (fine p l f g e) = (
-        record {
-          whole = p;
-          small = l;
-          clear = λ i h. no-fault lim ws ls i (eqb-true _ _ (not-false _ (lowest-before (faulty lim ws ls) (nodeCount ws) i (omega arith))));
-          once = λ i h. lowest-before (notNamedOnce ws ls) (nodeCount ws - 1) i (omega arith);
-        },
-        e,
-      )
-
-  fine-accepted : Fine lim ws ls → verdictWithin lim ws ls ≡ accepted
-  fine-accepted r = go (outcome lim ws ls)
-    where
-      go : Outcome lim ws ls → verdictWithin lim ws ls ≡ accepted
-      go (partial t e) = clash t (r .whole)
-      go (large t e) = clash t (r .small)
-      go (fault l f e) =
-          clash (lowest-holds (faulty lim ws ls) (nodeCount ws) f) (ap not (eq-eqb _ _ (clear-fault lim ws ls _ (r .clear _ f))))
-      go (not-tree l f e) = clash (lowest-holds (notNamedOnce ws ls) (nodeCount ws - 1) f) (r .once _ f)
-      go (fine p l f g e) = e
-
-  zero-within : verdictWithin lim ws ls .number ≡ 0 → verdictWithin lim ws ls ≡ accepted
-  zero-within z = zero-fine z .1
+  fine-accepted : Fine lim ws ls → (v : Verdict) → FirstThatApplies lim ws ls v → v ≡ accepted
+  fine-accepted r _ (partial p) = clash p (r .sizes .whole)
+  fine-accepted r _ (large p l) = clash l (r .sizes .small)
+  fine-accepted r _ (fault w i h f before) = absurd (f (clear-fault lim ws ls i (r .clear i h)))
+  fine-accepted r _ (not-tree w clear j h o before) = clash o (r .once j h)
+  fine-accepted r _ (none w clear once) = refl
 
 -- What the tests of a clear node say of the table, and the other way round.
 
@@ -348,7 +282,7 @@ module _ (lim : Limits) (ws ls : List ℕ) where
   fine-holds : Fine lim ws ls → AcceptedWithin lim ws ls
   unfolding tableOf
   fine-holds r =
-      let w = partial-length (r .whole) in
+      let w = partial-length (r .sizes .whole) in
       let sums : boundBelow (tableOf ws ls) (nodeCount ws) ≡ sum (countAt ws) (nodeCount ws) = counts-below ws ls (nodeCount ws) (λ i h. clear-fits lim ws ls i (r .clear i h)) in
       record {
         whole = omega arith;
@@ -356,12 +290,12 @@ module _ (lim : Limits) (ws ls : List ℕ) where
           tree = record {
             nonempty = omega arith;
             lower = λ i a h m. clear-lower lim ws ls i (r .clear i h) a m;
-            once = λ i h. once-named i (r .once i (omega arith));
+            once = λ i h. once-named i (r .once i h);
           };
           apart = λ i h. clear-apart lim ws ls i (r .clear i h);
         };
-        nodes-limit = few-nodes lim ws ls (r .small);
-        list-limit = list-short lim ws ls (r .small);
+        nodes-limit = few-nodes lim ws ls (r .sizes .small);
+        list-limit = list-short lim ws ls (r .sizes .small);
         counts-limit = omega (arith, few-sum lim ws (nodeCount ws) (λ i h. r .clear i h .few));
         formed = λ i h. r .clear i h .formed;
         fits = λ i h. clear-fits lim ws ls i (r .clear i h);
@@ -374,8 +308,10 @@ module _ (lim : Limits) (ws ls : List ℕ) where
       let sums : boundBelow (tableOf ws ls) (nodeCount ws) ≡ sum (countAt ws) (nodeCount ws) = counts-below ws ls (nodeCount ws) (r .fits) in
       let few : sum (countAt ws) (nodeCount ws) ≤ lim .counts = omega arith in
       record {
-        whole = length-whole (r .proper .tree .nonempty) (r .whole);
-        small = or-neither _ _ (le-ltb _ _ (r .nodes-limit)) (le-ltb _ _ (r .list-limit));
+        sizes = record {
+          whole = length-whole (r .proper .tree .nonempty) (r .whole);
+          small = or-neither _ _ (le-ltb _ _ (r .nodes-limit)) (le-ltb _ _ (r .list-limit));
+        };
         clear = λ i h.
             record {
               formed = r .formed i h;
@@ -384,15 +320,15 @@ module _ (lim : Limits) (ws ls : List ℕ) where
               few = sum-few lim ws i (nodeCount ws) h few;
               good = good-clear lim ws ls i (r .numbered i h) (r .proper .apart i h);
             };
-        once = λ i h. named-once i (r .proper .tree .once i (omega arith));
+        once = λ i h. named-once i (r .proper .tree .once i h);
       }
 
   pub within-holds : verdictWithin lim ws ls ≡ accepted → AcceptedWithin lim ws ls
   unfolding accepted
-  within-holds e = fine-holds (zero-fine lim ws ls (ap (λ v. v .number) e) .0)
+  within-holds e = fine-holds (zero-fine lim ws ls _ (verdict-order lim ws ls) (ap (λ v. v .number) e) .0)
 
   pub holds-within : AcceptedWithin lim ws ls → verdictWithin lim ws ls ≡ accepted
-  holds-within r = fine-accepted lim ws ls (holds-fine r)
+  holds-within r = fine-accepted lim ws ls (holds-fine r) _ (verdict-order lim ws ls)
 
 -- The same of formula tables.
 module _ (ws ls : List ℕ) where
@@ -403,13 +339,13 @@ module _ (ws ls : List ℕ) where
   holds-accepted = holds-within tableLimits ws ls
 
   pub number-zero : verdict ws ls .number ≡ 0 → verdict ws ls ≡ accepted
-  number-zero = zero-within tableLimits ws ls
+  number-zero z = zero-fine tableLimits ws ls _ (verdict-order tableLimits ws ls) z .1
 
   pub verdict-number : verdict ws ls .number ≤ 8
-  verdict-number = number-within tableLimits ws ls
+  verdict-number = number-le tableLimits ws ls _ (verdict-order tableLimits ws ls)
 
   pub verdict-position : verdict ws ls .position ≤ limit
-  verdict-position = position-within tableLimits ws ls
+  verdict-position = position-le tableLimits ws ls _ (verdict-order tableLimits ws ls)
 
 -- The words of a well-formed node, by its kind.
 

@@ -1,3 +1,4 @@
 pub mod Limits
 pub mod Verdict
+pub mod Order
 pub mod Accepted
