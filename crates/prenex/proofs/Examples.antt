@@ -23,7 +23,7 @@ use Rattle.prenex_form.specs.Names.{maximum, highestAt, highestNumber, boundCou
 use Rattle.prenex_form.specs.Levels.{blocksAt, levels, quantifierAt, levelQuantifier}
 use Rattle.prenex_form.specs.Matrix.{kept, renamed, firstNodes, bodyOf, equation, guard, constraint, further, constraints, levelJoin, levelNodes, nodesTo, prenexNodes, writtenNodes}
 use Rattle.prenex_form.specs.Prefix.{blockCount, leading, prefixBlock, prefixBlocks, kindOf, prefixWords, writtenPrefix, writtenVariables}
-use Rattle.prenex_form.specs.Sizes.{addedBy, prefixCount, sizes}
+use Rattle.prenex_form.specs.Sizes.{sizes}
 use Rattle.prenex.specs.Outcome.{noSizes, refusal, done, answerWords, Outcome, tooShort, after, lifted}
 
 -- the valuation under which just these variables are true
@@ -181,7 +181,7 @@ examples =
     ∷ []
 
 examples-pass : every passes examples ≡ true
-unfolding Rattle.refusals.specs.Verdict.accepted Rattle.refusals.specs.Verdict.refusal every passes sameNumbers sameLists hasTruth holding leaves shouldLeave left filled examples refusedRow doneRow belowXor belowXorRow nodesOf answerWords noSizes refusal done tooShort after lifted verdictWithin partialNode tooLarge nodeFault wellFormed forwardReference rangePastEnd tooManyVariables countAt badVariable notNamedOnce isNumberTo isBlockKind field range nodeOf nodeAt tableOf timesNamed operands isBlock bound dual lowest pick sum all distinct mem times place upTo numbers highest overwrite update join quant bit digit operatorValue nodeValue value truth count boundBelow parent pathUp path above binder inner howMany level depth maximum highestAt highestNumber boundCount firstName newNames newName innerBoundBelow innerBelow copies definitionVariable blocksAt levels quantifierAt levelQuantifier kept renamed firstNodes bodyOf equation guard constraint further constraints levelJoin levelNodes nodesTo prenexNodes nodeWords writtenNodes blockCount leading prefixBlock prefixBlocks kindOf prefixWords writtenPrefix writtenVariables addedBy prefixCount sizes flatMap
+unfolding Rattle.refusals.specs.Verdict.accepted Rattle.refusals.specs.Verdict.refusal every passes sameNumbers sameLists hasTruth holding leaves shouldLeave left filled examples refusedRow doneRow belowXor belowXorRow nodesOf answerWords noSizes refusal done tooShort after lifted verdictWithin partialNode tooLarge nodeFault wellFormed forwardReference rangePastEnd tooManyVariables countAt badVariable notNamedOnce isNumberTo isBlockKind field range nodeOf nodeAt tableOf timesNamed operands isBlock bound dual lowest pick sum all distinct mem times place upTo numbers highest overwrite update join quant bit digit operatorValue nodeValue value truth count boundBelow parent pathUp path above binder inner howMany level depth maximum highestAt highestNumber boundCount firstName newNames newName innerBoundBelow innerBelow copies definitionVariable blocksAt levels quantifierAt levelQuantifier kept renamed firstNodes bodyOf equation guard constraint further constraints levelJoin levelNodes nodesTo prenexNodes nodeWords writtenNodes blockCount leading prefixBlock prefixBlocks kindOf prefixWords writtenPrefix writtenVariables sizes flatMap
 examples-pass = refl
 
 -- From the computed test to the claim.

@@ -21,7 +21,7 @@ use Rattle.prenex_form.specs.Matrix.{writtenNodes}
 use Rattle.prenex_form.specs.Prefix.{writtenPrefix, writtenVariables}
 use Rattle.prenex_form.specs.Sizes.{sizes}
 use Rattle.prenex_form.specs.Promise.{PrenexOf}
-use Rattle.prenex_form.proofs.Theorem.{prenex, measured}
+use Rattle.prenex_form.proofs.Theorem.{prenex, sizes-written}
 use Rattle.prenex.specs.declared.Answer.{Answer}
 use Rattle.prenex.specs.Outcome.{refusal, done, Outcome, tooShort, after, lifted}
 
@@ -41,7 +41,7 @@ module _ (ws ls nodes prefix variables : List ℕ) (r : Answer) (nodes' prefix' 
   unfolding after done
   parts ok e =
       let t = tableOf ws ls in
-      let m = measured ws ls ok in
+      let m = sizes-written ws ls ok in
       let s : r .sizes ≡ sizes t = ap (λ (o : Outcome). o .answer .sizes) e in
       let n : take (width * r .sizes .nodes) nodes' ≡ writtenNodes t =
       ap (λ (m : ℕ). take m nodes') (ap (λ (z : Sizes). width * z .nodes) s)

@@ -1,9 +1,8 @@
 -- The sizes of an accepted table from its parts, and their limits.
 -- Assumes nothing.
-use mathlib.Core.Path.{_≡_, refl, sym, _∙_}
-use mathlib.Core.Bool.{Bool, true, false}
+use mathlib.Core.Path.{_≡_, sym, _∙_, ap}
 use mathlib.Core.List.{List}
-use Prim.Native.Nat.{ℕ, _+_, _-_, _≤_, _<_}
+use Prim.Native.Nat.{ℕ, suc, _+_, _-_, _≤_, _<_}
 use native.Mathlib.Omega.{arith}
 use lib.Dec.{eqb}
 use Rattle.lists.specs.Choice.{pick}
@@ -16,17 +15,17 @@ use Rattle.refusals.specs.Verdict.{accepted}
 use Rattle.acceptance.specs.Verdict.{verdict}
 use Rattle.acceptance.proofs.Accepted.{accepted-holds}
 use Rattle.prenex_form.specs.declared.Sizes.{Sizes}
-use Rattle.prenex_form.specs.Scope.{depth}
 use Rattle.prenex_form.specs.Names.{boundCount, innerBoundBelow, innerBelow}
 use Rattle.prenex_form.specs.Levels.{levels}
 use Rattle.prenex_form.specs.Matrix.{kept}
 use Rattle.prenex_form.specs.Prefix.{blockCount}
-use Rattle.prenex_form.specs.Sizes.{addedBy, prefixCount, sizes}
+use Rattle.prenex_form.specs.Sizes.{addedBy, sizes}
 use Rattle.prenex_form.proofs.Paths.{depth-levels}
-use Rattle.prenex_form.proofs.PrefixNames.{innerBelow-le, blockCount-le}
+use Rattle.prenex_form.proofs.PrefixNames.{innerBelow-le, blockCount-le, prefix-levels}
 use Rattle.prenex_form.proofs.NameLaws.{innerBound-le}
 use Rattle.prenex_form.proofs.Limits.{bound-limit, size-limit}
 use Rattle.prenex_form.proofs.WrittenSizes.{nodes-few}
+use Rattle.prenex_form.proofs.Theorem.{size-rule}
 use Rattle.scopes.proofs.Scopes.{levels-small}
 
 -- 1 if the root is a block
@@ -35,17 +34,6 @@ rootBlocks t = pick (isBlock (t .node (t .size - 1))) 1 0
 
 pub root-le : (t : Table) → rootBlocks t ≤ 1
 root-le t = pick-le (isBlock (t .node (t .size - 1))) 1
-
--- both ways to count a prefix's blocks are one more than the levels
-count-is : (r z : Bool) (d l : ℕ) → d ≡ l + pick r 1 0 → pick z 0 (pick r d (d + 1)) ≡ pick z 0 (l + 1)
-unfolding pick
-count-is r true d l e = refl
-count-is true false d l e = omega arith
-count-is false false d l e = omega arith
-
-pub prefixCount-is : (t : Table) → Tree t → prefixCount t ≡ pick (eqb (blockCount t) 0) 0 (levels t + 1)
-unfolding prefixCount
-prefixCount-is t tree = count-is (isBlock (t .node (t .size - 1))) (eqb (blockCount t) 0) (depth t) (levels t) (depth-levels t tree)
 
 module _ (ws ls : List ℕ) (ok : verdict ws ls ≡ accepted) where
   tree : Tree (tableOf ws ls)
@@ -64,8 +52,12 @@ module _ (ws ls : List ℕ) (ok : verdict ws ls ≡ accepted) where
   unfolding sizes kept tableOf tree
   sizes-are n b q d nodes blocks entries e1 e2 e3 e4 e5 e6 e7 =
       let f4 = e4 ∙ sym (depth-levels (tableOf ws ls) tree) in
-      let f6 = e6 ∙ sym (prefixCount-is (tableOf ws ls) tree) in
-      λ i. record { n = e1 i; b = e2 i; q = e3 i; depth = f4 i; nodes = e5 i; blocks = f6 i; entries = e7 i }
+      let rule = size-rule (tableOf ws ls) tree in
+      let f5 = e5 ∙ sym (rule .nodes-rule) in
+      let s : levels (tableOf ws ls) + 1 ≡ suc (levels (tableOf ws ls)) = omega arith in
+      let f6 = e6 ∙ ap (λ (k : ℕ). pick (eqb (blockCount (tableOf ws ls)) 0) 0 k) s ∙ sym (prefix-levels (tableOf ws ls)) in
+      let f7 = e7 ∙ sym (rule .entries-rule) in
+      λ i. record { n = e1 i; b = e2 i; q = e3 i; depth = f4 i; nodes = f5 i; blocks = f6 i; entries = f7 i }
 
   -- their limits
   pub levels-limit : levels (tableOf ws ls) ≤ 4096
@@ -79,7 +71,7 @@ module _ (ws ls : List ℕ) (ok : verdict ws ls ≡ accepted) where
   count-some = tree .nonempty
 
   pub added-limit : nodeCount ws - rootBlocks (tableOf ws ls) + sum (addedBy (tableOf ws ls)) (nodeCount ws) ≤ 40960
-  unfolding sizes kept tableOf
+  unfolding kept tableOf
   added-limit = nodes-few (tableOf ws ls) (size-limit ws ls (accepted-holds ws ls ok)) (bound-limit ws ls (accepted-holds ws ls ok))
 
   pub bound-few : boundCount (tableOf ws ls) ≤ 4096

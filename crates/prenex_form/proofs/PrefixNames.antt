@@ -1,5 +1,5 @@
--- The prefix of a prenex form: its words read back as its blocks, no variable stands twice in it, and it is as long as measuring
--- says. The names of the prefix and of the nodes are at most `lastName`.
+-- The prefix of a prenex form: its words read back as its blocks, no variable stands twice in it, and how long it
+-- is. The names of the prefix and of the nodes are at most `lastName`.
 -- Assumes nothing.
 use mathlib.Core.Path.{_≡_, refl, sym, _∙_, ap, subst}
 use mathlib.Core.Bool.{Bool, true, false, _&&_}
@@ -25,7 +25,7 @@ use Rattle.prenex_form.specs.Names.{highestAt, highestNumber, boundCount
 use Rattle.prenex_form.specs.Levels.{blocksAt, levels, quantifierAt, levelQuantifier}
 use Rattle.prenex_form.specs.Prefix.{blockCount, leading, prefixBlock, prefixBlocks, kindOf, prefixWords, writtenPrefix, writtenVariables}
 use Rattle.prenex_form.specs.Matrix.{and, kept, renamed, firstNodes, equation, guard, constraint, further, constraints, levelJoin, levelNodes, nodesTo, prenexNodes}
-use Rattle.prenex_form.specs.Sizes.{prefixCount, sizes}
+use Rattle.prenex_form.specs.Sizes.{prefixCount}
 use Rattle.prenex_form.proofs.Paths.{level-root, inner-level, level-le-levels, blocksAt-lt, blocksAt-inner, blocksAt-level, depth-levels, inner-block, root-outer, kept-le, kept-inner}
 use Rattle.prenex_form.proofs.NameLaws.{none-bound, variable-le, innerBound-is, innerBound-le, length-newNames, length-copies, newNames-above, newNames-le, copies-above, copies-le, definition-above, definition-le, newNames-apart, copies-apart, definition-apart, distinct-newNames, distinct-copies, newName-bound}
 use Rattle.prenex_form.proofs.Alternation.{quantifier-read}
@@ -415,18 +415,29 @@ module _ (t : Table) where
       omega (arith, sum-mono (λ i. pick (isBlock (t .node i)) 1 0) (λ i. 1) (t .size) (λ i h. pick-le (isBlock (t .node i)) 1), sum-ones (t .size))
 
   -- how much lifting writes, from q, b and the depth
-  pub entries-le : sizes t .entries ≤ 2 * boundCount t + blockCount t
-  unfolding sizes boundCount
+  pub entries-le : boundCount t + innerBoundBelow t (t .size) + innerBelow t (t .size) ≤ 2 * boundCount t + blockCount t
+  unfolding boundCount
   entries-le = omega (arith, innerBound-le t (t .size), innerBelow-le)
 
-  pub blocks-le : sizes t .blocks ≤ depth t + 1
-  unfolding sizes prefixCount pick
+  pub blocks-le : prefixCount t ≤ depth t + 1
+  unfolding prefixCount pick
   blocks-le = go (eqb (blockCount t) 0) (isBlock (t .node (t .size - 1)))
     where
       go : (a b : Bool) → pick a 0 (pick b (depth t) (depth t + 1)) ≤ depth t + 1
       go true b = omega arith
       go false true = omega arith
       go false false = omega arith
+
+  -- the prefix has a block for each level and one more
+  pub prefix-levels : length (prefixBlocks t) ≡ pick (eqb (blockCount t) 0) 0 (suc (levels t))
+  unfolding prefixBlocks
+  prefix-levels =
+      length-else (eqb (blockCount t) 0) (upTo (λ j. prefixBlock t j ∷ []) (suc (levels t)))
+      ∙ ap (λ n. pick (eqb (blockCount t) 0) 0 n) (length-each (prefixBlock t) (suc (levels t)))
+
+  pub prefix-length : length (writtenPrefix t) ≡ 3 * length (prefixBlocks t)
+  unfolding writtenPrefix
+  prefix-length = length-prefixWords 0 (prefixBlocks t)
 
   -- without blocks nothing is written
   no-block : eqb (blockCount t) 0 ≡ true → (i : ℕ) → i < t .size → isBlock (t .node i) ≡ false
@@ -438,8 +449,8 @@ module _ (t : Table) where
           absurd (omega (arith, eqb-true (blockCount t) 0 e, term-le (λ j. pick (isBlock (t .node j)) 1 0) (t .size) i h, pick-yes {A = ℕ} (isBlock (t .node i)) 1 0 b))
       go (is-false b) = b
 
-  no-entries : eqb (blockCount t) 0 ≡ true → sizes t .entries ≡ 0
-  unfolding sizes boundCount boundBelow count
+  no-entries : eqb (blockCount t) 0 ≡ true → boundCount t + innerBoundBelow t (t .size) + innerBelow t (t .size) ≡ 0
+  unfolding boundCount boundBelow count
   no-entries e =
       omega (
         arith,
@@ -493,8 +504,8 @@ module _ (t : Table) where
         let z : pick (inner t r) (count t r) 0 ≡ 0 = pick-no (inner t r) (count t r) 0 (root-outer t tree) in
         omega (arith, innerBound-is t r (root-lt t tree))
 
-    parts-entries : length (upTo (part t) (suc (levels t))) ≡ sizes t .entries
-    unfolding part sizes
+    parts-entries : length (upTo (part t) (suc (levels t))) ≡ boundCount t + innerBoundBelow t (t .size) + innerBelow t (t .size)
+    unfolding part
     parts-entries =
         length-upTo (part t) (suc (levels t))
         ∙ sum-cong (λ j. length (part t j)) (λ j. length (leading t j) + length (flatMap (copies t) (blocksAt t (suc j)))) (suc (levels t))
@@ -503,24 +514,19 @@ module _ (t : Table) where
         ∙ omega (arith, leading-entries, copies-entries, boundCount-root)
 
     -- the list that lifting writes
-    pub prefix-entries : length (writtenVariables t) ≡ sizes t .entries
+    pub prefix-entries : length (writtenVariables t) ≡ boundCount t + innerBoundBelow t (t .size) + innerBelow t (t .size)
     prefix-entries = go (look (eqb (blockCount t) 0))
       where
-        go : Is (eqb (blockCount t) 0) → length (writtenVariables t) ≡ sizes t .entries
+        go : Is (eqb (blockCount t) 0) → length (writtenVariables t) ≡ boundCount t + innerBoundBelow t (t .size) + innerBelow t (t .size)
         go (is-true e) = ap length (variables-none t e) ∙ sym (no-entries e)
         go (is-false e) = ap length (variables-parts t e) ∙ parts-entries
 
     -- and its prefix
-    pub length-prefixBlocks : length (prefixBlocks t) ≡ sizes t .blocks
-    unfolding prefixBlocks sizes prefixCount
+    pub length-prefixBlocks : length (prefixBlocks t) ≡ prefixCount t
+    unfolding prefixCount
     length-prefixBlocks =
-        length-else (eqb (blockCount t) 0) (upTo (λ j. prefixBlock t j ∷ []) (suc (levels t)))
-        ∙ ap (λ n. pick (eqb (blockCount t) 0) 0 n)
-        (length-each (prefixBlock t) (suc (levels t)) ∙ one-more (isBlock (t .node (t .size - 1))) (levels t) (depth t) (depth-levels t tree))
-
-    pub prefix-length : length (writtenPrefix t) ≡ 3 * sizes t .blocks
-    unfolding writtenPrefix
-    prefix-length = length-prefixWords 0 (prefixBlocks t) ∙ ap (λ n. 3 * n) length-prefixBlocks
+        prefix-levels
+        ∙ ap (λ n. pick (eqb (blockCount t) 0) 0 n) (one-more (isBlock (t .node (t .size - 1))) (levels t) (depth t) (depth-levels t tree))
 
 -- the names at the nodes
 

@@ -11,7 +11,7 @@ use Rattle.lists.proofs.Parts.{sum-cong}
 use Rattle.formula.specs.Node.{Quantifier, exists, for-all, Table}
 use Rattle.formula.specs.Form.{Block}
 use Rattle.prenex_form.specs.Prefix.{prefixBlocks, kindOf, prefixWords, writtenPrefix, writtenVariables}
-use Rattle.prenex_form.proofs.PrefixNames.{length-prefixWords, sum-first}
+use Rattle.prenex_form.proofs.PrefixNames.{prefix-length, sum-first}
 
 -- the count of block k
 abbrev countWord : List ℕ → ℕ → ℕ
@@ -77,12 +77,10 @@ words-kind P each s (b ∷ bs) (suc j) h =
 
 module _ (t : Table) where
   pub prefix-count : length (writtenPrefix t) / 3 ≡ length (prefixBlocks t)
-  unfolding writtenPrefix
-  prefix-count = rw (length-prefixWords 0 (prefixBlocks t)) (mul-div-cancel-left (length (prefixBlocks t)) (omega arith))
+  prefix-count = rw (prefix-length t) (mul-div-cancel-left (length (prefixBlocks t)) (omega arith))
 
   pub prefix-whole : length (writtenPrefix t) ≡ 3 * (length (writtenPrefix t) / 3)
-  unfolding writtenPrefix
-  prefix-whole = length-prefixWords 0 (prefixBlocks t) ∙ ap (λ m. 3 * m) (sym prefix-count)
+  prefix-whole = prefix-length t ∙ ap (λ m. 3 * m) (sym prefix-count)
 
   pub prefix-kinds-from : (j : ℕ) → j < length (writtenPrefix t) / 3 → 5 ≤ getD (writtenPrefix t) (3 * j) 0
   unfolding writtenPrefix

@@ -1,6 +1,6 @@
 -- The theorem: the written form of every accepted table is a prenex form of it (specs/Promise.antt).
 -- Assumes nothing.
-use mathlib.Core.Path.{_≡_, sym, _∙_, ap}
+use mathlib.Core.Path.{_≡_, refl, sym, _∙_, ap}
 use mathlib.Core.Bool.{false}
 use mathlib.Core.List.{List, []}
 use Prim.Native.Nat.{ℕ, _*_}
@@ -14,7 +14,7 @@ use Rattle.acceptance.specs.Accepted.{Accepted}
 use Rattle.acceptance.proofs.Accepted.{accepted-holds}
 use Rattle.prenex_form.specs.Matrix.{prenexNodes, writtenNodes}
 use Rattle.prenex_form.specs.Prefix.{writtenPrefix, writtenVariables}
-use Rattle.prenex_form.specs.Sizes.{sizes}
+use Rattle.prenex_form.specs.Sizes.{sizes, SizeRule}
 use Rattle.prenex_form.specs.Promise.{PrenexOf, SizesOf}
 use Rattle.prenex_form.proofs.Truth.{same-truth}
 use Rattle.prenex_form.proofs.FreeNames.{same-free}
@@ -23,6 +23,7 @@ use Rattle.prenex_form.proofs.NodeLists.{words-read}
 use Rattle.prenex_form.proofs.PrefixNames.{prefix-length, prefix-distinct, prefix-entries, length-prefixBlocks, prefix-name-le, node-name-le, entries-le, blocks-le, prefix-new}
 use Rattle.prenex_form.proofs.PrefixShape.{prefix-count, prefix-whole, prefix-kinds-from, prefix-kinds-to, prefix-follow, prefix-fill}
 use Rattle.prenex_form.proofs.WrittenOrder.{prenex-plain}
+use Rattle.prenex_form.proofs.WrittenSizes.{length-prenexNodes}
 use Rattle.prenex_form.proofs.WrittenWords.{written-whole, written-count, written-kinds, written-tree, written-bound, written-few}
 
 -- node i of the written words is node i of the form
@@ -66,13 +67,23 @@ pub prenex : (ws ls : List ℕ) → verdict ws ls ≡ accepted
 prenex ws ls h = of-accepted ws ls (accepted-holds ws ls h)
 
 -- "Measured sizes are the sizes written."
-pub measured : (ws ls : List ℕ) → verdict ws ls ≡ accepted
+pub sizes-written : (ws ls : List ℕ) → verdict ws ls ≡ accepted
     → SizesOf (sizes (tableOf ws ls)) (writtenNodes (tableOf ws ls)) (writtenPrefix (tableOf ws ls)) (writtenVariables (tableOf ws ls))
-measured ws ls h =
+unfolding sizes
+sizes-written ws ls h =
     let t = tableOf ws ls in
     let tree = accepted-holds ws ls h .proper .tree in
     record {
       nodes-measured = written-whole t tree ∙ ap (λ n. width * n) (written-count t tree);
-      blocks-measured = prefix-length t tree;
-      entries-measured = prefix-entries t tree;
+      blocks-measured = prefix-length t;
+      entries-measured = refl;
+    }
+
+-- "So K nodes are joined by 4 × count + 5 for each inner block, or 3 where its count is 0", and the prefix and the list likewise.
+pub size-rule : (t : Table) → Tree t → SizeRule t
+size-rule t tree =
+    record {
+      nodes-rule = length-prenexNodes t tree;
+      blocks-rule = length-prefixBlocks t tree;
+      entries-rule = prefix-entries t tree;
     }

@@ -19,7 +19,7 @@ use Rattle.prenex_form.specs.Names.{boundCount}
 use Rattle.prenex_form.specs.Levels.{blocksAt, levels}
 use Rattle.prenex_form.specs.Matrix.{kept, constraint, further, constraints, levelNodes, nodesTo, prenexNodes}
 use Rattle.prenex_form.specs.Prefix.{blockCount}
-use Rattle.prenex_form.specs.Sizes.{sizes, addedBy}
+use Rattle.prenex_form.specs.Sizes.{addedBy}
 use Rattle.prenex_form.proofs.Paths.{kept-le, inner-level, level-le-levels, inner-block}
 use Rattle.prenex_form.proofs.PrefixNames.{blockCount-le}
 use Rattle.prenex_form.proofs.Written.{length-constraint-bare, length-constraint-full, length-firstNodes, level-some}
@@ -132,8 +132,8 @@ module _ (t : Table) (tree : Tree t) where
       length-append (nodesTo t j) _
       ∙ omega (arith, length-nodesTo j (omega arith), length-levelNodes t j (length (nodesTo t j)) (level-some t tree j h))
 
-  pub length-prenexNodes : length (prenexNodes t) ≡ sizes t .nodes
-  unfolding prenexNodes sizes addedBy
+  pub length-prenexNodes : length (prenexNodes t) ≡ kept t + sum (addedBy t) (t .size)
+  unfolding prenexNodes addedBy
   length-prenexNodes = length-nodesTo (levels t) (omega arith) ∙ ap (λ (n : ℕ). kept t + n) (sum-blocks t tree (added t))
 
 sum-times : (f : ℕ → ℕ) (n : ℕ) → (sum (λ i. 5 * f i) n ≡ 5 * sum f n) × (sum (λ i. 4 * f i) n ≡ 4 * sum f n)
@@ -155,8 +155,8 @@ added-by-le t i (is-true e) =
 added-by-le t i (is-false e) = let a : pick (inner t i) (added t i) 0 ≡ 0 = pick-no _ _ _ e in omega arith
 
 -- the bound of document 01
-pub nodes-le : (t : Table) → sizes t .nodes ≤ t .size + 5 * blockCount t + 4 * boundCount t
-unfolding sizes blockCount boundCount boundBelow
+pub nodes-le : (t : Table) → kept t + sum (addedBy t) (t .size) ≤ t .size + 5 * blockCount t + 4 * boundCount t
+unfolding blockCount boundCount boundBelow
 nodes-le t =
     let b : ℕ → ℕ = λ i. pick (isBlock (t .node i)) 1 0 in
     let m = sum-mono (addedBy t) (λ i. 5 * b i + 4 * count t i) (t .size) (λ i h. added-by-le t i (look (inner t i))) in
@@ -165,5 +165,5 @@ nodes-le t =
     let y = sum-times (count t) (t .size) .1 in
     omega (arith, kept-le t)
 
-pub nodes-few : (t : Table) → t .size ≤ 4096 → boundCount t ≤ 4096 → sizes t .nodes ≤ 40960
+pub nodes-few : (t : Table) → t .size ≤ 4096 → boundCount t ≤ 4096 → kept t + sum (addedBy t) (t .size) ≤ 40960
 nodes-few t n q = omega (arith, nodes-le t, blockCount-le t)

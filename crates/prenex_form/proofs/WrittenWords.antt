@@ -11,7 +11,6 @@ use Rattle.formula.specs.Tree.{Tree}
 use Rattle.prenex_form.specs.Names.{boundCount}
 use Rattle.prenex_form.specs.Matrix.{prenexNodes, writtenNodes}
 use Rattle.prenex_form.specs.Prefix.{blockCount}
-use Rattle.prenex_form.specs.Sizes.{sizes}
 use Rattle.prenex_form.proofs.NodeLists.{length-words, words-count, kinds-plain}
 use Rattle.prenex_form.proofs.WrittenOrder.{prenex-plain, written-table}
 use Rattle.prenex_form.proofs.WrittenSizes.{length-prenexNodes, nodes-le, nodes-few}
@@ -22,9 +21,9 @@ module _ (t : Table) (tree : Tree t) where
   unfolding writtenNodes
   written-whole = omega (arith, length-words (prenexNodes t))
 
-  written-length : nodeCount (writtenNodes t) ≡ length (prenexNodes t)
+  pub written-count : nodeCount (writtenNodes t) ≡ length (prenexNodes t)
   unfolding writtenNodes
-  written-length = words-count (prenexNodes t)
+  written-count = words-count (prenexNodes t)
 
   pub written-kinds : (i : ℕ) → i < nodeCount (writtenNodes t) → (1 ≤ field (writtenNodes t) i 0) × (field (writtenNodes t) i 0 ≤ 4)
   unfolding writtenNodes
@@ -33,11 +32,8 @@ module _ (t : Table) (tree : Tree t) where
   pub written-tree : Tree (tableOf (writtenNodes t) [])
   written-tree = subst Tree (sym (written-table t tree)) (prenex-tree t tree)
 
-  pub written-count : nodeCount (writtenNodes t) ≡ sizes t .nodes
-  written-count = written-length ∙ length-prenexNodes t tree
-
   pub written-bound : nodeCount (writtenNodes t) ≤ t .size + 5 * blockCount t + 4 * boundCount t
-  written-bound = omega (arith, written-count, nodes-le t)
+  written-bound = omega (arith, written-count, length-prenexNodes t tree, nodes-le t)
 
   pub written-few : t .size ≤ 4096 → boundCount t ≤ 4096 → nodeCount (writtenNodes t) ≤ 40960
-  written-few n q = omega (arith, written-count, nodes-few t n q)
+  written-few n q = omega (arith, written-count, length-prenexNodes t tree, nodes-few t n q)

@@ -1,6 +1,6 @@
 -- What is owed of a prenex form: the three lists ns (words of nodes), ps (words of prefix blocks) and xs (variables) are a
 -- prenex form of the table t, with its truth value under every valuation and within the promised sizes. That the written form of
--- every accepted table is one is the theorem `prenex`, and that it has the measured sizes the theorem `measured` (proofs/Theorem.antt).
+-- every accepted table is one is the theorem `prenex`, and that it has the measured sizes the theorem `sizes-written` (proofs/Theorem.antt).
 -- Assumes nothing.
 use mathlib.Core.Bool.{true}
 use mathlib.Core.List.{List, []}

@@ -1,7 +1,7 @@
 -- `prenex::lift_accepted` meets its contract.
 -- Assumes nothing.
 use mathlib.Core.Path.{ap}
-use Rattle.prenex_form.proofs.Theorem.{measured}
+use Rattle.prenex_form.proofs.Theorem.{sizes-written}
 use Rattle.prenex_form.specs.declared.Sizes.{Sizes}
 use Rattle.scopes.specs.Passes.{Placed}
 use Rattle.prenex.specs.Arrays.{Room}
@@ -35,7 +35,7 @@ refusal-requires c κs = search needs
 returns : tie.Need-returns
 returns c =
     let s = c .before .before .before .before .before .before .before .before .before .before .before .before .before .before in
-    let m = measured (s .args .words .now) (s .args .list .now) (s .pre) in
+    let m = sizes-written (s .args .words .now) (s .args .list .now) (s .pre) in
     let e = ap (λ (z : Sizes). z .nodes) (c .before .before .before .sizes-of .ensures) in
     lifted-short (s .args .words .now) (s .args .list .now) (s .args .nodes .now) (s .args .prefix .now) (s .args .variables .now) (s .pre) (short-nodes (s .args .words .now) (s .args .list .now) (s .args .nodes .now) (s .args .prefix .now) (s .args .variables .now) (omega (arith, m .nodes-measured, e, c .before .if1 .taken))) _ (c .refusal .ensures)
 
@@ -51,7 +51,7 @@ refusal-requires-2 c κs = search needs
 returns-2 : tie.Need-returns-2
 returns-2 c =
     let s = c .before .before .before .before .before .before .before .before .before .before .before .before .before .before .before .before in
-    let m = measured (s .args .words .now) (s .args .list .now) (s .pre) in
+    let m = sizes-written (s .args .words .now) (s .args .list .now) (s .pre) in
     let e = ap (λ (z : Sizes). z .blocks) (c .before .before .before .before .before .sizes-of .ensures) in
     lifted-short (s .args .words .now) (s .args .list .now) (s .args .nodes .now) (s .args .prefix .now) (s .args .variables .now) (s .pre) (short-prefix (s .args .words .now) (s .args .list .now) (s .args .nodes .now) (s .args .prefix .now) (s .args .variables .now) (omega (arith, m .blocks-measured, e, c .before .if2 .taken))) _ (c .refusal2 .ensures)
 
@@ -64,7 +64,7 @@ refusal-requires-3 c κs = search needs
 returns-3 : tie.Need-returns-3
 returns-3 c =
     let s = c .before .before .before .before .before .before .before .before .before .before .before .before .before .before .before .before .before .before in
-    let m = measured (s .args .words .now) (s .args .list .now) (s .pre) in
+    let m = sizes-written (s .args .words .now) (s .args .list .now) (s .pre) in
     let e = ap (λ (z : Sizes). z .entries) (c .before .before .before .before .before .before .before .sizes-of .ensures) in
     lifted-short (s .args .words .now) (s .args .list .now) (s .args .nodes .now) (s .args .prefix .now) (s .args .variables .now) (s .pre) (short-variables (s .args .words .now) (s .args .list .now) (s .args .nodes .now) (s .args .prefix .now) (s .args .variables .now) (omega (arith, m .entries-measured, e, c .before .if3 .taken))) _ (c .refusal3 .ensures)
 
@@ -77,7 +77,7 @@ slice-aggregate-write-form-2 c = search needs
 write-form-requires : tie.Need-write-form-requires
 write-form-requires c κs =
     let s = c .before .before .before .before .before .before .before .before .before .before .before .before .before .before .before .before .before .before .before .before .before .before in
-    let m = measured (s .args .words .now) (s .args .list .now) (s .pre) in
+    let m = sizes-written (s .args .words .now) (s .args .list .now) (s .pre) in
     let z = c .before .before .before .before .before .before .before .before .before .before .before .sizes-of .ensures in
     let room : Room (s .args .words .now) (s .args .list .now) (s .args .nodes .now) (s .args .prefix .now) (s .args .variables .now) =
     record {
@@ -110,7 +110,7 @@ same-length-3 c = search needs
 returns-4 : tie.Need-returns-4
 returns-4 c =
     let s = c .before .before .before .before .before .before .before .before .before .before .before .before .before .before .before .before .before .before .before .before .before .before .before .before .before .before .before .before .before .before .before in
-    let m = measured (s .args .words .now) (s .args .list .now) (s .pre) in
+    let m = sizes-written (s .args .words .now) (s .args .list .now) (s .pre) in
     let z = c .before .before .before .before .before .before .before .before .before .before .before .before .before .before .before .before .before .before .before .before .sizes-of .ensures in
     let room : Room (s .args .words .now) (s .args .list .now) (s .args .nodes .now) (s .args .prefix .now) (s .args .variables .now) =
     record {
