@@ -17,7 +17,7 @@ use Rattle.formula.specs.Words.{width, field, isBlockKind, range, nodeOf, nodeA
 use Rattle.formula.specs.Valuation.{Valuation, update, join, quant}
 use Rattle.formula.specs.Truth.{bit, digit, operatorValue, nodeValue, value, truth}
 use Rattle.formula.specs.Tree.{timesNamed, count, boundBelow}
-use Rattle.acceptance.specs.Verdict.{isNumber, partialNode, tooLarge, wellFormed, forwardReference, rangePastEnd, countAt, tooManyVariables, badVariable, nodeFault, notNamedOnce, verdict}
+use Rattle.acceptance.specs.Verdict.{partialNode, tooLarge, wellFormed, forwardReference, rangePastEnd, countAt, tooManyVariables, badVariable, nodeFault, notNamedOnce}
 use Rattle.prenex_form.specs.Scope.{parent, pathUp, path, above, binder, inner, howMany, level, depth}
 use Rattle.prenex_form.specs.Names.{maximum, highestAt, highestNumber, boundCount, firstName, newNames, newName, innerBoundBelow, innerBelow, copies, definitionVariable}
 use Rattle.prenex_form.specs.Levels.{blocksAt, levels, quantifierAt, levelQuantifier}

@@ -38,13 +38,16 @@ entry-le (operator f a b) x m = clash m refl
 entry-le (block q xs a) x m = maximum-ge x xs m
 
 -- a node that is no block binds nothing
-pub none-bound : (nd : Node) → isBlock nd ≡ false → length (bound nd) ≡ 0
+pub binds-nothing : (nd : Node) → isBlock nd ≡ false → bound nd ≡ []
 unfolding isBlock bound
-none-bound (constant b) h = refl
-none-bound (variable y) h = refl
-none-bound (negation a) h = refl
-none-bound (operator f a b) h = refl
-none-bound (block q xs a) h = clash refl h
+binds-nothing (constant b) h = refl
+binds-nothing (variable y) h = refl
+binds-nothing (negation a) h = refl
+binds-nothing (operator f a b) h = refl
+binds-nothing (block q xs a) h = clash refl h
+
+pub none-bound : (nd : Node) → isBlock nd ≡ false → length (bound nd) ≡ 0
+none-bound nd h = ap length (binds-nothing nd h)
 
 pub binds-block : (nd : Node) → 0 < length (bound nd) → isBlock nd ≡ true
 binds-block nd h = go (look (isBlock nd))

@@ -1,18 +1,16 @@
 -- Lists of nodes as tables: their words read back, and the values of their nodes.
 -- Assumes nothing.
 use mathlib.Core.Path.{_≡_, refl, sym, _∙_, ap, ap₂, subst, fun-ext}
-use mathlib.Core.Bool.{Bool, true, false, not}
+use mathlib.Core.Bool.{Bool, false, not}
 use mathlib.Core.List.{List, [], _∷_, _++_, flatMap}
-use Prim.Native.Nat.{ℕ, zero, suc, _+_, _-_, _*_, _≤_, _<_}
+use Prim.Native.Nat.{ℕ, zero, suc, _+_, _-_, _*_, _<_}
 use native.Mathlib.Omega.{arith}
 use native.Mathlib.Nat.{not-suc-le-zero}
-use lib.Dec.{eqb}
 use lib.ListN.{length, getD, length-append, List·getD-append}
 use lib.Seq.{getD-append-add}
-use Rattle.lists.specs.Choice.{pick, clash}
-use Rattle.formula.specs.Node.{Node, constant, variable, negation, operator, block, Table, isBlock}
+use Rattle.lists.specs.Choice.{pick}
+use Rattle.formula.specs.Node.{Node, constant, variable, negation, operator, Table, isBlock}
 use Rattle.formula.specs.Words.{width, nodeCount, field, wordsAt, nodeOf, wordsOf, wordList, nodeAt, tableOf, nodeWords}
-use Rattle.formula.specs.declared.NodeWords.{NodeWords}
 use Rattle.formula.proofs.Nodes.{words-node, wordList-length, words-first, words-after}
 use Rattle.formula.specs.Valuation.{Valuation}
 use Rattle.formula.specs.Truth.{operatorValue, nodeValue, value, truth}
@@ -52,20 +50,6 @@ pub words-at : (ns : List Node) (i : ℕ) → i < length ns → wordsAt (flatMap
 words-at [] i h = absurd (not-suc-le-zero h)
 words-at (nd ∷ ns) zero h = words-here nd ns
 words-at (nd ∷ ns) (suc i) h = words-next nd ns i ∙ words-at ns i (omega arith)
-
--- every node's kind is 1 to 4
-kind-plain : (nd : Node) → isBlock nd ≡ false → (1 ≤ wordsOf nd .kind) × (wordsOf nd .kind ≤ 4)
-unfolding wordsOf isBlock
-kind-plain (constant b) h = omega arith
-kind-plain (variable x) h = omega arith
-kind-plain (negation a) h = omega arith
-kind-plain (operator f a b) h = omega arith
-kind-plain (block q xs a) h = clash refl h
-
-pub kinds-plain : (ns : List Node) → Plain ns → (i : ℕ) → i < length ns
-    → (1 ≤ field (flatMap nodeWords ns) i 0) × (field (flatMap nodeWords ns) i 0 ≤ 4)
-kinds-plain ns plain i h =
-    rw (ap (λ (w : NodeWords). w .kind) (words-at ns i h)) (kind-plain (getD ns i (constant false)) (plain i h))
 
 -- beyond the end too, both read as constant 0
 pub words-read : (ns : List Node) → Plain ns → (i : ℕ) → nodeAt (flatMap nodeWords ns) [] i ≡ getD ns i (constant false)

@@ -4,30 +4,29 @@
 use mathlib.Core.Path.{_≡_, refl, sym, _∙_, ap, subst}
 use mathlib.Core.Bool.{Bool, true, false, _&&_}
 use mathlib.Core.List.{List, [], _∷_, _++_, flatMap, append-assoc, append-nil}
-use Prim.Native.Nat.{ℕ, zero, suc, _+_, _*_, _-_, _/_, _≤_, _<_, max}
+use Prim.Native.Nat.{ℕ, zero, suc, _+_, _*_, _-_, _/_, _≤_, _<_}
 use native.Mathlib.Omega.{arith}
 use native.Mathlib.Nat.{mul-div-cancel-left}
-use lib.Dec.{eqb, ltb}
+use lib.Dec.{eqb}
 use lib.ListN.{length, getD, take, drop, length-append}
 use lib.Seq.{drop-at, take-at, getD-append-add}
-use borrow.Author.Tests.{eqb-true, eqb-false, ne-eqb, ltb-true}
+use borrow.Author.Tests.{eqb-true, eqb-false, ne-eqb}
 use Rattle.lists.specs.Choice.{pick, pick-yes, pick-no, Is, is-true, is-false, look, clash, and-left}
 use Rattle.lists.specs.Members.{mem, distinct}
 use Rattle.lists.specs.Parts.{sum, upTo}
-use Rattle.lists.proofs.Members.{mem-head, mem-tail, mem-one, mem-neither, mem-flatMap-from, mem-getD, distinct-append}
+use Rattle.lists.proofs.Members.{mem-one, mem-neither, mem-flatMap-from, distinct-append}
 use Rattle.lists.proofs.Parts.{flatMap-append, upTo-cong, length-upTo, length-each, mem-upTo-from, sum-cong, sum-mono, sum-add, term-le, sum-zero, pick-le}
-use Rattle.formula.specs.Node.{Quantifier, exists, for-all, Node, constant, variable, negation, operator, block, Table, isBlock, bound}
+use Rattle.formula.specs.Node.{Table, isBlock, bound}
 use Rattle.formula.specs.Tree.{Tree, count, boundBelow}
 use Rattle.formula.specs.Words.{range}
 use Rattle.formula.specs.Form.{Block, blockAt, blocksFrom, blocksOf}
-use Rattle.prenex_form.specs.Scope.{binder, inner, level, depth}
-use Rattle.prenex_form.specs.Names.{highestAt, highestNumber, boundCount, newNames, newName, innerBoundBelow, innerBelow, copies, definitionVariable}
-use Rattle.prenex_form.specs.Levels.{blocksAt, levels, quantifierAt, levelQuantifier}
+use Rattle.prenex_form.specs.Scope.{inner, level, depth}
+use Rattle.prenex_form.specs.Names.{highestNumber, boundCount, newNames, innerBoundBelow, innerBelow, copies, definitionVariable}
+use Rattle.prenex_form.specs.Levels.{blocksAt, levels}
 use Rattle.prenex_form.specs.Prefix.{blockCount, leading, prefixBlock, prefixBlocks, kindOf, prefixWords, writtenPrefix, writtenVariables}
-use Rattle.prenex_form.specs.Matrix.{and, kept, renamed, firstNodes, equation, guard, constraint, further, constraints, levelJoin, levelNodes, nodesTo, prenexNodes}
 use Rattle.prenex_form.specs.Sizes.{prefixCount}
-use Rattle.prenex_form.proofs.Paths.{level-root, inner-level, level-le-levels, blocksAt-lt, blocksAt-inner, blocksAt-level, depth-levels, inner-block, root-outer, kept-le, kept-inner}
-use Rattle.prenex_form.proofs.NameLaws.{none-bound, variable-le, innerBound-is, innerBound-le, length-newNames, length-copies, newNames-above, newNames-le, copies-above, copies-le, definition-above, definition-le, newNames-apart, copies-apart, definition-apart, distinct-newNames, distinct-copies, newName-bound}
+use Rattle.prenex_form.proofs.Paths.{level-root, inner-level, level-le-levels, blocksAt-lt, blocksAt-inner, blocksAt-level, depth-levels, inner-block, root-outer}
+use Rattle.prenex_form.proofs.NameLaws.{none-bound, innerBound-is, innerBound-le, length-newNames, length-copies, newNames-above, newNames-le, copies-above, copies-le, definition-above, definition-le, newNames-apart, copies-apart, definition-apart, distinct-newNames, distinct-copies}
 use Rattle.prenex_form.proofs.Alternation.{quantifier-read}
 
 -- reading a prefix
@@ -527,150 +526,3 @@ module _ (t : Table) where
     length-prefixBlocks =
         prefix-levels
         ∙ ap (λ n. pick (eqb (blockCount t) 0) 0 n) (one-more (isBlock (t .node (t .size - 1))) (levels t) (depth t) (depth-levels t tree))
-
--- the names at the nodes
-
--- the highest name at a node of the list
-unfoldable peak : List Node → ℕ
-peak [] = 0
-peak (nd ∷ ns) = max (highestAt nd) (peak ns)
-
-peak-append : (ms ns : List Node) → peak (ms ++ ns) ≡ max (peak ms) (peak ns)
-unfolding peak
-peak-append [] ns = omega arith
-peak-append (m ∷ ms) ns = omega (arith, peak-append ms ns)
-
-peak-upTo : (g : ℕ → List Node) (n m : ℕ) → ((i : ℕ) → i < n → peak (g i) ≤ m) → peak (upTo g n) ≤ m
-unfolding peak upTo
-peak-upTo g zero m h = omega arith
-peak-upTo g (suc n) m h = omega (arith, peak-append (upTo g n) (g n), peak-upTo g n m (λ i l. h i (omega arith)), h n (omega arith))
-
-peak-pick : (b : Bool) (ms ns : List Node) (m : ℕ) → peak ms ≤ m → peak ns ≤ m → peak (pick b ms ns) ≤ m
-unfolding pick
-peak-pick true ms ns m h k = h
-peak-pick false ms ns m h k = k
-
-peak-getD : (ns : List Node) (k : ℕ) → highestAt (getD ns k (constant false)) ≤ peak ns
-unfolding peak highestAt
-peak-getD [] k = omega arith
-peak-getD (nd ∷ ns) zero = omega arith
-peak-getD (nd ∷ ns) (suc k) = omega (arith, peak-getD ns k)
-
-levelJoin-nameless : (q : Quantifier) (m c : ℕ) → highestAt (levelJoin q m c) ≡ 0
-unfolding levelJoin highestAt
-levelJoin-nameless exists m c = refl
-levelJoin-nameless for-all m c = refl
-
-module _ (t : Table) where
-  newName-le : (i x : ℕ) → i < t .size → t .node i ≡ variable x → newName t i x ≤ lastName t
-  unfolding newName
-  newName-le i x h e = go (look (ltb (binder t i x) (t .size)))
-    where
-      go : Is (ltb (binder t i x) (t .size)) → newName t i x ≤ lastName t
-      go (is-true l) =
-          let k : binder t i x < t .size = ltb-true (binder t i x) (t .size) l in
-          omega (arith, newNames-le t (binder t i x) (newName t i x) k (newName-bound t i x k))
-      go (is-false l) =
-          let s : newName t i x ≡ x = pick-no (ltb (binder t i x) (t .size)) _ x l in omega (arith, variable-le t i x h e)
-
-  renamed-le : (i : ℕ) → i < kept t → highestAt (renamed t i (t .node i)) ≤ lastName t
-  unfolding renamed highestAt isBlock
-  renamed-le i h = go (t .node i) refl
-    where
-      go : (nd : Node) → t .node i ≡ nd → highestAt (renamed t i nd) ≤ lastName t
-      go (constant b) e = omega arith
-      go (variable x) e = newName-le i x (omega (arith, kept-le t)) e
-      go (negation a) e = omega arith
-      go (operator f a b) e = omega arith
-      go (block q xs a) e = definition-le t i (omega (arith, kept-le t)) (kept-inner t i h (ap isBlock e))
-
-  first-le : peak (firstNodes t) ≤ lastName t
-  unfolding firstNodes peak
-  first-le = peak-upTo (λ i. renamed t i (t .node i) ∷ []) (kept t) (lastName t) (λ i h. omega (arith, renamed-le i h))
-
-  equation-le : (i s k : ℕ) → i < t .size → inner t i ≡ true → k < count t i → peak (equation t i s k) ≤ lastName t
-  unfolding equation peak highestAt
-  equation-le i s k h n l =
-      let x = getD (newNames t i) k 0 in
-      let y = getD (copies t i) k 0 in
-      let a : x ≤ lastName t = omega (arith, newNames-le t i x h (mem-getD (newNames t i) k 0 (omega (arith, length-newNames t i)))) in
-      let b : y ≤ lastName t = omega (arith, copies-le t i y h n (mem-getD (copies t i) k 0 (omega (arith, length-copies t i)))) in
-      peak-pick (eqb k 0) _ _ (lastName t) (omega arith) (omega arith)
-
-  constraint-le : (i s : ℕ) → i < t .size → inner t i ≡ true → peak (constraint t i s) ≤ lastName t
-  unfolding constraint peak highestAt
-  constraint-le i s h n =
-      let c = count t i in
-      let e = s + 4 * c in
-      let definition = variable (definitionVariable t i) in
-      let es = upTo (equation t i (s + 2)) c in
-      let gs = definition ∷ operator (guard (quantifierAt (t .node i))) (e + 1) e ∷ operator and (s + 1) (e + 2) ∷ [] in
-      let d : definitionVariable t i ≤ lastName t = definition-le t i h n in
-      let r : peak es ≤ lastName t = peak-upTo (equation t i (s + 2)) c (lastName t) (λ k l. equation-le i (s + 2) k h n l) in
-      let a : peak (es ++ gs) ≤ lastName t = omega (arith, peak-append es gs) in
-      let p : peak (pick (eqb c 0) [] (es ++ gs)) ≤ lastName t = peak-pick (eqb c 0) [] (es ++ gs) (lastName t) (omega arith) a in
-      omega arith
-
-  further-le : (is : List ℕ) (s : ℕ) → ((i r : ℕ) → mem i is ≡ true → peak (constraint t i r) ≤ lastName t) → peak (further t is s) ≤ lastName t
-  unfolding further peak highestAt
-  further-le [] s h = omega arith
-  further-le (i ∷ is) s h =
-      let c = constraint t i s in
-      let e = s + length c in
-      omega (
-        arith,
-        peak-append c (operator and (s - 1) (e - 1) ∷ further t is (e + 1)),
-        h i s (mem-head i is),
-        further-le is (e + 1) (λ j r m. h j r (mem-tail j i is m)),
-      )
-
-  constraints-le : (is : List ℕ) (s : ℕ) → ((i r : ℕ) → mem i is ≡ true → peak (constraint t i r) ≤ lastName t) → peak (constraints t is s) ≤ lastName t
-  unfolding constraints peak
-  constraints-le [] s h = omega arith
-  constraints-le (i ∷ is) s h =
-      let c = constraint t i s in
-      omega (
-        arith,
-        peak-append c (further t is (s + length c)),
-        h i s (mem-head i is),
-        further-le is (s + length c) (λ j r m. h j r (mem-tail j i is m)),
-      )
-
-  -- document 01's bounds on the input: 65,535 + 3 × 4,096 is 77,823
-  pub lastName-le : highestNumber t ≤ 65535 → boundCount t ≤ 4096 → t .size ≤ 4096 → lastName t ≤ 77823
-  unfolding boundCount
-  lastName-le f q n = omega (arith, innerBound-le t (t .size), innerBelow-le t, blockCount-le t)
-
-  module _ (tree : Tree t) where
-    levelNodes-le : (j s : ℕ) → peak (levelNodes t j s) ≤ lastName t
-    unfolding levelNodes peak
-    levelNodes-le j s =
-        let cs = constraints t (blocksAt t (suc j)) s in
-        let w = levelJoin (levelQuantifier t j) (s - 1) (s + length cs - 1) in
-        omega (
-          arith,
-          peak-append cs (w ∷ []),
-          levelJoin-nameless (levelQuantifier t j) (s - 1) (s + length cs - 1),
-          constraints-le (blocksAt t (suc j)) s (λ i r m. constraint-le i r (blocksAt-lt t tree (suc j) i m) (blocksAt-inner t tree (suc j) i m)),
-        )
-
-    nodesTo-le : (j : ℕ) → peak (nodesTo t j) ≤ lastName t
-    unfolding nodesTo
-    nodesTo-le zero = first-le
-    nodesTo-le (suc j) =
-        let ns = nodesTo t j in omega (arith, peak-append ns (levelNodes t j (length ns)), nodesTo-le j, levelNodes-le j (length ns))
-
-    -- the names of the written nodes are at most the last one
-    pub node-le : (k x : ℕ) → getD (prenexNodes t) k (constant false) ≡ variable x → x ≤ lastName t
-    unfolding prenexNodes highestAt
-    node-le k x e =
-        let h : highestAt (getD (prenexNodes t) k (constant false)) ≡ x = ap highestAt e in
-        omega (arith, peak-getD (prenexNodes t) k, nodesTo-le (levels t))
-
-    -- the names of a written form are at most 77,823
-    module _ (f : highestNumber t ≤ 65535) (q : boundCount t ≤ 4096) (n : t .size ≤ 4096) where
-      pub prefix-name-le : (x : ℕ) → mem x (writtenVariables t) ≡ true → x ≤ 77823
-      prefix-name-le x m = omega (arith, prefix-le t tree x m, lastName-le f q n)
-
-      pub node-name-le : (k x : ℕ) → getD (prenexNodes t) k (constant false) ≡ variable x → x ≤ 77823
-      node-name-le k x e = omega (arith, node-le k x e, lastName-le f q n)

@@ -1,18 +1,19 @@
--- The words of the written nodes: whole nodes of kinds 1 to 4, a tree, and few.
+-- The words of the written nodes: whole nodes, a tree, and few.
 -- Assumes nothing.
-use mathlib.Core.Path.{_≡_, sym, _∙_, subst}
+use mathlib.Core.Path.{_≡_, sym, subst}
+use mathlib.Core.Bool.{false}
 use mathlib.Core.List.{[]}
 use Prim.Native.Nat.{ℕ, _+_, _*_, _≤_, _<_}
 use native.Mathlib.Omega.{arith}
-use lib.ListN.{length}
-use Rattle.formula.specs.Node.{Table}
-use Rattle.formula.specs.Words.{width, nodeCount, field, tableOf}
+use lib.ListN.{length, getD}
+use Rattle.formula.specs.Node.{constant, Table}
+use Rattle.formula.specs.Words.{width, nodeCount, wordsAt, wordsOf, tableOf}
 use Rattle.formula.specs.Tree.{Tree}
 use Rattle.prenex_form.specs.Names.{boundCount}
 use Rattle.prenex_form.specs.Matrix.{prenexNodes, writtenNodes}
 use Rattle.prenex_form.specs.Prefix.{blockCount}
-use Rattle.prenex_form.proofs.NodeLists.{length-words, words-count, kinds-plain}
-use Rattle.prenex_form.proofs.WrittenOrder.{prenex-plain, written-table}
+use Rattle.prenex_form.proofs.NodeLists.{length-words, words-count, words-at}
+use Rattle.prenex_form.proofs.WrittenOrder.{written-table}
 use Rattle.prenex_form.proofs.WrittenSizes.{length-prenexNodes, nodes-le, nodes-few}
 use Rattle.prenex_form.proofs.WrittenTree.{prenex-tree}
 
@@ -25,9 +26,9 @@ module _ (t : Table) (tree : Tree t) where
   unfolding writtenNodes
   written-count = words-count (prenexNodes t)
 
-  pub written-kinds : (i : ℕ) → i < nodeCount (writtenNodes t) → (1 ≤ field (writtenNodes t) i 0) × (field (writtenNodes t) i 0 ≤ 4)
+  pub written-words : (i : ℕ) → i < nodeCount (writtenNodes t) → wordsAt (writtenNodes t) i ≡ wordsOf (getD (prenexNodes t) i (constant false))
   unfolding writtenNodes
-  written-kinds i h = kinds-plain (prenexNodes t) (prenex-plain t tree) i (rw words-count at h)
+  written-words i h = words-at (prenexNodes t) i (rw words-count at h)
 
   pub written-tree : Tree (tableOf (writtenNodes t) [])
   written-tree = subst Tree (sym (written-table t tree)) (prenex-tree t tree)
