@@ -3,7 +3,6 @@
 use mathlib.Core.Path.{_≡_, refl, sym, _∙_, ap}
 use mathlib.Core.Bool.{Bool, true, false, not, _&&_, _||_, or-true, or-false, and-true, and-false}
 use mathlib.Core.List.{List, [], _∷_, _++_, append-nil}
-use mathlib.Core.Logic.{_⊎_, inl, inr, ⊎-elim}
 use Prim.Native.Nat.{ℕ, zero, suc, _+_, _≤_, _<_}
 use native.Mathlib.Numerals.{add-one}
 use native.Mathlib.Omega.{arith}
@@ -11,25 +10,25 @@ use lib.Dec.{eqb, leb, ltb}
 use lib.ListN.{length, getD, set, drop, replicate, length-set, length-drop, length-replicate}
 use lib.Seq.{take-suc, getD-drop}
 use borrow.Author.Tests.{eqb-true, ne-eqb, ltb-true, ltb-false, lt-ltb, le-ltb, leb-true}
-use Rattle.lists.specs.Choice.{pick, pick-yes, pick-no, Is, is-true, is-false, look, clash, and-left, and-right, absent}
+use Rattle.lists.specs.Choice.{pick, pick-yes, pick-no, Is, is-true, is-false, look, clash, and-left, and-right, or-cases, absent}
 use Rattle.lists.specs.Search.{lowest, someBelow}
 use Rattle.lists.specs.Members.{mem}
 use Rattle.lists.specs.Parts.{upTo}
 use Rattle.lists.proofs.Search.{lowest-holds, lowest-cong}
-use Rattle.lists.proofs.Members.{mem-append, mem-one, mem-getD, all-mem}
+use Rattle.lists.proofs.Members.{mem-append, mem-one, mem-getD, place-lt, all-mem}
 use Rattle.lists.proofs.Parts.{upTo-cong}
 use Rattle.lists.proofs.Stores.{getD-filled, getD-set}
 use Rattle.formula.specs.Node.{bound}
 use Rattle.formula.specs.Words.{nodeCount, field, isBlockKind, range, nodeAt, tableOf}
-use Rattle.formula.proofs.Nodes.{Kind, kind-constant, kind-variable, kind-negation, kind-operator, kind-exists, kind-for-all, kind-none, kind-of, node-constant, node-variable, node-negation, node-operator, node-exists, node-for-all, node-none}
+use Rattle.formula.proofs.Nodes.{Kind, kind-constant, kind-variable, kind-negation, kind-operator, kind-exists, kind-for-all, kind-none, kind-of, node-constant, node-variable, node-negation, node-operator, node-exists, node-for-all, node-none, is-block, node-block}
 use Rattle.formula.proofs.Ranges.{range-length, range-at}
-use Rattle.acceptance.specs.Verdict.{isNumber}
+use Rattle.acceptance.specs.Verdict.{isNumberTo, isNumber}
 use Rattle.acceptance.specs.Accepted.{Accepted}
 use Rattle.prenex_form.specs.Names.{highestNumber}
 use Rattle.prenex_form.specs.FreeVariables.{standsAt, someNode, isFreeVariable, freeVariables}
-use Rattle.prenex_form.proofs.NameLaws.{variable-le}
+use Rattle.prenex_form.proofs.NameLaws.{none-bound, variable-le}
 use Rattle.prenex_form.proofs.Limits.{highest-limit}
-use Rattle.free_variables.specs.Steps.{variableBelow, boundBy, coveredBelow, Numbered, Flagged, Cleared, chosen, flagged}
+use Rattle.free_variables.specs.Steps.{variableBelow, coveredBelow, Numbered, Flagged, Cleared, Without, chosen, flagged}
 
 -- Some number below n passes a test.
 
@@ -65,16 +64,13 @@ module _ (ws ls : List ℕ) where
   unfolding coveredBelow
   covered-none x = some-none _
 
-  covered-next : (i x : ℕ) → coveredBelow ws ls (i + 1) x ≡ (coveredBelow ws ls i x || mem x (boundBy ls (field ws i 0) (field ws i 1) (field ws i 2)))
+  covered-next : (i x : ℕ) → coveredBelow ws ls (i + 1) x ≡ (coveredBelow ws ls i x || mem x (bound (nodeAt ws ls i)))
   unfolding coveredBelow
   covered-next i x = some-next _ i
 
-upTo-suc : (g : ℕ → List ℕ) (n : ℕ) → upTo g (suc n) ≡ upTo g n ++ g n
-unfolding upTo
-upTo-suc g n = refl
-
 -- Parts that are empty from m on add nothing.
 upTo-rest : (g : ℕ → List ℕ) (m n : ℕ) → m ≤ n → ((x : ℕ) → m ≤ x → g x ≡ []) → upTo g n ≡ upTo g m
+unfolding upTo
 upTo-rest g m zero h empty = let e : m ≡ zero = omega arith in rw e
 upTo-rest g m (suc n) h empty = go (look (ltb n m)) (upTo-rest g m n)
   where
@@ -84,7 +80,7 @@ upTo-rest g m (suc n) h empty = go (look (ltb n m)) (upTo-rest g m n)
         let e : m ≡ suc n = omega arith in rw e
     go (is-false t) next =
         let l : m ≤ n = ltb-false n m t in
-        upTo-suc g n ∙ rw (empty n l, append-nil (upTo g n)) (next l empty)
+        rw (empty n l, append-nil (upTo g n)) (next l empty)
 
 -- Flags after a store.
 
@@ -115,10 +111,6 @@ flags-none ws n e =
       under = λ x h. clash h (variable-none ws x);
     }
 
-or-cases : (a b : Bool) → (a || b) ≡ true → Is a → (a ≡ true) ⊎ (b ≡ true)
-or-cases a b h (is-true e) = inl e
-or-cases a b h (is-false e) = inr (rw e at h)
-
 module _ (ws : List ℕ) (flags : List Bool) (i end : ℕ) (m : Flagged ws flags i end) where
   pub flags-other : (field ws i 0 ≡ 2 → ⊥) → Flagged ws flags (i + 1) end
   flags-other n =
@@ -142,13 +134,16 @@ module _ (ws : List ℕ) (flags : List Bool) (i end : ℕ) (m : Flagged ws flags
         flag-is = λ x. set-flag flags y (omega arith) x ∙ ap (λ b. b || eqb x y) (m .flag-is x) ∙ sym (next x);
         low = low;
         under = λ x h.
-            ⊎-elim
+            or-cases (variableBelow ws i x) (eqb x y) (sym (next x) ∙ h)
             (λ v. omega (arith, m .under x v))
-            (λ q. omega (arith, eqb-true x y q))
-            (or-cases (variableBelow ws i x) (eqb x y) (sym (next x) ∙ h) (look (variableBelow ws i x)));
+            (λ q. omega (arith, eqb-true x y q));
       }
 
 -- Clearing what blocks cover.
+
+bound-range : (ws ls : List ℕ) (i : ℕ) → isBlockKind (field ws i 0) ≡ true → bound (nodeAt ws ls i) ≡ range ls (field ws i 1) (field ws i 2)
+unfolding bound
+bound-range ws ls i b = ap bound (node-block ws ls i (is-block ws ls i ∙ b))
 
 pub cleared-none : (ws ls : List ℕ) (flags : List Bool) (end : ℕ) → Flagged ws flags (nodeCount ws) end → Cleared ws ls flags 0
 cleared-none ws ls flags end m =
@@ -163,34 +158,31 @@ and-nor true false c = refl
 and-nor false b c = refl
 
 module _ (ws ls : List ℕ) (flags : List Bool) (i : ℕ) (u : Cleared ws ls flags i) where
-  pub cleared-next : (after : List Bool) → length after ≡ length flags
-      → ((x : ℕ) → getD after x false ≡ (getD flags x false && not (mem x (boundBy ls (field ws i 0) (field ws i 1) (field ws i 2)))))
+  cleared-next : (after : List Bool) → length after ≡ length flags
+      → Without flags (bound (nodeAt ws ls i)) after
       → Cleared ws ls after (i + 1)
   cleared-next after same step =
       record {
         wide = same ∙ u .wide;
         flag-is = λ x.
             step x
-            ∙ ap (λ b. b && not (mem x (boundBy ls (field ws i 0) (field ws i 1) (field ws i 2)))) (u .flag-is x)
-            ∙ and-nor (variableBelow ws (nodeCount ws) x) (coveredBelow ws ls i x) (mem x (boundBy ls (field ws i 0) (field ws i 1) (field ws i 2)))
+            ∙ ap (λ b. b && not (mem x (bound (nodeAt ws ls i)))) (u .flag-is x)
+            ∙ and-nor (variableBelow ws (nodeCount ws) x) (coveredBelow ws ls i x) (mem x (bound (nodeAt ws ls i)))
             ∙ ap (λ b. variableBelow ws (nodeCount ws) x && not b) (sym (covered-next ws ls i x));
       }
 
   -- at a node that is no block
   pub cleared-other : isBlockKind (field ws i 0) ≡ false → Cleared ws ls flags (i + 1)
-  unfolding boundBy mem
   cleared-other n =
-      cleared-next flags refl
-      (λ x. sym (rw (pick-no (isBlockKind (field ws i 0)) (range ls (field ws i 1) (field ws i 2)) [] n) (and-true (getD flags x false))))
+      let none : (x : ℕ) → mem x (bound (nodeAt ws ls i)) ≡ false =
+      λ x. absent _ (λ m. omega (arith, place-lt x _ m, none-bound (nodeAt ws ls i) (is-block ws ls i ∙ n))) in
+      cleared-next flags refl (λ x. sym (rw (none x) (and-true (getD flags x false))))
 
   -- at a block
   pub cleared-block : isBlockKind (field ws i 0) ≡ true → (after : List Bool) → length after ≡ length flags
-      → ((x : ℕ) → getD after x false ≡ (getD flags x false && not (mem x (range ls (field ws i 1) (field ws i 2)))))
+      → Without flags (range ls (field ws i 1) (field ws i 2)) after
       → Cleared ws ls after (i + 1)
-  unfolding boundBy
-  cleared-block b after same step =
-      cleared-next after same
-      (λ x. step x ∙ rw (pick-yes (isBlockKind (field ws i 0)) (range ls (field ws i 1) (field ws i 2)) [] b))
+  cleared-block b after same step = cleared-next after same (λ x. rw (bound-range ws ls i b) (step x))
 
 -- One entry of a block's range.
 
@@ -199,10 +191,6 @@ unfolding range
 range-next ls first k h =
     let l : k < length (drop first ls) = simp length-drop (omega arith) in
     rw add-one (take-suc (drop first ls) k 0 l ∙ rw getD-drop)
-
--- The flags `before` with those of the numbers xs taken back.
-abbrev pub Without : List Bool → List ℕ → List Bool → Type 0
-Without before xs flags = (x : ℕ) → getD flags x false ≡ (getD before x false && not (mem x xs))
 
 pub without-none : (ls : List ℕ) (first : ℕ) (before : List Bool) → Without before (range ls first 0) before
 unfolding range mem
@@ -246,25 +234,11 @@ module _ (ws ls : List ℕ) where
       go (kind-for-all e) = rw (node-for-all ws ls j e, e)
       go (kind-none e1 e2 e3 e4 e5 e6) = rw (node-none ws ls j e1 e2 e3 e4 e5 e6, e2)
 
-  bound-is : (j : ℕ) → bound (nodeAt ws ls j) ≡ boundBy ls (field ws j 0) (field ws j 1) (field ws j 2)
-  unfolding bound boundBy isBlockKind pick
-  bound-is j = go (kind-of (field ws j 0))
-    where
-      go : Kind (field ws j 0) → bound (nodeAt ws ls j) ≡ boundBy ls (field ws j 0) (field ws j 1) (field ws j 2)
-      go (kind-constant e) = rw (node-constant ws ls j e, e)
-      go (kind-variable e) = rw (node-variable ws ls j e, e)
-      go (kind-negation e) = rw (node-negation ws ls j e, e)
-      go (kind-operator e) = rw (node-operator ws ls j e, e)
-      go (kind-exists e) = rw (node-exists ws ls j e, e)
-      go (kind-for-all e) = rw (node-for-all ws ls j e, e)
-      go (kind-none e1 e2 e3 e4 e5 e6) = rw (node-none ws ls j e1 e2 e3 e4 e5 e6, e5, e6)
-
   free-is : (x : ℕ) → isFreeVariable (tableOf ws ls) x ≡ (variableBelow ws (nodeCount ws) x && not (coveredBelow ws ls (nodeCount ws) x))
   unfolding isFreeVariable someNode tableOf variableBelow coveredBelow someBelow
   free-is x =
       let n : ℕ = nodeCount ws in
-      let v = lowest-cong _ _ n (λ j h. stands-is j x) in
-      let c = lowest-cong _ _ n (λ j h. ap (mem x) (bound-is j)) in rw (v, c)
+      let v = lowest-cong _ _ n (λ j h. stands-is j x) in rw v
 
   module _ (a : Accepted ws ls) where
     pub numbered : Numbered ws
@@ -274,10 +248,8 @@ module _ (ws ls : List ℕ) where
 
     pub range-numbered : (i : ℕ) → i < nodeCount ws → isBlockKind (field ws i 0) ≡ true
         → (x : ℕ) → mem x (range ls (field ws i 1) (field ws i 2)) ≡ true → x < 65536
-    unfolding boundBy
     range-numbered i h b x m =
-        let e : bound (nodeAt ws ls i) ≡ range ls (field ws i 1) (field ws i 2) = bound-is i ∙ pick-yes _ _ _ b in
-        number-below x (all-mem isNumber (bound (nodeAt ws ls i)) x (a .numbered i h) (rw e m))
+        number-below x (all-mem isNumber (bound (nodeAt ws ls i)) x (a .numbered i h) (rw (bound-range ws ls i b) m))
 
     -- a number above the highest is not free
     above-highest : (x : ℕ) → suc (highestNumber (tableOf ws ls)) ≤ x → isFreeVariable (tableOf ws ls) x ≡ false

@@ -6,15 +6,18 @@ use mathlib.Core.List.{List, [], _∷_}
 use Prim.Native.Nat.{ℕ, _+_, _≤_, _<_}
 use native.Mathlib.Omega.{arith}
 use lib.ListN.{length, getD}
-use borrow.Author.Tests.{lt-ltb, le-ltb, eq-eqb, ne-eqb}
+use borrow.Author.Tests.{lt-ltb, le-ltb}
 use Rattle.lists.specs.Choice.{pick, pick-yes, pick-no}
 use Rattle.lists.specs.Parts.{upTo, overwrite}
 use Rattle.lists.proofs.Overwrite.{overwrite-next, length-next, room-for-part}
 use Rattle.formula.specs.Words.{tableOf}
+use Rattle.refusals.specs.Verdict.{refusal, accepted}
+use Rattle.refusals.specs.Outcome.{refused, done}
+use Rattle.refusals.specs.declared.Verdict.{Verdict}
+use Rattle.refusals.proofs.Outcome.{call-next, call-refused, call-room, call-short}
 use Rattle.acceptance.specs.Verdict.{verdict}
 use Rattle.prenex_form.specs.FreeVariables.{freeVariables}
-use Rattle.free_variables.specs.declared.Listed.{Listed}
-use Rattle.free_variables.specs.Outcome.{Outcome, refused, listing, listed}
+use Rattle.free_variables.specs.Outcome.{after, listing, listed}
 use Rattle.free_variables.specs.Steps.{chosen, flagged}
 
 pub chosen-yes : (flag : Bool) (x : ℕ) → flag ≡ true → chosen flag x ≡ x ∷ []
@@ -62,24 +65,22 @@ module _ (flags : List Bool) where
 
 -- The answer and the buffer at each return.
 
-pub listing-short : (r : Listed) (names xs : List ℕ) → r ≡ record { number = 9; position = 0; count = 0 } → length names < length xs
-    → _≡_ {A = Outcome} (record { answer = r; names = names }) (listing names xs)
-unfolding listing refused
-listing-short r names xs e h = rw e (sym (pick-yes _ _ _ (lt-ltb _ _ h)))
+module _ (v : Verdict) (names xs : List ℕ) where
+  pub listing-short : v ≡ refusal 9 0 → length names < length xs → after (record { verdict = v; count = 0 }) names ≡ listing names xs
+  unfolding after listing refused
+  listing-short e h = rw e (sym (call-short _ _ _ _ (lt-ltb _ _ h)))
 
-pub listing-done : (names after xs : List ℕ) (count : ℕ) → count ≡ length xs → length xs ≤ length names → after ≡ overwrite names 0 xs
-    → _≡_ {A = Outcome} (record { answer = record { number = 0; position = 0; count = count }; names = after }) (listing names xs)
-unfolding listing
-listing-done names after xs count e h w = rw (e, w) (sym (pick-no _ _ _ (le-ltb _ _ h)))
+  pub listing-done : v ≡ accepted → length xs ≤ length names → (count : ℕ) → count ≡ length xs → (next : List ℕ) → next ≡ overwrite names 0 xs
+      → after (record { verdict = v; count = count }) next ≡ listing names xs
+  unfolding after listing done
+  listing-done e h count c next w = rw (e, c, w) (sym (call-room _ _ _ _ (le-ltb _ _ h)))
 
 module _ (ws ls names : List ℕ) where
-  pub listed-refused : (r : Listed)
-      → r ≡ record { number = verdict ws ls .number; position = verdict ws ls .position; count = 0 }
-      → (verdict ws ls .number ≡ 0 → ⊥)
-      → _≡_ {A = Outcome} (record { answer = r; names = names }) (listed ws ls names)
-  unfolding listed refused
-  listed-refused r e n = rw e (sym (pick-no _ _ _ (ne-eqb _ _ n)))
+  pub listed-refused : (v : Verdict) → v ≡ verdict ws ls → (v .number ≡ 0 → ⊥)
+      → after (record { verdict = v; count = 0 }) names ≡ listed ws ls names
+  unfolding after listed refused
+  listed-refused v e n = rw (← e) (sym (call-refused _ _ _ v n))
 
   pub listed-accepted : verdict ws ls .number ≡ 0 → listing names (freeVariables (tableOf ws ls)) ≡ listed ws ls names
-  unfolding listed listing
-  listed-accepted z = sym (pick-yes _ _ _ (eq-eqb _ _ z))
+  unfolding listed
+  listed-accepted z = sym (call-next _ _ _ _ z)

@@ -10,19 +10,16 @@ use Rattle.lists.specs.Choice.{pick}
 use Rattle.lists.specs.Search.{someBelow}
 use Rattle.lists.specs.Members.{mem}
 use Rattle.lists.specs.Parts.{upTo}
-use Rattle.formula.specs.Words.{nodeCount, field, isBlockKind, range}
+use Rattle.formula.specs.Node.{bound}
+use Rattle.formula.specs.Words.{nodeCount, field, nodeAt}
 
 -- x stands at a variable node below node i.
 unfoldable pub variableBelow : List ℕ → ℕ → ℕ → Bool
 variableBelow ws i x = someBelow (λ j. eqb (field ws j 0) 2 && eqb x (field ws j 1)) i
 
--- What a node with these words binds.
-unfoldable pub boundBy : List ℕ → ℕ → ℕ → ℕ → List ℕ
-boundBy ls kind a b = pick (isBlockKind kind) (range ls a b) []
-
 -- A block below node i covers x.
 unfoldable pub coveredBelow : List ℕ → List ℕ → ℕ → ℕ → Bool
-coveredBelow ws ls i x = someBelow (λ j. mem x (boundBy ls (field ws j 0) (field ws j 1) (field ws j 2))) i
+coveredBelow ws ls i x = someBelow (λ j. mem x (bound (nodeAt ws ls j))) i
 
 -- The number at each variable node has a flag.
 abbrev pub Numbered : List ℕ → Type 0
@@ -39,6 +36,10 @@ pub record Flagged (ws : List ℕ) (flags : List Bool) (i end : ℕ) : Type 0 wh
 pub record Cleared (ws ls : List ℕ) (flags : List Bool) (i : ℕ) : Type 0 where
   pub wide : length flags ≡ 65536
   pub flag-is : (x : ℕ) → getD flags x false ≡ (variableBelow ws (nodeCount ws) x && not (coveredBelow ws ls i x))
+
+-- The flags `before` with those of the numbers xs taken back.
+abbrev pub Without : List Bool → List ℕ → List Bool → Type 0
+Without before xs flags = (x : ℕ) → getD flags x false ≡ (getD before x false && not (mem x xs))
 
 -- x, if its flag is set.
 unfoldable pub chosen : Bool → ℕ → List ℕ

@@ -1,33 +1,34 @@
 // Lists the free variables of a formula table.
-ghost use mathlib.Core.Bool.{true, false, not, _&&_};
+ghost use mathlib.Core.Bool.{true};
 ghost use mathlib.Core.Path.{_≡_};
 ghost use Prim.Native.Nat.{ℕ, _+_, _<_, _≤_};
-ghost use lib.ListN.{length, getD};
+ghost use lib.ListN.{length};
 ghost use Rattle.lists.specs.Choice.{pick};
 ghost use Rattle.lists.specs.Members.{mem};
 ghost use Rattle.lists.specs.Parts.{overwrite};
 ghost use Rattle.formula.specs.Words.{nodeCount, range, tableOf};
 ghost use Rattle.acceptance.specs.Accepted.{Accepted};
 ghost use Rattle.prenex_form.specs.FreeVariables.{freeVariables};
-ghost use Rattle.free_variables.specs.Outcome.{Outcome, listing, listed};
+ghost use Rattle.free_variables.specs.Outcome.{after, listing, listed};
 ghost use Rattle.free_variables.specs.Steps.{
   Numbered,
   Flagged,
   Cleared,
+  Without,
   chosen,
   flagged,
 };
 use formula::VARIABLE;
 use refusals::ACCEPTED;
 use refusals::BUFFER_TOO_SHORT;
+use refusals::Verdict;
 
 // The length of an array that a variable's number is an index of.
 const NUMBERS: usize = 65536;
 
-// Document 01's number of a refusal (0: done), its position, and how many names were written.
+// The verdict, and how many names were written.
 pub struct Listed {
-    pub number: u32,
-    pub position: u32,
+    pub verdict: Verdict,
     pub count: u32,
 }
 
@@ -36,31 +37,22 @@ pub struct Listed {
 //
 // The contract rules out a lister whose buffer is written on refusal, and one by which the highest number is left out.
 pub fn free_variables(words: &[u32], list: &[u32], names: &mut [u32]) -> Listed
-    ensures { λ r. ⌜ _≡_ {A = Outcome} (record { answer = r; names = now (names .exit) }) (listed (now (words .entry)) (now (list .entry)) (now (names .entry))) ⌝ }
+    ensures outcome { λ r. ⌜ after r (now (names .exit))
+        ≡ listed (now (words .entry)) (now (list .entry)) (now (names .entry)) ⌝ }
 {
     let verdict = table_check::check(words, list);
     if verdict.number != ACCEPTED {
-        return refusal(verdict.number, verdict.position);
+        return Listed { verdict, count: 0 };
     }
     list_accepted(words, list, names)
-}
-
-// "On refusal all sizes are 0."
-fn refusal(number: u32, position: u32) -> Listed
-    ensures { λ r. ⌜ r ≡ record { number = number; position = position; count = 0 } ⌝ }
-{
-    Listed {
-        number,
-        position,
-        count: 0,
-    }
 }
 
 // Lists the free variables of an accepted table. Flag x is set if x stands at a variable node, and once all are set, it is
 // taken back if a block covers x: the numbers whose flag is set in the end are free.
 fn list_accepted(words: &[u32], list: &[u32], names: &mut [u32]) -> Listed
     requires { ⌜ Accepted (now words) (now list) ⌝ }
-    ensures { λ r. ⌜ _≡_ {A = Outcome} (record { answer = r; names = now (names .exit) }) (listing (now (names .entry)) (freeVariables (tableOf (now (words .entry)) (now (list .entry))))) ⌝ }
+    ensures { λ r. ⌜ after r (now (names .exit))
+        ≡ listing (now (names .entry)) (freeVariables (tableOf (now (words .entry)) (now (list .entry)))) ⌝ }
 {
     let mut flags = [false; NUMBERS];
     let end = flag_variables(words, &mut flags);
@@ -134,7 +126,7 @@ fn clear_node(words: &[u32], list: &[u32], flags: &mut [bool], i: usize)
 fn clear_range(list: &[u32], flags: &mut [bool], first: u32, count: u32)
     requires { ⌜ first + count ≤ length (now list) ⌝ }
     requires { ⌜ ((x : ℕ) → mem x (range (now list) first count) ≡ true → x < length (now flags)) ⌝ }
-    ensures { λ r. ⌜ ((x : ℕ) → getD (now (flags .exit)) x false ≡ (getD (now (flags .entry)) x false && not (mem x (range (now (list .entry)) first count)))) ⌝ }
+    ensures { λ r. ⌜ Without (now (flags .entry)) (range (now (list .entry)) first count) (now (flags .exit)) ⌝ }
 {
     let first = first as usize;
     let count = count as usize;
@@ -148,19 +140,18 @@ fn clear_range(list: &[u32], flags: &mut [bool], first: u32, count: u32)
 // Writes the numbers below `end` whose flag is set, ascending, if there is room for all of them.
 fn list_flagged(flags: &[bool], end: usize, names: &mut [u32]) -> Listed
     requires { ⌜ (end ≤ length (now flags)) × (end ≤ 65536) ⌝ }
-    ensures { λ r. ⌜ _≡_ {A = Outcome} (record { answer = r; names = now (names .exit) }) (listing (now (names .entry)) (flagged (now (flags .entry)) end)) ⌝ }
+    ensures { λ r. ⌜ after r (now (names .exit))
+        ≡ listing (now (names .entry)) (flagged (now (flags .entry)) end) ⌝ }
 {
     let count = count_flagged(flags, end);
     if names.len() < count {
-        return refusal(BUFFER_TOO_SHORT, 0);
+        let verdict = refusals::refusal(BUFFER_TOO_SHORT, 0);
+        return Listed { verdict, count: 0 };
     }
     write_flagged(flags, end, names);
+    let verdict = refusals::accepted();
     let count = count as u32;
-    Listed {
-        number: ACCEPTED,
-        position: 0,
-        count,
-    }
+    Listed { verdict, count }
 }
 
 // How many flags below `end` are set.

@@ -18,7 +18,7 @@ returns : tie.Need-returns
 returns c =
     let e = c .before .before .node-at .ensures in
     let k = c .before .is-block-kind .ensures in
-    cleared-other _ _ _ _ (c .before .before .before .before .before .before .pre .1 .1) (rw (e .0) at (sym k ∙ not-true _ (c .if1 .taken)))
+    cleared-other _ _ _ _ (c .before .before .before .before .before .before .pre .1 .1) (rw e at (sym k ∙ not-true _ (c .if1 .taken)))
 
 clear-range-requires : tie.Need-clear-range-requires
 clear-range-requires c κs =
@@ -27,9 +27,9 @@ clear-range-requires c κs =
     let k = c .before .before .is-block-kind .ensures in
     let a = start .args in
     let t = start .pre in
-    let b = rw (e .0) at (sym k ∙ not-false _ (c .before .if1 .left)) in
+    let b = rw e at (sym k ∙ not-false _ (c .before .if1 .left)) in
     let w = t .1 .1 .wide in
-    (omega (arith, e .1, e .2, t .0 .fits (a .i) (t .1 .0) b), λ x m. omega (arith, range-numbered (a .words .now) (a .list .now) (t .0) (a .i) (t .1 .0) b x (rw (e .1, e .2) at m)))
+    (rw e (t .0 .fits (a .i) (t .1 .0) b), λ x m. omega (arith, range-numbered (a .words .now) (a .list .now) (t .0) (a .i) (t .1 .0) b x (rw e at m)))
 
 same-length : tie.Need-same-length
 same-length c = search needs
@@ -38,8 +38,8 @@ returns-2 : tie.Need-returns-2
 returns-2 c =
     let e = c .before .before .before .before .before .before .node-at .ensures in
     let k = c .before .before .before .before .before .is-block-kind .ensures in
-    let b = rw (e .0) at (sym k ∙ not-false _ (c .before .before .before .before .if1 .left)) in
-    cleared-block _ _ _ _ (c .before .before .before .before .before .before .before .before .before .before .pre .1 .1) b _ (c .before .before .clear-range .kept .1 .0) (λ x. rw (e .1, e .2) at (c .before .before .clear-range .ensures x))
+    let b = rw e at (sym k ∙ not-false _ (c .before .before .before .before .if1 .left)) in
+    cleared-block _ _ _ _ (c .before .before .before .before .before .before .before .before .before .before .pre .1 .1) b _ (c .before .before .clear-range .kept .1 .0) (λ x. rw e at (c .before .before .clear-range .ensures x))
 
 pub clear-node-spec : {M : Type 1} → statement M
 clear-node-spec =

@@ -6,7 +6,8 @@ use native.Mathlib.Omega.{arith}
 use lib.ListN.{length, length-set}
 use borrow.Author.Needs.{needs}
 use Rattle.formula.specs.Words.{range}
-use Rattle.free_variables.proofs.Flags.{Without, without-none, without-next, entry-in-range}
+use Rattle.free_variables.specs.Steps.{Without}
+use Rattle.free_variables.proofs.Flags.{without-none, without-next, entry-in-range}
 use Rattle.free_variables.proofs.clear_range.Statement.{statement}
 use Rattle.free_variables.proofs.clear_range.Tie as tie
 

@@ -1,8 +1,9 @@
 -- `free_variables::flag_node` meets its contract: the node is no variable, or its number is flagged and `end` is above it.
 -- Assumes nothing.
-use mathlib.Core.Path.{sym, _∙_}
+use mathlib.Core.Path.{sym, _∙_, ap}
 use native.Mathlib.Omega.{arith}
 use borrow.Author.Needs.{needs}
+use Rattle.formula.specs.declared.NodeWords.{NodeWords}
 use Rattle.free_variables.proofs.Flags.{flags-other, flags-variable}
 use Rattle.free_variables.proofs.flag_node.Statement.{statement}
 use Rattle.free_variables.proofs.flag_node.Tie as tie
@@ -11,7 +12,7 @@ node-at-requires : tie.Need-node-at-requires
 node-at-requires c κs = search needs
 
 returns : tie.Need-returns
-returns c = flags-other _ _ _ _ (c .before .before .before .before .before .pre .1 .1) (λ e. c .if1 .taken (c .before .before .node-at .ensures .0 ∙ e))
+returns c = flags-other _ _ _ _ (c .before .before .before .before .before .pre .1 .1) (λ e. c .if1 .taken (ap (λ (w : NodeWords). w .kind) (c .before .before .node-at .ensures) ∙ e))
 
 cast-x : tie.Need-cast-x
 cast-x c = search needs
@@ -20,9 +21,9 @@ slice-write-flags : tie.Need-slice-write-flags
 slice-write-flags c =
     let start = c .before .before .before .before .before .before in
     let e = c .before .before .before .node-at .ensures in
-    let k = sym (e .0) ∙ c .before .if1 .left in
+    let k = sym (ap (λ (w : NodeWords). w .kind) e) ∙ c .before .if1 .left in
     let w = start .pre .1 .1 .wide in
-    omega (arith, e .1, start .pre .0 (start .args .i) (start .pre .1 .0) k)
+    omega (arith, ap (λ (w : NodeWords). w .a) e, start .pre .0 (start .args .i) (start .pre .1 .0) k)
 
 same-length : tie.Need-same-length
 same-length c = search needs
@@ -31,8 +32,9 @@ returns-2 : tie.Need-returns-2
 returns-2 c =
     let start = c .before .before .before .before .before .before .before in
     let e = c .before .before .before .before .node-at .ensures in
-    let k = sym (e .0) ∙ c .before .before .if1 .left in
-    rw (e .1) (flags-variable _ _ _ _ (start .pre .1 .1) k _ (omega arith) (omega (arith, e .1)) (start .pre .1 .1 .low))
+    let k = sym (ap (λ (w : NodeWords). w .kind) e) ∙ c .before .before .if1 .left in
+    let a = ap (λ (w : NodeWords). w .a) e in
+    rw a (flags-variable _ _ _ _ (start .pre .1 .1) k _ (omega arith) (omega arith) (start .pre .1 .1 .low))
 
 add-result : tie.Need-add-result
 add-result c = search needs
@@ -44,9 +46,10 @@ returns-3 : tie.Need-returns-3
 returns-3 c =
     let start = c .before .before .before .before .before .before .before in
     let e = c .before .before .before .before .node-at .ensures in
-    let k = sym (e .0) ∙ c .before .before .if1 .left in
+    let k = sym (ap (λ (w : NodeWords). w .kind) e) ∙ c .before .before .if1 .left in
     let l = start .pre .0 (start .args .i) (start .pre .1 .0) k in
-    rw (e .1) (flags-variable _ _ _ _ (start .pre .1 .1) k _ (omega (arith, e .1)) (omega (arith, e .1)) (omega (arith, e .1)))
+    let a = ap (λ (w : NodeWords). w .a) e in
+    rw a (flags-variable _ _ _ _ (start .pre .1 .1) k _ (omega arith) (omega arith) (omega arith))
 
 pub flag-node-spec : {M : Type 1} → statement M
 flag-node-spec =

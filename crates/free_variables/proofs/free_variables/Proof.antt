@@ -11,14 +11,8 @@ use Rattle.free_variables.proofs.free_variables.Tie as tie
 check-requires : tie.Need-check-requires
 check-requires c κs = search needs
 
-refusal-requires : tie.Need-refusal-requires
-refusal-requires c κs = search needs
-
 returns : tie.Need-returns
-returns c =
-    let e = c .before .before .before .check .ensures in
-    let n = ap (λ v. v .number) e in
-    listed-refused _ _ _ _ (rw e at (c .refusal .ensures)) (λ z. omega arith)
+returns c = listed-refused _ _ _ _ (c .before .before .check .ensures) (λ z. omega arith)
 
 list-accepted-requires : tie.Need-list-accepted-requires
 list-accepted-requires c κs =
@@ -38,4 +32,4 @@ returns-2 c =
 pub free-variables-spec : {M : Type 1} → statement M
 free-variables-spec =
     tie.close
-    (tie.spec check-requires refusal-requires returns list-accepted-requires same-length returns-2)
+    (tie.spec check-requires returns list-accepted-requires same-length returns-2)

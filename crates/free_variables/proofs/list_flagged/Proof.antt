@@ -19,6 +19,9 @@ returns c =
 write-flagged-requires : tie.Need-write-flagged-requires
 write-flagged-requires c κs = search needs
 
+accepted-requires : tie.Need-accepted-requires
+accepted-requires c κs = search needs
+
 cast-count : tie.Need-cast-count
 cast-count c = search needs
 
@@ -27,8 +30,8 @@ same-length c = search needs
 
 returns-2 : tie.Need-returns-2
 returns-2 c =
-    let e = c .before .before .before .before .before .count-flagged .ensures .0 in
-    listing-done _ _ _ _ e (omega arith) (c .before .before .write-flagged .ensures)
+    let e = c .before .before .before .before .before .before .count-flagged .ensures .0 in
+    listing-done _ _ _ (c .accepted .ensures) (omega arith) _ e _ (c .before .before .before .write-flagged .ensures)
 
 pub list-flagged-spec : {M : Type 1} → statement M
 list-flagged-spec =
@@ -38,6 +41,7 @@ list-flagged-spec =
     refusal-requires
     returns
     write-flagged-requires
+    accepted-requires
     cast-count
     same-length
     returns-2)
