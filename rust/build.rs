@@ -1,8 +1,11 @@
-//! Links libwakubinryo.a from ../target/staticlib, or from the folder named by
-//! the environment variable WAKUBINRYO_LIB_DIR.
+//! Links libwakubinryo_tables.a and libwakubinryo_qcir.a from
+//! ../target/staticlib, or from the folder named by the environment variable
+//! WAKUBINRYO_LIB_DIR.
 
 use std::env;
 use std::path::PathBuf;
+
+const LIBRARIES: [&str; 2] = ["wakubinryo_tables", "wakubinryo_qcir"];
 
 fn main() {
     println!("cargo:rerun-if-env-changed=WAKUBINRYO_LIB_DIR");
@@ -13,16 +16,18 @@ fn main() {
             PathBuf::from(package).join("../target/staticlib")
         }
     };
-    let library = folder.join("libwakubinryo.a");
-    println!("cargo:rerun-if-changed={}", library.display());
-    if !library.is_file() {
-        panic!(
-            "{} is missing: run `rt staticlib wakubinryo` in the repository's root",
-            library.display()
-        );
-    }
     println!("cargo:rustc-link-search=native={}", folder.display());
-    println!("cargo:rustc-link-lib=static=wakubinryo");
+    for name in LIBRARIES {
+        let library = folder.join(format!("lib{name}.a"));
+        println!("cargo:rerun-if-changed={}", library.display());
+        if !library.is_file() {
+            panic!(
+                "{} is missing: run `rt staticlib {name}` in the repository's root",
+                library.display()
+            );
+        }
+        println!("cargo:rustc-link-lib=static={name}");
+    }
     // For the test that links the C example.
-    println!("cargo:rustc-env=WAKUBINRYO_LIBRARY={}", library.display());
+    println!("cargo:rustc-env=WAKUBINRYO_LIB_DIR={}", folder.display());
 }

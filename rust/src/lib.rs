@@ -1,7 +1,8 @@
-//! A safe wrapper over the static library wakubinryo, and what its tests and
-//! its benchmarks need: an implementation in plain Rust ([`reference`] and, for
-//! QCIR files, [`qcir`]), truth values by brute force ([`brute`], [`circuit`])
-//! and tables and files to try ([`generate`], [`generate_qcir`]).
+//! A safe wrapper over the static libraries wakubinryo_tables and
+//! wakubinryo_qcir, and what its tests and its benchmarks need: an
+//! implementation in plain Rust ([`reference`] and, for QCIR files, [`qcir`]),
+//! truth values by brute force ([`brute`], [`circuit`]) and tables and files to
+//! try ([`generate`], [`generate_qcir`]).
 //!
 //! A formula table is a slice of words, four to a node, and a list of variable
 //! numbers. See `include/wakubinryo.h` for what each call promises.

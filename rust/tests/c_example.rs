@@ -1,4 +1,5 @@
-//! Builds examples/lift.c with the C compiler, runs it and reads its output.
+//! Builds examples/lift.c with the C compiler, both libraries linked in whole,
+//! runs it and reads its output.
 
 use std::path::Path;
 use std::process::Command;
@@ -32,6 +33,7 @@ variables
 #[test]
 fn c_example_prints_the_form() {
     let repository = Path::new(env!("CARGO_MANIFEST_DIR")).join("..");
+    let libraries = Path::new(env!("WAKUBINRYO_LIB_DIR"));
     let program = Path::new(env!("CARGO_TARGET_TMPDIR")).join("lift");
     let built = Command::new("cc")
         .args([
@@ -45,7 +47,10 @@ fn c_example_prints_the_form() {
         .arg("-I")
         .arg(repository.join("include"))
         .arg(repository.join("examples/lift.c"))
-        .arg(env!("WAKUBINRYO_LIBRARY"))
+        .arg("-Wl,--whole-archive")
+        .arg(libraries.join("libwakubinryo_tables.a"))
+        .arg(libraries.join("libwakubinryo_qcir.a"))
+        .arg("-Wl,--no-whole-archive")
         .arg("-o")
         .arg(&program)
         .output()

@@ -2,8 +2,6 @@
 -- Assumes nothing.
 use mathlib.Core.List.{List, [], _∷_}
 use Prim.Native.Nat.{ℕ}
-use lib.ListN.{getD}
-use Rattle.qcir.specs.Reading.{Outcome}
 use Rattle.free_variables.specs.declared.Listed.{Listed}
 use Rattle.free_variables.specs.Outcome.{listed}
 use Rattle.prenex.specs.Outcome.{answerWords, lifted}
@@ -33,8 +31,3 @@ unfoldable pub listingWords : List ℕ → List ℕ → List ℕ → Listing
 listingWords ws ls names =
     let o = listed ws ls names in
     record { answer = listedWords (o .answer); names = o .names }
-
--- A reading's answer as four words (number, position, words and list entries written), and its two buffers.
-unfoldable pub readWords : List ℕ → List ℕ → List ℕ → Outcome
-readWords answer words list =
-    record { number = getD answer 0 0; position = getD answer 1 0; written = getD answer 2 0; listed = getD answer 3 0; words = words; list = list }

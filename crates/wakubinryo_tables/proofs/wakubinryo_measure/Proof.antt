@@ -1,10 +1,10 @@
--- `wakubinryo::wakubinryo_measure` meets its contract.
+-- `wakubinryo_tables::wakubinryo_measure` meets its contract.
 -- Assumes nothing.
 use mathlib.Core.Path.{_∙_, ap}
 use Rattle.prenex.specs.Outcome.{answerWords}
 use borrow.Author.Needs.{needs}
-use Rattle.wakubinryo.proofs.wakubinryo_measure.Statement.{statement}
-use Rattle.wakubinryo.proofs.wakubinryo_measure.Tie as tie
+use Rattle.wakubinryo_tables.proofs.wakubinryo_measure.Statement.{statement}
+use Rattle.wakubinryo_tables.proofs.wakubinryo_measure.Tie as tie
 
 measure-requires : tie.Need-measure-requires
 measure-requires c κs = search needs

@@ -1,6 +1,5 @@
-// The C interface: the operations under C names. include/wakubinryo.h says each promise in
-// words.
-ghost use mathlib.Core.List.{[], _∷_};
+// The C interface of formula tables: measuring, lifting and listing free variables under C names.
+// include/wakubinryo.h says each promise in words.
 ghost use mathlib.Core.Path.{_≡_};
 ghost use Prim.Native.Nat.{_*_};
 ghost use lib.ListN.{take, getD};
@@ -8,11 +7,9 @@ ghost use Rattle.formula.specs.Words.{width, tableOf};
 ghost use Rattle.formula.specs.Form.{prefixWidth};
 ghost use Rattle.prenex_form.specs.Promise.{PrenexOf};
 ghost use Rattle.prenex.specs.Outcome.{answerWords, measured};
-ghost use Rattle.qcir.specs.Reading.{limits, Reading, TableOf};
-ghost use Rattle.wakubinryo.specs.Words.{Lift, liftWords, listedWords, Listing, listingWords, readWords};
+ghost use Rattle.wakubinryo_tables.specs.Words.{Lift, liftWords, listedWords, Listing, listingWords};
 use free_variables::Listed;
 use prenex::Answer;
-use qcir_reader::Answer as ReadAnswer;
 
 // Measures a table: number, position and the seven sizes.
 //
@@ -59,23 +56,6 @@ pub extern "C" fn wakubinryo_free_variables(
     put_listed(answer, free_variables::free_variables(words, list, names));
 }
 
-// Reads a QCIR text into a formula table: number, position, words and list entries written.
-//
-// The contract rules out an answer whose sizes are exchanged, and a reading with the two buffers
-// exchanged.
-#[no_mangle]
-pub extern "C" fn wakubinryo_read_qcir(
-    text: &[u8],
-    words: &mut [u32],
-    list: &mut [u32],
-    answer: &mut [u32; 4],
-)
-    ensures reading { λ _. ⌜ Reading limits (now (text .entry)) (now (words .entry)) (now (list .entry)) (readWords (now (answer .exit)) (now (words .exit)) (now (list .exit))) ⌝ }
-    ensures table { λ _. ⌜ (getD (now (answer .exit)) 0 0 ≡ 0 → TableOf (limits .names) (now (text .entry)) (take (getD (now (answer .exit)) 2 0) (now (words .exit))) (take (getD (now (answer .exit)) 3 0) (now (list .exit)))) ⌝ }
-{
-    put_read(answer, qcir_reader::read(text, words, list));
-}
-
 fn put_answer(answer: &mut [u32; 9], a: Answer)
     ensures { λ _. ⌜ now (answer .exit) ≡ answerWords a ⌝ }
 {
@@ -97,10 +77,4 @@ fn put_listed(answer: &mut [u32; 3], a: Listed)
     ensures { λ _. ⌜ now (answer .exit) ≡ listedWords a ⌝ }
 {
     *answer = [a.number, a.position, a.count];
-}
-
-fn put_read(answer: &mut [u32; 4], a: ReadAnswer)
-    ensures { λ _. ⌜ now (answer .exit) ≡ a .number ∷ a .position ∷ a .words ∷ a .entries ∷ [] ⌝ }
-{
-    *answer = [a.number, a.position, a.words, a.entries];
 }

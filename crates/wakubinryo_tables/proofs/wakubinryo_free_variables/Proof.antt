@@ -1,9 +1,9 @@
--- `wakubinryo::wakubinryo_free_variables` meets its contract.
+-- `wakubinryo_tables::wakubinryo_free_variables` meets its contract.
 -- Assumes nothing.
-use Rattle.wakubinryo.proofs.Answers.{listing-words}
+use Rattle.wakubinryo_tables.proofs.Answers.{listing-words}
 use borrow.Author.Needs.{needs}
-use Rattle.wakubinryo.proofs.wakubinryo_free_variables.Statement.{statement}
-use Rattle.wakubinryo.proofs.wakubinryo_free_variables.Tie as tie
+use Rattle.wakubinryo_tables.proofs.wakubinryo_free_variables.Statement.{statement}
+use Rattle.wakubinryo_tables.proofs.wakubinryo_free_variables.Tie as tie
 
 free-variables-requires : tie.Need-free-variables-requires
 free-variables-requires c κs = search needs

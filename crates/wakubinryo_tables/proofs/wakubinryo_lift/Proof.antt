@@ -1,10 +1,10 @@
--- `wakubinryo::wakubinryo_lift` meets its contract.
+-- `wakubinryo_tables::wakubinryo_lift` meets its contract.
 -- Assumes nothing.
 use Rattle.formula.specs.Words.{tableOf}
-use Rattle.wakubinryo.proofs.Answers.{lift-words, form-words}
+use Rattle.wakubinryo_tables.proofs.Answers.{lift-words, form-words}
 use borrow.Author.Needs.{needs}
-use Rattle.wakubinryo.proofs.wakubinryo_lift.Statement.{statement}
-use Rattle.wakubinryo.proofs.wakubinryo_lift.Tie as tie
+use Rattle.wakubinryo_tables.proofs.wakubinryo_lift.Statement.{statement}
+use Rattle.wakubinryo_tables.proofs.wakubinryo_lift.Tie as tie
 
 lift-requires : tie.Need-lift-requires
 lift-requires c κs = search needs

@@ -1,9 +1,9 @@
--- `wakubinryo::put_answer` meets its contract.
+-- `wakubinryo_tables::put_answer` meets its contract.
 -- Assumes nothing.
 use mathlib.Core.Path.{refl}
 use Rattle.prenex.specs.Outcome.{answerWords}
-use Rattle.wakubinryo.proofs.put_answer.Statement.{statement}
-use Rattle.wakubinryo.proofs.put_answer.Tie as tie
+use Rattle.wakubinryo_tables.proofs.put_answer.Statement.{statement}
+use Rattle.wakubinryo_tables.proofs.put_answer.Tie as tie
 
 returns : tie.Need-returns
 unfolding answerWords

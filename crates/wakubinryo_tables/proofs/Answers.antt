@@ -1,7 +1,7 @@
 -- From an operation's outcome to its words.
 -- Assumes nothing.
-use mathlib.Core.Path.{_≡_, refl, sym, _∙_, ap, subst}
-use mathlib.Core.List.{List, [], _∷_}
+use mathlib.Core.Path.{_≡_, sym, _∙_, ap, subst}
+use mathlib.Core.List.{List}
 use Prim.Native.Nat.{ℕ, _*_}
 use lib.ListN.{take, getD}
 use Rattle.formula.specs.Node.{Table}
@@ -12,10 +12,7 @@ use Rattle.free_variables.specs.declared.Listed.{Listed}
 use Rattle.free_variables.specs.Outcome as free-variables
 use Rattle.prenex.specs.declared.Answer.{Answer}
 use Rattle.prenex.specs.Outcome.{answerWords, Outcome, after, lifted}
-use Rattle.qcir.specs.Reading.{limits, Outcome as ReadOutcome, Reading, TableOf}
-use Rattle.qcir_reader.specs.declared.Answer.{Answer as ReadAnswer}
-use Rattle.qcir_reader.specs.Reads.{after as readAfter, Reads}
-use Rattle.wakubinryo.specs.Words.{Lift, liftWords, listedWords, Listing, listingWords, readWords}
+use Rattle.wakubinryo_tables.specs.Words.{Lift, liftWords, listedWords, Listing, listingWords}
 
 pub lift-words : (ws ls nodes prefix variables : List ℕ) (r : Answer) (a nodes' prefix' variables' : List ℕ) → a ≡ answerWords r
     → after r nodes' prefix' variables' ≡ lifted ws ls nodes prefix variables
@@ -43,17 +40,3 @@ unfolding listingWords
 listing-words ws ls names r a names' e out =
     let f = e ∙ ap (λ (o : free-variables.Outcome). listedWords (o .answer)) out in
     λ i. record { answer = f i; names = out i .names }
-
--- A reading's answer in words, with its buffers, is the outcome.
-read-after : (r : ReadAnswer) (a words list : List ℕ) → a ≡ r .number ∷ r .position ∷ r .words ∷ r .entries ∷ [] → readAfter r words list ≡ readWords a words list
-unfolding readAfter readWords
-read-after r a words list e = subst (λ (x : List ℕ). readAfter r words list ≡ readWords x words list) (sym e) refl
-
-pub reading-words : (text words list : List ℕ) (r : ReadAnswer) (a words' list' : List ℕ) → a ≡ r .number ∷ r .position ∷ r .words ∷ r .entries ∷ []
-    → Reads text 0 words list words' list' r → Reading limits text words list (readWords a words' list')
-reading-words text words list r a words' list' e h = subst (λ (o : ReadOutcome). Reading limits text words list o) (read-after r a words' list' e) (h .reading)
-
-pub table-words : (text words list : List ℕ) (r : ReadAnswer) (a words' list' : List ℕ) → a ≡ r .number ∷ r .position ∷ r .words ∷ r .entries ∷ []
-    → Reads text 0 words list words' list' r → getD a 0 0 ≡ 0 → TableOf (limits .names) text (take (getD a 2 0) words') (take (getD a 3 0) list')
-table-words text words list r a words' list' e h =
-    subst (λ (x : List ℕ). getD x 0 0 ≡ 0 → TableOf (limits .names) text (take (getD x 2 0) words') (take (getD x 3 0) list')) (sym e) (h .table)

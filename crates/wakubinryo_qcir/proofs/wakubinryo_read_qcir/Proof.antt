@@ -1,0 +1,30 @@
+-- `wakubinryo_qcir::wakubinryo_read_qcir` meets its contract.
+-- Assumes nothing.
+use Rattle.wakubinryo_qcir.proofs.Answers.{reading-words, table-words}
+use borrow.Author.Needs.{needs}
+use Rattle.wakubinryo_qcir.proofs.wakubinryo_read_qcir.Statement.{statement}
+use Rattle.wakubinryo_qcir.proofs.wakubinryo_read_qcir.Tie as tie
+
+read-requires : tie.Need-read-requires
+read-requires c κs = search needs
+
+put-answer-requires : tie.Need-put-answer-requires
+put-answer-requires c κs = search needs
+
+same-length : tie.Need-same-length
+same-length c = search needs
+
+same-length-2 : tie.Need-same-length-2
+same-length-2 c = search needs
+
+returns : tie.Need-returns
+returns c =
+    let s = c .before .before .before .before .before .before .before .before .before .before .before .before in
+    let f = c .before .before .before .before .before .read in (
+      reading-words (s .args .text .now) (s .args .words .now) (s .args .list .now) (f .result) _ _ _ (c .put-answer .ensures) (f .ensures),
+      table-words (s .args .text .now) (s .args .words .now) (s .args .list .now) (f .result) _ _ _ (c .put-answer .ensures) (f .ensures),
+    )
+
+pub wakubinryo-read-qcir-spec : {M : Type 1} → statement M
+wakubinryo-read-qcir-spec =
+    tie.close (tie.spec read-requires put-answer-requires same-length same-length-2 returns)
