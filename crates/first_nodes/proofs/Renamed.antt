@@ -9,18 +9,19 @@ use native.Mathlib.Numerals.{add-one}
 use lib.Dec.{eqb, leb, ltb}
 use lib.ListN.{length, getD, length-append}
 use borrow.Author.Tests.{ltb-true, ltb-false, le-leb, lt-leb}
-use Rattle.lists.specs.Choice.{pick-yes, pick-no, Is, is-true, is-false, look, clash}
+use Rattle.lists.specs.Choice.{pick, pick-yes, pick-no, Is, is-true, is-false, look, clash}
 use Rattle.lists.specs.Parts.{upTo, overwrite}
 use Rattle.lists.proofs.Parts.{flatMap-append, length-each}
 use Rattle.lists.proofs.Overwrite.{overwrite-nil, overwrite-append}
-use Rattle.formula.specs.Node.{Node, constant, variable, negation, operator, block, Table, isBlock}
-use Rattle.formula.specs.Words.{width, nodeCount, field, nodeAt, tableOf, nodeWords}
+use Rattle.formula.specs.Node.{Node, variable, Table, isBlock}
+use Rattle.formula.specs.Words.{width, nodeCount, wordsAt, nodeOf, wordsOf, wordList, nodeWords, nodeAt, tableOf}
+use Rattle.formula.specs.declared.NodeWords.{NodeWords}
 use Rattle.formula.specs.Truth.{digit}
 use Rattle.formula.specs.Tree.{Proper}
-use Rattle.formula.proofs.Nodes.{node-constant, node-variable, node-negation, node-operator, node-exists, node-for-all}
+use Rattle.formula.proofs.Nodes.{node-block}
+use Rattle.acceptance.specs.Limits.{tableLimits}
 use Rattle.acceptance.specs.Accepted.{Accepted}
-use Rattle.acceptance.proofs.Accepted.{Formed, formed-constant, formed-variable, formed-negation, formed-operator, formed-exists, formed-for-all}
-use Rattle.acceptance.proofs.Accepted.{formed-cases, accepted-holds}
+use Rattle.acceptance.proofs.Accepted.{Formed, formed-constant, formed-variable, formed-negation, formed-operator, formed-exists, formed-for-all, formed-cases, accepted-holds}
 use Rattle.prenex_form.specs.Scope.{binder, inner}
 use Rattle.prenex_form.specs.Names.{highestNumber, boundCount, firstName, newName, definitionVariable}
 use Rattle.prenex_form.specs.Matrix.{kept, renamed, firstNodes}
@@ -91,83 +92,80 @@ digit-is zero h = refl
 digit-is (suc zero) h = refl
 digit-is (suc (suc a)) h = absurd (omega arith)
 
-block-form : (t : Table) (i : ℕ) (n : Node) → isBlock n ≡ true → 2 ∷ definitionVariable t i ∷ 0 ∷ 0 ∷ [] ≡ nodeWords (renamed t i n)
-unfolding isBlock renamed nodeWords
-block-form t i (constant b) h = clash h refl
-block-form t i (variable x) h = clash h refl
-block-form t i (negation a) h = clash h refl
-block-form t i (operator f a b) h = clash h refl
-block-form t i (block q xs a) h = refl
-
--- The words of node i of the form, by the words kind, x, y and z of the table's node i.
+-- Node i of the form, by the words that are read of the table's node i.
 module _ (ws ls : List ℕ) (accepts : Accepted ws ls) (i : ℕ) (h : i < kept (tableOf ws ls)) where
-  abbrev form : List ℕ
-  form = nodeWords (renamed (tableOf ws ls) i (nodeAt ws ls i))
+  abbrev form : Node
+  form = renamed (tableOf ws ls) i (nodeAt ws ls i)
 
   pub kept-node : i < nodeCount ws
   unfolding tableOf
   kept-node = kept-lt (tableOf ws ls) i h
 
-  module _ (kind x y z : ℕ) (read : (kind ≡ field ws i 0) × (x ≡ field ws i 1) × (y ≡ field ws i 2) × (z ≡ field ws i 3)) where
-    formed : Formed (field ws i 0) (field ws i 1) (field ws i 2) (field ws i 3)
-    formed = formed-cases _ _ _ _ (accepts .formed i kept-node)
+  -- a node with these words is written
+  pub written : {w : NodeWords} → w ≡ wordsOf form → (out last : List ℕ)
+      → last ≡ overwrite out (width * i) (wordList w) → last ≡ overwrite out (width * i) (nodeWords form)
+  unfolding nodeWords
+  written e out last p = rw e at p
 
-    pub variable-is : kind ≡ 2 → nodeAt ws ls i ≡ variable x
-    variable-is e = rw (node-variable ws ls i (sym (read .0) ∙ e), read .1)
+  module _ {w : NodeWords} (read : w ≡ wordsAt ws i) where
+    node-read : nodeAt ws ls i ≡ nodeOf ls w
+    unfolding nodeAt
+    node-read = ap (nodeOf ls) (sym read)
+
+    formed : Formed tableLimits w
+    formed = rw read (formed-cases tableLimits (wordsAt ws i) (accepts .formed i kept-node))
+
+    pub variable-is : w .kind ≡ 2 → nodeAt ws ls i ≡ variable (w .a)
+    unfolding nodeOf pick
+    variable-is e = node-read ∙ rw e
 
     -- a variable node is renamed
-    pub variable-written : kind ≡ 2 → (name : ℕ) → name ≡ newName (tableOf ws ls) i x → (out last : List ℕ)
-        → last ≡ overwrite out (width * i) (2 ∷ name ∷ 0 ∷ 0 ∷ []) → last ≡ overwrite out (width * i) form
-    unfolding nodeWords renamed
-    variable-written e name n out last w = w ∙ rw (variable-is e, n)
+    pub variable-form : w .kind ≡ 2 → (name : ℕ) → name ≡ newName (tableOf ws ls) i (w .a) → wordsOf (variable name) ≡ wordsOf form
+    unfolding renamed
+    variable-form e name n = rw (variable-is e, n)
 
     -- the blocks are the nodes of kind 5 and up
-    block-kind : isBlock (nodeAt ws ls i) ≡ leb 5 kind
-    unfolding isBlock
-    block-kind = rw (read .0) (go formed)
+    block-kind : isBlock (nodeAt ws ls i) ≡ leb 5 (w .kind)
+    unfolding isBlock nodeOf pick
+    block-kind = ap isBlock node-read ∙ go formed
       where
-        go : Formed (field ws i 0) (field ws i 1) (field ws i 2) (field ws i 3) → isBlock (nodeAt ws ls i) ≡ leb 5 (field ws i 0)
-        go (formed-constant k _ _ _) = rw (node-constant ws ls i k, k)
-        go (formed-variable k _ _ _) = rw (node-variable ws ls i k, k)
-        go (formed-negation k _ _) = rw (node-negation ws ls i k, k)
-        go (formed-operator k _) = rw (node-operator ws ls i k, k)
-        go (formed-exists k) = rw (node-exists ws ls i k, k)
-        go (formed-for-all k) = rw (node-for-all ws ls i k, k)
+        go : Formed tableLimits w → isBlock (nodeOf ls w) ≡ leb 5 (w .kind)
+        go (formed-constant k _ _ _) = rw k
+        go (formed-variable k _ _ _) = rw k
+        go (formed-negation k _ _) = rw k
+        go (formed-operator k _) = rw k
+        go (formed-exists k _) = rw k
+        go (formed-for-all k _) = rw k
 
-    block-is : 5 ≤ kind → isBlock (nodeAt ws ls i) ≡ true
-    block-is l = block-kind ∙ le-leb 5 kind l
+    block-is : 5 ≤ w .kind → isBlock (nodeAt ws ls i) ≡ true
+    block-is l = block-kind ∙ le-leb 5 (w .kind) l
 
-    pub is-inner : 5 ≤ kind → inner (tableOf ws ls) i ≡ true
+    pub is-inner : 5 ≤ w .kind → inner (tableOf ws ls) i ≡ true
     unfolding tableOf
     is-inner l = kept-inner (tableOf ws ls) i h (block-is l)
 
-    pub not-inner : kind < 5 → inner (tableOf ws ls) i ≡ false
+    pub not-inner : w .kind < 5 → inner (tableOf ws ls) i ≡ false
     unfolding tableOf inner
-    not-inner l = rw (block-kind, lt-leb 5 kind l)
+    not-inner l = rw (block-kind, lt-leb 5 (w .kind) l)
 
     -- a block is replaced by its definition variable
-    pub block-written : 5 ≤ kind → (name : ℕ) → name ≡ definitionVariable (tableOf ws ls) i → (out last : List ℕ)
-        → last ≡ overwrite out (width * i) (2 ∷ name ∷ 0 ∷ 0 ∷ []) → last ≡ overwrite out (width * i) form
-    block-written l name n out last w =
-        w ∙ ap (λ words. overwrite out (width * i) words) (rw n (block-form (tableOf ws ls) i (nodeAt ws ls i) (block-is l)))
-
-    copied : (kind ≡ 2 → ⊥) → kind < 5 → kind ∷ x ∷ y ∷ z ∷ [] ≡ form
-    unfolding nodeWords renamed
-    copied v l = rw (read .0, read .1, read .2, read .3) (go formed)
-      where
-        go : Formed (field ws i 0) (field ws i 1) (field ws i 2) (field ws i 3)
-            → field ws i 0 ∷ field ws i 1 ∷ field ws i 2 ∷ field ws i 3 ∷ [] ≡ form
-        go (formed-constant k u p q) = rw (node-constant ws ls i k, k, p, q, digit-is (field ws i 1) u)
-        go (formed-variable k _ _ _) = absurd (v (read .0 ∙ k))
-        go (formed-negation k p q) = rw (node-negation ws ls i k, k, p, q)
-        go (formed-operator k _) = rw (node-operator ws ls i k, k)
-        go (formed-exists k) = absurd (omega (arith, read .0))
-        go (formed-for-all k) = absurd (omega (arith, read .0))
+    pub block-form : 5 ≤ w .kind → (name : ℕ) → name ≡ definitionVariable (tableOf ws ls) i → wordsOf (variable name) ≡ wordsOf form
+    unfolding renamed
+    block-form l name n = rw (node-block ws ls i (block-is l), n)
 
     -- every other node is copied
-    pub copy-written : (kind ≡ 2 → ⊥) → kind < 5 → (out last : List ℕ)
-        → last ≡ overwrite out (width * i) (kind ∷ x ∷ y ∷ z ∷ []) → last ≡ overwrite out (width * i) form
-    copy-written v l out last w = w ∙ ap (λ words. overwrite out (width * i) words) (copied v l)
+    pub copy-form : (w .kind ≡ 2 → ⊥) → w .kind < 5 → w ≡ wordsOf form
+    unfolding renamed nodeOf pick wordsOf
+    copy-form v l = rw node-read (go formed)
+      where
+        go : Formed tableLimits w
+            → record { kind = w .kind; a = w .a; b = w .b; c = w .c } ≡ wordsOf (renamed (tableOf ws ls) i (nodeOf ls w))
+        go (formed-constant k u p q) = rw (k, p, q, digit-is (w .a) u)
+        go (formed-variable k _ _ _) = absurd (v k)
+        go (formed-negation k p q) = rw (k, p, q)
+        go (formed-operator k _) = rw k
+        go (formed-exists k _) = absurd (omega arith)
+        go (formed-for-all k _) = absurd (omega arith)
 
 -- The words of the first n nodes of the form.
 unfoldable pub firstWords : Table → ℕ → List ℕ

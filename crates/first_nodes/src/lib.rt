@@ -62,16 +62,16 @@ fn write_node(
     let node = formula::node_at(words, i);
     if node.kind == VARIABLE {
         let name = new_name(words, list, bindings, names, i, node.a);
-        formula::put_node(nodes, i, VARIABLE, name, 0, 0);
+        formula::put_node(nodes, i, formula::variable_node(name));
         return counter;
     }
     if node.kind >= EXISTS_BLOCK {
         let handed = counter.take();
         definitions[i] = handed.name;
-        formula::put_node(nodes, i, VARIABLE, handed.name, 0, 0);
+        formula::put_node(nodes, i, formula::variable_node(handed.name));
         return handed.counter;
     }
-    formula::put_node(nodes, i, node.kind, node.a, node.b, node.c);
+    formula::put_node(nodes, i, node);
     counter
 }
 
