@@ -6,10 +6,11 @@ use mathlib.Core.List.{List}
 use Prim.Native.Nat.{ℕ, suc, _+_, _≤_, _<_}
 use native.Mathlib.Omega.{arith}
 use native.Mathlib.Numerals.{add-one}
-use lib.ListN.{length, getD, set, length-set}
+use lib.ListN.{length, getD, set}
 use Rattle.lists.proofs.Members.{mem-getD}
 use Rattle.formula.specs.Node.{Table, isBlock, bound}
-use Rattle.formula.specs.Words.{nodeCount, field, range, nodeAt, tableOf}
+use Rattle.formula.specs.Words.{nodeCount, field, range, wordsAt, nodeAt, tableOf}
+use Rattle.formula.specs.declared.NodeWords.{NodeWords}
 use Rattle.formula.specs.Tree.{Tree, count, boundBelow}
 use Rattle.formula.proofs.Nodes.{block-kind, node-block}
 use Rattle.formula.proofs.Ranges.{range-length, range-at}
@@ -37,9 +38,18 @@ pub record BlockAt (ws ls : List ℕ) (i start first n : ℕ) : Type 0 where
   pub first-is : first ≡ field ws i 1
   pub count-is : n ≡ field ws i 2
 
-pub block-at : {ws ls : List ℕ} {i start first n : ℕ} → verdict ws ls ≡ accepted → (i < nodeCount ws) × (isBlock (nodeAt ws ls i) ≡ true)
-    → start ≡ boundBelow (tableOf ws ls) i → first ≡ field ws i 1 → n ≡ field ws i 2 → BlockAt ws ls i start first n
-block-at v h s f n = record { accepts = v; inside = h .0; is-block = h .1; start-is = s; first-is = f; count-is = n }
+-- the same of the words that have been read
+pub block-at : {ws ls : List ℕ} {i start : ℕ} {w : NodeWords} → verdict ws ls ≡ accepted → (i < nodeCount ws) × (isBlock (nodeAt ws ls i) ≡ true)
+    → start ≡ boundBelow (tableOf ws ls) i → w ≡ wordsAt ws i → BlockAt ws ls i start (w .a) (w .b)
+block-at v h s e =
+    record {
+      accepts = v;
+      inside = h .0;
+      is-block = h .1;
+      start-is = s;
+      first-is = ap (λ (w : NodeWords). w .a) e;
+      count-is = ap (λ (w : NodeWords). w .b) e;
+    }
 
 module _ {ws ls : List ℕ} {i start first n : ℕ} (b : BlockAt ws ls i start first n) where
   abbrev t : Table
@@ -110,13 +120,11 @@ module _ {ws ls : List ℕ} {i start first n : ℕ} (b : BlockAt ws ls i start f
           open-put t i (start + k) _ few number-le below in-scope number p
 
       pub entry-taken : Open t i (start + k) heads nexts
-          → (length (set heads (getD ls (first + k) 0) (getD nexts (start + k + 1) 0)) ≡ length heads) × Open t i next (set heads (getD ls (first + k) 0) (getD nexts (start + k + 1) 0)) nexts
-      entry-taken o = (
-        length-set heads (getD ls (first + k) 0) (getD nexts (start + k + 1) 0),
-        rw (add-one (start + k))
-            (subst (λ e. Open t i e (set heads (getD ls (first + k) 0) (getD nexts (suc (start + k)) 0)) nexts) q
-            (open-take t i (start + k) _ few number-le below in-scope number o)),
-      )
+          → Open t i next (set heads (getD ls (first + k) 0) (getD nexts (start + k + 1) 0)) nexts
+      entry-taken o =
+          rw (add-one (start + k))
+          (subst (λ e. Open t i e (set heads (getD ls (first + k) 0) (getD nexts (suc (start + k)) 0)) nexts) q
+          (open-take t i (start + k) _ few number-le below in-scope number o))
 
   module _ {heads nexts : List ℕ} where
     -- before it is entered, and after

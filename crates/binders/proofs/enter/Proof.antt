@@ -34,8 +34,7 @@ cast-k c = search needs
 loop-holds : tie.Need-loop-holds Inv-loop μ-loop
 loop-holds c =
     let s = c .before .before .before .before .before .before .before in
-    let n = c .before .before .node-at .ensures in
-    let b = block-at (s .pre .0) (s .pre .1 .0) (s .pre .1 .1 .0) (n .1) (n .2) in
+    let b = block-at (s .pre .0) (s .pre .1 .0) (s .pre .1 .1 .0) (c .before .before .node-at .ensures) in
     (b, omega arith, refl, enter-start b (s .pre .1 .1 .1))
 
 sub-k : tie.Need-sub-k Inv-loop μ-loop

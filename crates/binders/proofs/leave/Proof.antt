@@ -3,7 +3,7 @@
 use mathlib.Core.Path.{_≡_, refl, _∙_}
 use Prim.Native.Nat.{_+_, _-_, _≤_, _<_}
 use native.Mathlib.Omega.{arith}
-use lib.ListN.{length}
+use lib.ListN.{length, length-set}
 use borrow.Author.Needs.{needs}
 use Rattle.formula.specs.Words.{tableOf}
 use Rattle.acceptance.specs.Limits.{limit}
@@ -41,8 +41,7 @@ cast-count c = search needs
 loop-holds : tie.Need-loop-holds Inv-loop μ-loop
 loop-holds c =
     let s = c .before .before .before .before .before .before .before in
-    let n = c .before .before .node-at .ensures in
-    let b = block-at (s .pre .0) (s .pre .1 .0) (s .pre .1 .1 .0) (n .1) (n .2) in
+    let b = block-at (s .pre .0) (s .pre .1 .0) (s .pre .1 .1 .0) (c .before .before .node-at .ensures) in
     (b, omega arith, refl, leave-start b (s .pre .1 .1 .1))
 
 add-heads : tie.Need-add-heads Inv-loop μ-loop
@@ -85,7 +84,7 @@ loop-again : tie.Need-loop-again Inv-loop μ-loop
 loop-again c =
     let l = c .before .before in
     let v = l .before .loop .inv in
-    let d = entry-taken (v .0) (l .before .loop .k) (turn l) (c .before .before .before .before .before .before .before .before .before .before .before .args .start + (l .before .loop .k + 1)) (omega arith) (v .3) in (v .0, omega (arith, turn l), d .0 ∙ v .2, d .1)
+    (v .0, omega (arith, turn l), simp length-set (v .2), entry-taken (v .0) _ (turn l) _ (omega arith) (v .3))
 
 same-length : tie.Need-same-length Inv-loop μ-loop
 same-length c = c .before .loop .inv .2

@@ -8,6 +8,7 @@ use lib.ListN.{getD}
 use borrow.Author.Needs.{needs}
 use Rattle.formula.specs.Node.{isBlock}
 use Rattle.formula.specs.Words.{field, tableOf}
+use Rattle.formula.specs.declared.NodeWords.{NodeWords}
 use Rattle.binders.proofs.Tables.{kind-block}
 use Rattle.binders.proofs.Search.{variable-head, head-binds}
 use Rattle.binders.proofs.Walked.{block-left, Indexed, indexed, start-at, leaves, link-lt, link-is-member, link-open, passes, enters}
@@ -43,7 +44,7 @@ read c = c .before .before .before
 
 -- it is a variable node
 variable-here : (c : tie.Then2) → field (entry (read (c .before) .before) .args .words .now) (entry (read (c .before) .before) .args .place .link - 1) 0 ≡ 2
-variable-here c = sym (c .before .before .node-at .ensures .0) ∙ c .if2 .taken
+variable-here c = sym (ap (λ (w : NodeWords). w .kind) (c .before .before .node-at .ensures)) ∙ c .if2 .taken
 
 -- it is a block
 block-here : (c : tie.Else2) → isBlock (tableOf (entry (read (c .before) .before) .args .words .now) (entry (read (c .before) .before) .args .list .now) .node (entry (read (c .before) .before) .args .place .link - 1)) ≡ true
@@ -51,7 +52,7 @@ unfolding tableOf
 block-here c =
     let e = read (c .before) in
     let s = entry (e .before) in
-    kind-block _ _ _ (λ k. c .if2 .left (c .before .before .node-at .ensures .0 ∙ k)) (link-is-member (s .pre .1 .0) (at-node e))
+    kind-block _ _ _ (λ k. c .if2 .left (ap (λ (w : NodeWords). w .kind) (c .before .before .node-at .ensures) ∙ k)) (link-is-member (s .pre .1 .0) (at-node e))
 
 mul-leave : tie.Need-mul-leave
 mul-leave c = search needs
@@ -118,7 +119,7 @@ slice-read-bindings c =
     let e = read (y .before) in
     let s = entry (e .before) in
     let h = variable-head _ _ _ _ _ (s .pre .0 .accepts) (come-by e .below) (variable-here y) (link-open (s .pre .1 .0) (at-node e)) in
-    omega (arith, y .before .before .node-at .ensures .1)
+    omega (arith, ap (λ (w : NodeWords). w .a) (y .before .before .node-at .ensures))
 
 mul-bindings-2 : tie.Need-mul-bindings-2
 mul-bindings-2 c = search needs
@@ -145,7 +146,7 @@ returns-2 c =
     let o = link-open (s .pre .1 .0) (at-node e) in
     passes (s .pre .0) (s .pre .1 .0) _ (at-node e) _ (variable-here y)
     (λ x v.
-    ap (λ n. getD (s .args .heads .now) n 0) (y .before .before .node-at .ensures .1)
+    ap (λ n. getD (s .args .heads .now) n 0) (ap (λ (w : NodeWords). w .a) (y .before .before .node-at .ensures))
     ∙ head-binds _ _ _ _ _ (s .pre .0 .accepts) (come-by e .below) (variable-here y) o x v)
     refl refl
 
