@@ -1,4 +1,5 @@
--- The form that a lift leaves in its buffers.
+-- What follows from the equations of measuring and lifting where they are done: the sizes are those written, and the buffers hold a
+-- prenex form.
 -- Assumes nothing.
 use mathlib.Core.Path.{_≡_, sym, _∙_, ap}
 use mathlib.Core.Bool.{true}
@@ -9,72 +10,97 @@ use lib.Dec.{eqb}
 use lib.ListN.{length, take}
 use lib.Seq.{take-at}
 use borrow.Author.Tests.{eqb-true, eqb-false}
-use Rattle.lists.specs.Choice.{pick-yes, pick-no, Is, is-true, is-false, look}
+use Rattle.lists.specs.Choice.{Is, is-true, is-false, look}
 use Rattle.lists.specs.Parts.{overwrite}
 use Rattle.formula.specs.Words.{width, tableOf}
 use Rattle.formula.specs.Form.{prefixWidth}
-use Rattle.refusals.specs.Verdict.{accepted}
+use Rattle.refusals.specs.Verdict.{refusal, accepted}
+use Rattle.refusals.specs.Outcome.{AnswerWith, Outcome, refused, done}
+use Rattle.refusals.proofs.Outcome.{answer-next, answer-refused, call-next, call-refused, call-room, call-short}
 use Rattle.acceptance.specs.Verdict.{verdict}
 use Rattle.acceptance.proofs.Accepted.{number-zero}
 use Rattle.prenex_form.specs.declared.Sizes.{Sizes}
 use Rattle.prenex_form.specs.Matrix.{writtenNodes}
 use Rattle.prenex_form.specs.Prefix.{writtenPrefix, writtenVariables}
 use Rattle.prenex_form.specs.Sizes.{sizes}
-use Rattle.prenex_form.specs.Promise.{PrenexOf}
+use Rattle.prenex_form.specs.Promise.{SizesOf}
 use Rattle.prenex_form.proofs.Theorem.{prenex, sizes-written}
-use Rattle.prenex.specs.declared.Answer.{Answer}
-use Rattle.prenex.specs.Outcome.{refusal, done, Outcome, tooShort, after, lifted}
+use Rattle.prenex.specs.Outcome.{noSizes, measured, FormBuffers, tooShort, written, lifted, SizesWritten, FormWritten}
 
 -- what is written over a buffer's start stands there
 start-of : (out ws : List ℕ) (n : ℕ) → length ws ≡ n → take n (overwrite out 0 ws) ≡ ws
 unfolding overwrite
 start-of out ws n e = take-at ws _ n e
 
-module _ (ws ls nodes prefix variables : List ℕ) (r : Answer) (nodes' prefix' variables' : List ℕ)
-    (out : after r nodes' prefix' variables' ≡ lifted ws ls nodes prefix variables) where
-  -- the three parts, read off buffers that hold them
-  parts : verdict ws ls ≡ accepted
-      → after r nodes' prefix' variables'
-      ≡ after (done (sizes (tableOf ws ls))) (overwrite nodes 0 (writtenNodes (tableOf ws ls))) (overwrite prefix 0 (writtenPrefix (tableOf ws ls)))
-      (overwrite variables 0 (writtenVariables (tableOf ws ls)))
-      → PrenexOf (tableOf ws ls) (take (width * r .sizes .nodes) nodes') (take (prefixWidth * r .sizes .blocks) prefix') (take (r .sizes .entries) variables')
-  unfolding after done
-  parts ok e =
-      let t = tableOf ws ls in
-      let m = sizes-written ws ls ok in
-      let s : r .sizes ≡ sizes t = ap (λ (o : Outcome). o .answer .sizes) e in
-      let n : take (width * r .sizes .nodes) nodes' ≡ writtenNodes t =
-      ap (λ (m : ℕ). take m nodes') (ap (λ (z : Sizes). width * z .nodes) s)
-      ∙ ap (take (width * sizes t .nodes)) (ap (λ (o : Outcome). o .nodes) e)
-      ∙ start-of nodes (writtenNodes t) _ (m .nodes-measured) in
-      let p : take (prefixWidth * r .sizes .blocks) prefix' ≡ writtenPrefix t =
-      ap (λ (m : ℕ). take m prefix') (ap (λ (z : Sizes). prefixWidth * z .blocks) s)
-      ∙ ap (take (prefixWidth * sizes t .blocks)) (ap (λ (o : Outcome). o .prefix) e)
-      ∙ start-of prefix (writtenPrefix t) _ (m .blocks-measured) in
-      let v : take (r .sizes .entries) variables' ≡ writtenVariables t =
-      ap (λ (m : ℕ). take m variables') (ap (λ (z : Sizes). z .entries) s)
-      ∙ ap (take (sizes t .entries)) (ap (λ (o : Outcome). o .variables) e)
-      ∙ start-of variables (writtenVariables t) _ (m .entries-measured) in
-      rw (n, p, v) (prenex ws ls ok)
+-- the verdict's number in an answer
+abbrev number : AnswerWith Sizes → ℕ
+number a = a .verdict .number
 
-  -- Lifting's second promise follows from its first: where the answer is 0, the buffers hold a prenex form of the table.
-  pub form-left : r .number ≡ 0
-      → PrenexOf (tableOf ws ls) (take (width * r .sizes .nodes) nodes') (take (prefixWidth * r .sizes .blocks) prefix') (take (r .sizes .entries) variables')
-  unfolding lifted after refusal
-  form-left z = by-verdict (look (eqb (verdict ws ls .number) 0))
+module _ (ws ls : List ℕ) where
+  -- the sizes of a table, answered where it is accepted
+  sizes-are : verdict ws ls ≡ accepted → (s : Sizes) → s ≡ sizes (tableOf ws ls)
+      → SizesOf s (writtenNodes (tableOf ws ls)) (writtenPrefix (tableOf ws ls)) (writtenVariables (tableOf ws ls))
+  sizes-are ok s e = rw e (sizes-written ws ls ok)
+
+  pub measured-sizes : (a : AnswerWith Sizes) → a ≡ measured ws ls → SizesWritten (tableOf ws ls) a
+  unfolding measured refused done
+  measured-sizes a e z = go (look (eqb (verdict ws ls .number) 0))
     where
-      number : r .number ≡ lifted ws ls nodes prefix variables .answer .number
-      number = ap (λ (o : Outcome). o .answer .number) out
+      go : Is (eqb (verdict ws ls .number) 0)
+          → SizesOf (a .sizes) (writtenNodes (tableOf ws ls)) (writtenPrefix (tableOf ws ls)) (writtenVariables (tableOf ws ls))
+      go (is-true t) =
+          let n = eqb-true _ 0 t in
+          sizes-are (number-zero ws ls n) (a .sizes) (ap (λ (b : AnswerWith Sizes). b .sizes) (e ∙ answer-next (verdict ws ls) noSizes _ n))
+      go (is-false f) =
+          let n = eqb-false _ 0 f in absurd (n (sym (ap number (e ∙ answer-refused (verdict ws ls) noSizes _ n)) ∙ z))
 
-      by-room : verdict ws ls ≡ accepted → eqb (verdict ws ls .number) 0 ≡ true → Is (tooShort ws ls nodes prefix variables)
-          → PrenexOf (tableOf ws ls) (take (width * r .sizes .nodes) nodes') (take (prefixWidth * r .sizes .blocks) prefix') (take (r .sizes .entries) variables')
-      by-room ok t (is-true s) =
-          let e : r .number ≡ 9 = number ∙ ap (λ (o : Outcome). o .answer .number) (pick-yes _ _ _ t ∙ pick-yes _ _ _ s) in
-          absurd (omega arith)
-      by-room ok t (is-false s) = parts ok (out ∙ pick-yes _ _ _ t ∙ pick-no _ _ _ s)
+  module _ (before : FormBuffers) (o : Outcome Sizes FormBuffers) (e : o ≡ lifted ws ls before) (z : o .answer .verdict .number ≡ 0) where
+    -- a lift that is done
+    lifted-is : (verdict ws ls ≡ accepted) × (o ≡ record { answer = done (sizes (tableOf ws ls)); buffers = written (tableOf ws ls) before })
+    unfolding lifted refused refusal
+    lifted-is = by-verdict (look (eqb (verdict ws ls .number) 0))
+      where
+        by-room : verdict ws ls .number ≡ 0 → Is (tooShort (tableOf ws ls) before)
+            → (verdict ws ls ≡ accepted) × (o ≡ record { answer = done (sizes (tableOf ws ls)); buffers = written (tableOf ws ls) before })
+        by-room n (is-true s) =
+            let f = e ∙ call-next noSizes before _ (verdict ws ls) n ∙ call-short noSizes before _ (tooShort (tableOf ws ls) before) s in
+            let g : o .answer .verdict .number ≡ 9 = ap (λ (p : Outcome Sizes FormBuffers). p .answer .verdict .number) f in
+            absurd (omega arith)
+        by-room n (is-false s) =
+            (number-zero ws ls n, e ∙ call-next noSizes before _ (verdict ws ls) n ∙ call-room noSizes before _ (tooShort (tableOf ws ls) before) s)
 
-      by-verdict : Is (eqb (verdict ws ls .number) 0)
-          → PrenexOf (tableOf ws ls) (take (width * r .sizes .nodes) nodes') (take (prefixWidth * r .sizes .blocks) prefix') (take (r .sizes .entries) variables')
-      by-verdict (is-true t) = by-room (number-zero ws ls (eqb-true _ 0 t)) t (look (tooShort ws ls nodes prefix variables))
-      by-verdict (is-false f) =
-          absurd (eqb-false _ 0 f (sym (number ∙ ap (λ (o : Outcome). o .answer .number) (pick-no _ _ _ f)) ∙ z))
+        by-verdict : Is (eqb (verdict ws ls .number) 0)
+            → (verdict ws ls ≡ accepted) × (o ≡ record { answer = done (sizes (tableOf ws ls)); buffers = written (tableOf ws ls) before })
+        by-verdict (is-true t) = by-room (eqb-true _ 0 t) (look (tooShort (tableOf ws ls) before))
+        by-verdict (is-false f) =
+            let n = eqb-false _ 0 f in
+            absurd (n (sym (ap (λ (p : Outcome Sizes FormBuffers). p .answer .verdict .number) (e ∙ call-refused noSizes before _ (verdict ws ls) n)) ∙ z))
+
+    -- its sizes
+    sizes-answered : o .answer .sizes ≡ sizes (tableOf ws ls)
+    unfolding done
+    sizes-answered = ap (λ (p : Outcome Sizes FormBuffers). p .answer .sizes) (lifted-is .1)
+
+  pub lifted-sizes : (before : FormBuffers) (o : Outcome Sizes FormBuffers) → o ≡ lifted ws ls before → SizesWritten (tableOf ws ls) (o .answer)
+  lifted-sizes before o e z = sizes-are (lifted-is before o e z .0) (o .answer .sizes) (sizes-answered before o e z)
+
+  pub lifted-form : (before : FormBuffers) (o : Outcome Sizes FormBuffers) → o ≡ lifted ws ls before → FormWritten (tableOf ws ls) o
+  unfolding written
+  lifted-form before o e z =
+      let t = tableOf ws ls in
+      let d = lifted-is before o e z in
+      let m = sizes-written ws ls (d .0) in
+      let s = sizes-answered before o e z in
+      let n : take (width * o .answer .sizes .nodes) (o .buffers .nodes) ≡ writtenNodes t =
+      ap (λ (k : ℕ). take k (o .buffers .nodes)) (ap (λ (y : Sizes). width * y .nodes) s)
+      ∙ ap (take (width * sizes t .nodes)) (ap (λ (p : Outcome Sizes FormBuffers). p .buffers .nodes) (d .1))
+      ∙ start-of (before .nodes) (writtenNodes t) _ (m .nodes-measured) in
+      let p : take (prefixWidth * o .answer .sizes .blocks) (o .buffers .prefix) ≡ writtenPrefix t =
+      ap (λ (k : ℕ). take k (o .buffers .prefix)) (ap (λ (y : Sizes). prefixWidth * y .blocks) s)
+      ∙ ap (take (prefixWidth * sizes t .blocks)) (ap (λ (p : Outcome Sizes FormBuffers). p .buffers .prefix) (d .1))
+      ∙ start-of (before .prefix) (writtenPrefix t) _ (m .blocks-measured) in
+      let v : take (o .answer .sizes .entries) (o .buffers .variables) ≡ writtenVariables t =
+      ap (λ (k : ℕ). take k (o .buffers .variables)) (ap (λ (y : Sizes). y .entries) s)
+      ∙ ap (take (sizes t .entries)) (ap (λ (p : Outcome Sizes FormBuffers). p .buffers .variables) (d .1))
+      ∙ start-of (before .variables) (writtenVariables t) _ (m .entries-measured) in
+      rw (n, p, v) (prenex ws ls (d .0))

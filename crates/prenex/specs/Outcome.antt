@@ -1,68 +1,80 @@
 -- What measuring and lifting answer and leave in the lent buffers (document 01, "When the lifter says no").
 -- Assumes nothing.
 use mathlib.Core.Bool.{Bool, _||_}
-use mathlib.Core.List.{List, [], _∷_}
-use Prim.Native.Nat.{ℕ}
-use lib.Dec.{eqb, ltb}
-use lib.ListN.{length}
-use Rattle.lists.specs.Choice.{pick}
+use mathlib.Core.List.{List}
+use mathlib.Core.Path.{_≡_}
+use Prim.Native.Nat.{ℕ, _*_}
+use lib.Dec.{ltb}
+use lib.ListN.{length, take}
 use Rattle.lists.specs.Parts.{overwrite}
-use Rattle.formula.specs.Words.{tableOf}
+use Rattle.formula.specs.Node.{Table}
+use Rattle.formula.specs.Words.{width, tableOf}
+use Rattle.formula.specs.Form.{prefixWidth}
+use Rattle.refusals.specs.Outcome.{AnswerWith, Outcome, done, answerUnlessRefused, unlessRefused, unlessShort}
 use Rattle.acceptance.specs.Verdict.{verdict}
 use Rattle.prenex_form.specs.declared.Sizes.{Sizes}
 use Rattle.prenex_form.specs.Matrix.{writtenNodes}
 use Rattle.prenex_form.specs.Prefix.{writtenPrefix, writtenVariables}
 use Rattle.prenex_form.specs.Sizes.{sizes}
+use Rattle.prenex_form.specs.Promise.{PrenexOf, SizesOf}
 use Rattle.prenex.specs.declared.Answer.{Answer}
 
 -- "On refusal all sizes .. are 0."
 unfoldable pub noSizes : Sizes
 noSizes = record { n = 0; b = 0; q = 0; depth = 0; nodes = 0; blocks = 0; entries = 0 }
 
-unfoldable pub refusal : ℕ → ℕ → Answer
-refusal number position = record { number = number; position = position; sizes = noSizes }
+abbrev pub answerOf : Answer → AnswerWith Sizes
+answerOf r = record { verdict = r .verdict; sizes = r .sizes }
 
--- "the number (0 is done), the place (0 if done) and the sizes"
-unfoldable pub done : Sizes → Answer
-done s = record { number = 0; position = 0; sizes = s }
+-- Refusals 1 to 8. "Measuring never gives 9."
+unfoldable pub measured : List ℕ → List ℕ → AnswerWith Sizes
+measured ws ls = answerUnlessRefused (verdict ws ls) noSizes (done (sizes (tableOf ws ls)))
 
--- An answer as words: number, position, and the sizes in document 01's order.
-unfoldable pub answerWords : Answer → List ℕ
-answerWords a =
-    a .number ∷ a .position ∷ a .sizes .n ∷ a .sizes .b ∷ a .sizes .q ∷ a .sizes .depth ∷ a .sizes .nodes ∷ a .sizes .blocks ∷ a .sizes .entries ∷ []
-
--- "Measuring never gives 9."
-unfoldable pub measured : List ℕ → List ℕ → Answer
-measured ws ls =
-    let v = verdict ws ls in
-    pick (eqb (v .number) 0) (done (sizes (tableOf ws ls))) (refusal (v .number) (v .position))
-
--- The answer of a lift and its three buffers after the call.
-pub record Outcome : Type 0 where
-  pub answer : Answer
+-- The three buffers of a lift.
+pub record FormBuffers : Type 0 where
   pub nodes : List ℕ
   pub prefix : List ℕ
   pub variables : List ℕ
 
+abbrev pub buffers : List ℕ → List ℕ → List ℕ → FormBuffers
+buffers nodes prefix variables = record { nodes = nodes; prefix = prefix; variables = variables }
+
 -- Refusal 9, BufferTooShort (document 01: no room): "an output buffer shorter than the size needed".
-unfoldable pub tooShort : List ℕ → List ℕ → List ℕ → List ℕ → List ℕ → Bool
-tooShort ws ls nodes prefix variables =
-    ltb (length nodes) (length (writtenNodes (tableOf ws ls)))
-    || ltb (length prefix) (length (writtenPrefix (tableOf ws ls)))
-    || ltb (length variables) (length (writtenVariables (tableOf ws ls)))
+unfoldable pub tooShort : Table → FormBuffers → Bool
+tooShort t before =
+    ltb (length (before .nodes)) (length (writtenNodes t))
+    || ltb (length (before .prefix)) (length (writtenPrefix t))
+    || ltb (length (before .variables)) (length (writtenVariables t))
 
--- an answer, and what the buffers hold with it
-unfoldable pub after : Answer → List ℕ → List ℕ → List ℕ → Outcome
-after answer nodes prefix variables = record { answer = answer; nodes = nodes; prefix = prefix; variables = variables }
+-- The written form at the buffers' starts: "words after the last one written keep their content".
+unfoldable pub written : Table → FormBuffers → FormBuffers
+written t before =
+    record {
+      nodes = overwrite (before .nodes) 0 (writtenNodes t);
+      prefix = overwrite (before .prefix) 0 (writtenPrefix t);
+      variables = overwrite (before .variables) 0 (writtenVariables t);
+    }
 
--- Refusals 1 to 8, then 9, with every buffer as it was. If done, the written form stands at the buffers' starts, and "words after
--- the last one written keep their content".
-unfoldable pub lifted : List ℕ → List ℕ → List ℕ → List ℕ → List ℕ → Outcome
-lifted ws ls nodes prefix variables =
-    let v = verdict ws ls in
+-- Refusals 1 to 8, then 9, with every buffer as it was; else done.
+unfoldable pub lifted : List ℕ → List ℕ → FormBuffers → Outcome Sizes FormBuffers
+lifted ws ls before =
     let t = tableOf ws ls in
-    pick (eqb (v .number) 0)
-    (pick (tooShort ws ls nodes prefix variables)
-    (after (refusal 9 0) nodes prefix variables)
-    (after (done (sizes t)) (overwrite nodes 0 (writtenNodes t)) (overwrite prefix 0 (writtenPrefix t)) (overwrite variables 0 (writtenVariables t))))
-    (after (refusal (v .number) (v .position)) nodes prefix variables)
+    unlessRefused (verdict ws ls) noSizes before
+    (unlessShort (tooShort t before) noSizes before
+    (record { answer = done (sizes t); buffers = written t before }))
+
+-- An answer of the code, and what the buffers hold with it.
+abbrev pub after : Answer → FormBuffers → Outcome Sizes FormBuffers
+after r held = record { answer = answerOf r; buffers = held }
+
+-- If done, the sizes that are answered are those of what lifting writes.
+abbrev pub SizesWritten : Table → AnswerWith Sizes → Type 0
+SizesWritten t a = a .verdict .number ≡ 0 → SizesOf (a .sizes) (writtenNodes t) (writtenPrefix t) (writtenVariables t)
+
+-- If done, what stands in the buffers, as far as the sizes say, is a prenex form of the table.
+abbrev pub FormWritten : Table → Outcome Sizes FormBuffers → Type 0
+FormWritten t o =
+    let s = o .answer .sizes in
+    let held = o .buffers in
+    o .answer .verdict .number ≡ 0
+    → PrenexOf t (take (width * s .nodes) (held .nodes)) (take (prefixWidth * s .blocks) (held .prefix)) (take (s .entries) (held .variables))

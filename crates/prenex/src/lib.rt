@@ -8,7 +8,7 @@ ghost use Rattle.lists.specs.Parts.{overwrite};
 ghost use Rattle.formula.specs.Node.{isBlock};
 ghost use Rattle.formula.specs.Words.{width, nodeCount, nodeAt, tableOf};
 ghost use Rattle.formula.specs.Form.{prefixWidth};
-ghost use Rattle.refusals.specs.Verdict.{accepted};
+ghost use Rattle.refusals.specs.Verdict.{refusal as refusalOf, accepted};
 ghost use Rattle.acceptance.specs.Limits.{limit};
 ghost use Rattle.acceptance.specs.Verdict.{verdict};
 ghost use Rattle.prenex_form.specs.Sizes.{sizes as sizesOf};
@@ -20,42 +20,54 @@ ghost use Rattle.arrays.specs.Held.{firstCopy, Definitions, Started, Chained, B
 ghost use Rattle.scopes.specs.Passes.{Placed, Blank, BlockCounts};
 ghost use Rattle.first_nodes.specs.Given.{Given, Counted};
 ghost use Rattle.prenex.specs.Arrays.{Room, Written};
-ghost use Rattle.prenex.specs.Outcome.{refusal as refusalOf, done as doneOf, measured, after, lifted};
+ghost use Rattle.refusals.specs.Outcome.{refused as refusedOf, done as doneOf};
+ghost use Rattle.prenex.specs.Outcome.{
+  noSizes,
+  answerOf,
+  measured,
+  buffers,
+  after,
+  lifted,
+  SizesWritten,
+  FormWritten,
+};
 use acceptance::LIMIT;
 use names::NameCounter;
 use prefix_writer::PREFIX_WIDTH;
 use prenex_form::Sizes;
 use refusals::ACCEPTED;
 use refusals::BUFFER_TOO_SHORT;
+use refusals::Verdict;
 use scopes::Counts;
 
 // One scope for each node, and that outside all blocks.
 const SCOPES: usize = LIMIT + 1;
 
-// Document 01's number of a refusal (0: done), its position, and the sizes.
+// The verdict and the sizes.
 pub struct Answer {
-    pub number: u32,
-    pub position: u32,
+    pub verdict: Verdict,
     pub sizes: Sizes,
 }
 
 // Measures a table: its nodes, blocks, bound variables and depth, and what lifting it writes.
 //
-// The contract rules out a measure with invented sizes, as one that counts the root block's variables
-// twice, and one that accepts what is refused by the checker.
+// The contract rules out a measure that gives a refused table's sizes, and one with invented sizes, as
+// one that answers those of a table without blocks.
 pub fn measure(words: &[u32], list: &[u32]) -> Answer
-    ensures { λ r. ⌜ r ≡ measured (now (words .entry)) (now (list .entry)) ⌝ }
+    ensures answer { λ r.
+        ⌜ answerOf r ≡ measured (now (words .entry)) (now (list .entry)) ⌝ }
+    ensures sizes { λ r.
+        ⌜ SizesWritten (tableOf (now (words .entry)) (now (list .entry))) (answerOf r) ⌝ }
 {
-    let v = table_check::check(words, list);
-    let number = v.number;
-    if number != ACCEPTED {
-        return refusal(number, v.position);
+    let verdict = table_check::check(words, list);
+    if verdict.number != ACCEPTED {
+        return refused(verdict);
     }
     done(measure_accepted(words, list))
 }
 
-fn refusal(number: u32, position: u32) -> Answer
-    ensures { λ r. ⌜ r ≡ refusalOf number position ⌝ }
+fn refused(verdict: Verdict) -> Answer
+    ensures { λ r. ⌜ answerOf r ≡ refusedOf verdict noSizes ⌝ }
 {
     let sizes = Sizes {
         n: 0,
@@ -66,21 +78,21 @@ fn refusal(number: u32, position: u32) -> Answer
         blocks: 0,
         entries: 0,
     };
-    Answer {
-        number,
-        position,
-        sizes,
-    }
+    Answer { verdict, sizes }
+}
+
+// An output buffer is too short.
+fn short() -> Answer
+    ensures { λ r. ⌜ answerOf r ≡ refusedOf (refusalOf 9 0) noSizes ⌝ }
+{
+    refused(refusals::refusal(BUFFER_TOO_SHORT, 0))
 }
 
 fn done(sizes: Sizes) -> Answer
-    ensures { λ r. ⌜ r ≡ doneOf sizes ⌝ }
+    ensures { λ r. ⌜ answerOf r ≡ doneOf sizes ⌝ }
 {
-    Answer {
-        number: ACCEPTED,
-        position: 0,
-        sizes,
-    }
+    let verdict = refusals::accepted();
+    Answer { verdict, sizes }
 }
 
 fn measure_accepted(words: &[u32], list: &[u32]) -> Sizes
@@ -119,8 +131,8 @@ fn sizes_of(words: &[u32], list: &[u32], counts: Counts) -> Sizes
 // Lifts a table's quantifiers: writes the nodes, the prefix and the variables of its prenex form to
 // the starts of three buffers.
 //
-// The contract rules out a lift by which deeper blocks are left in the matrix, and one that writes to
-// a buffer whose room is not tested.
+// The contract rules out a lift that answers done and writes nothing, and one of a table that is
+// refused.
 pub fn lift(
     words: &[u32],
     list: &[u32],
@@ -128,13 +140,19 @@ pub fn lift(
     prefix: &mut [u32],
     variables: &mut [u32],
 ) -> Answer
-    ensures outcome { λ r. ⌜ after r (now (nodes .exit)) (now (prefix .exit)) (now (variables .exit)) ≡ lifted (now (words .entry)) (now (list .entry)) (now (nodes .entry)) (now (prefix .entry)) (now (variables .entry)) ⌝ }
-    ensures form { λ r. ⌜ (r .number ≡ 0 → PrenexOf (tableOf (now (words .entry)) (now (list .entry))) (take (width * r .sizes .nodes) (now (nodes .exit))) (take (prefixWidth * r .sizes .blocks) (now (prefix .exit))) (take (r .sizes .entries) (now (variables .exit)))) ⌝ }
+    ensures outcome { λ r.
+        ⌜ after r (buffers (now (nodes .exit)) (now (prefix .exit)) (now (variables .exit)))
+        ≡ lifted (now (words .entry)) (now (list .entry))
+        (buffers (now (nodes .entry)) (now (prefix .entry)) (now (variables .entry))) ⌝ }
+    ensures sizes { λ r.
+        ⌜ SizesWritten (tableOf (now (words .entry)) (now (list .entry))) (answerOf r) ⌝ }
+    ensures form { λ r.
+        ⌜ FormWritten (tableOf (now (words .entry)) (now (list .entry)))
+        (after r (buffers (now (nodes .exit)) (now (prefix .exit)) (now (variables .exit)))) ⌝ }
 {
-    let v = table_check::check(words, list);
-    let fault = v.number;
-    if fault != ACCEPTED {
-        return refusal(fault, v.position);
+    let verdict = table_check::check(words, list);
+    if verdict.number != ACCEPTED {
+        return refused(verdict);
     }
     lift_accepted(words, list, nodes, prefix, variables)
 }
@@ -148,20 +166,23 @@ fn lift_accepted(
     variables: &mut [u32],
 ) -> Answer
     requires { ⌜ verdict (now words) (now list) ≡ accepted ⌝ }
-    ensures { λ r. ⌜ after r (now (nodes .exit)) (now (prefix .exit)) (now (variables .exit)) ≡ lifted (now (words .entry)) (now (list .entry)) (now (nodes .entry)) (now (prefix .entry)) (now (variables .entry)) ⌝ }
+    ensures { λ r.
+        ⌜ after r (buffers (now (nodes .exit)) (now (prefix .exit)) (now (variables .exit)))
+        ≡ lifted (now (words .entry)) (now (list .entry))
+        (buffers (now (nodes .entry)) (now (prefix .entry)) (now (variables .entry))) ⌝ }
 {
     let mut parents = [0u32; LIMIT];
     let mut levels = [0u16; LIMIT];
     let counts = scopes::fill_scopes(words, list, &mut parents, &mut levels);
     let sizes = sizes_of(words, list, counts);
     if nodes.len() < formula::WIDTH * (sizes.nodes as usize) {
-        return refusal(BUFFER_TOO_SHORT, 0);
+        return short();
     }
     if prefix.len() < PREFIX_WIDTH * (sizes.blocks as usize) {
-        return refusal(BUFFER_TOO_SHORT, 0);
+        return short();
     }
     if variables.len() < sizes.entries as usize {
-        return refusal(BUFFER_TOO_SHORT, 0);
+        return short();
     }
     write_form(
         words,

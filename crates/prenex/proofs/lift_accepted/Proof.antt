@@ -4,7 +4,9 @@ use mathlib.Core.Path.{ap}
 use Rattle.prenex_form.proofs.Theorem.{sizes-written}
 use Rattle.prenex_form.specs.declared.Sizes.{Sizes}
 use Rattle.scopes.specs.Passes.{Placed}
+use Rattle.formula.specs.Words.{tableOf}
 use Rattle.prenex.specs.Arrays.{Room}
+use Rattle.prenex.specs.Outcome.{buffers}
 use Rattle.prenex.proofs.Answers.{short-nodes, short-prefix, short-variables, lifted-short, lifted-done}
 use native.Mathlib.Omega.{arith}
 use borrow.Author.Needs.{needs}
@@ -29,15 +31,15 @@ cast-if1 c = search needs
 mul-if1 : tie.Need-mul-if1
 mul-if1 c = search needs
 
-refusal-requires : tie.Need-refusal-requires
-refusal-requires c κs = search needs
+short-requires : tie.Need-short-requires
+short-requires c κs = search needs
 
 returns : tie.Need-returns
 returns c =
     let s = c .before .before .before .before .before .before .before .before .before .before .before .before .before .before in
     let m = sizes-written (s .args .words .now) (s .args .list .now) (s .pre) in
     let e = ap (λ (z : Sizes). z .nodes) (c .before .before .before .sizes-of .ensures) in
-    lifted-short (s .args .words .now) (s .args .list .now) (s .args .nodes .now) (s .args .prefix .now) (s .args .variables .now) (s .pre) (short-nodes (s .args .words .now) (s .args .list .now) (s .args .nodes .now) (s .args .prefix .now) (s .args .variables .now) (omega (arith, m .nodes-measured, e, c .before .if1 .taken))) _ (c .refusal .ensures)
+    lifted-short (s .args .words .now) (s .args .list .now) (s .pre) (buffers (s .args .nodes .now) (s .args .prefix .now) (s .args .variables .now)) (short-nodes (tableOf (s .args .words .now) (s .args .list .now)) (buffers (s .args .nodes .now) (s .args .prefix .now) (s .args .variables .now)) (omega (arith, m .nodes-measured, e, c .before .if1 .taken))) _ (c .short .ensures)
 
 cast-if2 : tie.Need-cast-if2
 cast-if2 c = search needs
@@ -45,28 +47,28 @@ cast-if2 c = search needs
 mul-if2 : tie.Need-mul-if2
 mul-if2 c = search needs
 
-refusal-requires-2 : tie.Need-refusal-requires-2
-refusal-requires-2 c κs = search needs
+short-requires-2 : tie.Need-short-requires-2
+short-requires-2 c κs = search needs
 
 returns-2 : tie.Need-returns-2
 returns-2 c =
     let s = c .before .before .before .before .before .before .before .before .before .before .before .before .before .before .before .before in
     let m = sizes-written (s .args .words .now) (s .args .list .now) (s .pre) in
     let e = ap (λ (z : Sizes). z .blocks) (c .before .before .before .before .before .sizes-of .ensures) in
-    lifted-short (s .args .words .now) (s .args .list .now) (s .args .nodes .now) (s .args .prefix .now) (s .args .variables .now) (s .pre) (short-prefix (s .args .words .now) (s .args .list .now) (s .args .nodes .now) (s .args .prefix .now) (s .args .variables .now) (omega (arith, m .blocks-measured, e, c .before .if2 .taken))) _ (c .refusal2 .ensures)
+    lifted-short (s .args .words .now) (s .args .list .now) (s .pre) (buffers (s .args .nodes .now) (s .args .prefix .now) (s .args .variables .now)) (short-prefix (tableOf (s .args .words .now) (s .args .list .now)) (buffers (s .args .nodes .now) (s .args .prefix .now) (s .args .variables .now)) (omega (arith, m .blocks-measured, e, c .before .if2 .taken))) _ (c .short2 .ensures)
 
 cast-if3 : tie.Need-cast-if3
 cast-if3 c = search needs
 
-refusal-requires-3 : tie.Need-refusal-requires-3
-refusal-requires-3 c κs = search needs
+short-requires-3 : tie.Need-short-requires-3
+short-requires-3 c κs = search needs
 
 returns-3 : tie.Need-returns-3
 returns-3 c =
     let s = c .before .before .before .before .before .before .before .before .before .before .before .before .before .before .before .before .before .before in
     let m = sizes-written (s .args .words .now) (s .args .list .now) (s .pre) in
     let e = ap (λ (z : Sizes). z .entries) (c .before .before .before .before .before .before .before .sizes-of .ensures) in
-    lifted-short (s .args .words .now) (s .args .list .now) (s .args .nodes .now) (s .args .prefix .now) (s .args .variables .now) (s .pre) (short-variables (s .args .words .now) (s .args .list .now) (s .args .nodes .now) (s .args .prefix .now) (s .args .variables .now) (omega (arith, m .entries-measured, e, c .before .if3 .taken))) _ (c .refusal3 .ensures)
+    lifted-short (s .args .words .now) (s .args .list .now) (s .pre) (buffers (s .args .nodes .now) (s .args .prefix .now) (s .args .variables .now)) (short-variables (tableOf (s .args .words .now) (s .args .list .now)) (buffers (s .args .nodes .now) (s .args .prefix .now) (s .args .variables .now)) (omega (arith, m .entries-measured, e, c .before .if3 .taken))) _ (c .short3 .ensures)
 
 slice-aggregate-write-form : tie.Need-slice-aggregate-write-form
 slice-aggregate-write-form c = search needs
@@ -118,7 +120,7 @@ returns-4 c =
       prefix-fits = omega (arith, m .blocks-measured, ap (λ (z : Sizes). z .blocks) z, c .before .before .before .before .before .before .before .before .before .before .before .before .before .before .before .before .if2 .left);
       variables-fit = omega (arith, m .entries-measured, ap (λ (z : Sizes). z .entries) z, c .before .before .before .before .before .before .before .before .before .before .before .before .before .before .if3 .left);
     } in
-    lifted-done (s .args .words .now) (s .args .list .now) (s .args .nodes .now) (s .args .prefix .now) (s .args .variables .now) (s .pre) room _ _ (c .done .ensures) z _ _ _ (c .before .before .before .before .before .before .before .before .write-form .ensures)
+    lifted-done (s .args .words .now) (s .args .list .now) (s .pre) (s .args .nodes .now) (s .args .prefix .now) (s .args .variables .now) room _ _ (c .done .ensures) z _ _ _ (c .before .before .before .before .before .before .before .before .write-form .ensures)
 
 pub lift-accepted-spec : {M : Type 1} → statement M
 lift-accepted-spec =
@@ -130,14 +132,14 @@ lift-accepted-spec =
     sizes-of-requires
     cast-if1
     mul-if1
-    refusal-requires
+    short-requires
     returns
     cast-if2
     mul-if2
-    refusal-requires-2
+    short-requires-2
     returns-2
     cast-if3
-    refusal-requires-3
+    short-requires-3
     returns-3
     slice-aggregate-write-form
     slice-aggregate-write-form-2

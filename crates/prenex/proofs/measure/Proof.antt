@@ -1,6 +1,7 @@
 -- `prenex::measure` meets its contract.
 -- Assumes nothing.
 use Rattle.prenex.proofs.Answers.{accepted-by, measured-refused, measured-done}
+use Rattle.prenex.proofs.Form.{measured-sizes}
 use borrow.Author.Needs.{needs}
 use Rattle.prenex.proofs.measure.Statement.{statement}
 use Rattle.prenex.proofs.measure.Tie as tie
@@ -8,14 +9,15 @@ use Rattle.prenex.proofs.measure.Tie as tie
 check-requires : tie.Need-check-requires
 check-requires c κs = search needs
 
-refusal-requires : tie.Need-refusal-requires
-refusal-requires c κs = search needs
+refused-requires : tie.Need-refused-requires
+refused-requires c κs = search needs
 
 returns : tie.Need-returns
 returns c =
     let d = c .before .before in
     let s = d .before .before .before in
-    measured-refused (s .args .words .now) (s .args .list .now) (d .check .result) (d .check .ensures) _ (c .before .if1 .taken) (c .refusal .ensures)
+    let e = measured-refused (s .args .words .now) (s .args .list .now) (d .check .result) (d .check .ensures) (c .before .if1 .taken) _ (c .refused .ensures) in
+    (e, measured-sizes (s .args .words .now) (s .args .list .now) _ e)
 
 measure-accepted-requires : tie.Need-measure-accepted-requires
 measure-accepted-requires c κs =
@@ -31,14 +33,15 @@ returns-2 c =
     let d = c .before .before .before in
     let s = d .before .before .before in
     let ok = accepted-by (s .args .words .now) (s .args .list .now) (d .check .result) (d .check .ensures) (c .before .before .if1 .left) in
-    measured-done (s .args .words .now) (s .args .list .now) _ _ ok (c .done .ensures) (c .before .measure-accepted .ensures)
+    let e = measured-done (s .args .words .now) (s .args .list .now) ok _ _ (c .done .ensures) (c .before .measure-accepted .ensures) in
+    (e, measured-sizes (s .args .words .now) (s .args .list .now) _ e)
 
 pub measure-spec : {M : Type 1} → statement M
 measure-spec =
     tie.close
     (tie.spec
     check-requires
-    refusal-requires
+    refused-requires
     returns
     measure-accepted-requires
     done-requires
