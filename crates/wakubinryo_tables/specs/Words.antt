@@ -1,33 +1,32 @@
--- The answers as C's words, and the outcomes that hold them.
+-- The answers that C's words say.
 -- Assumes nothing.
-use mathlib.Core.List.{List, [], _∷_}
+use mathlib.Core.List.{List}
 use Prim.Native.Nat.{ℕ}
-use Rattle.free_variables.specs.declared.Listed.{Listed}
-use Rattle.free_variables.specs.Outcome.{listed}
-use Rattle.prenex.specs.Outcome.{answerWords, lifted}
+use lib.ListN.{getD}
+use Rattle.refusals.specs.declared.Verdict.{Verdict}
+use Rattle.refusals.specs.Outcome.{AnswerWith, Outcome}
+use Rattle.prenex_form.specs.declared.Sizes.{Sizes}
+use Rattle.prenex.specs.Outcome.{FormBuffers}
 
--- A lift's answer as nine words, and its three buffers.
-pub record Lift : Type 0 where
-  pub answer : List ℕ
-  pub nodes : List ℕ
-  pub prefix : List ℕ
-  pub variables : List ℕ
+-- The verdict in an answer's first words: number, position.
+unfoldable pub verdictIn : List ℕ → Verdict
+verdictIn a = record { number = getD a 0 0; position = getD a 1 0 }
 
-unfoldable pub liftWords : List ℕ → List ℕ → List ℕ → List ℕ → List ℕ → Lift
-liftWords ws ls nodes prefix variables =
-    let o = lifted ws ls nodes prefix variables in
-    record { answer = answerWords (o .answer); nodes = o .nodes; prefix = o .prefix; variables = o .variables }
+-- An answer of nine words: the verdict, and the sizes in document 01's order.
+unfoldable pub sizesAnswer : List ℕ → AnswerWith Sizes
+sizesAnswer a =
+    record {
+      verdict = verdictIn a;
+      sizes = record { n = getD a 2 0; b = getD a 3 0; q = getD a 4 0; depth = getD a 5 0; nodes = getD a 6 0; blocks = getD a 7 0; entries = getD a 8 0 };
+    }
 
--- number, position, names written
-unfoldable pub listedWords : Listed → List ℕ
-listedWords a = a .number ∷ a .position ∷ a .count ∷ []
+-- An answer of three words: the verdict, and how many names were written.
+unfoldable pub countAnswer : List ℕ → AnswerWith ℕ
+countAnswer a = record { verdict = verdictIn a; sizes = getD a 2 0 }
 
--- The answer of the free variables' listing as three words, and its buffer.
-pub record Listing : Type 0 where
-  pub answer : List ℕ
-  pub names : List ℕ
+-- The outcomes of the two calls that write.
+abbrev pub liftOutcome : List ℕ → FormBuffers → Outcome Sizes FormBuffers
+liftOutcome a held = record { answer = sizesAnswer a; buffers = held }
 
-unfoldable pub listingWords : List ℕ → List ℕ → List ℕ → Listing
-listingWords ws ls names =
-    let o = listed ws ls names in
-    record { answer = listedWords (o .answer); names = o .names }
+abbrev pub listOutcome : List ℕ → List ℕ → Outcome ℕ (List ℕ)
+listOutcome a names = record { answer = countAnswer a; buffers = names }

@@ -1,13 +1,15 @@
 // The C interface of formula tables: measuring, lifting and listing free variables under C names.
 // include/wakubinryo.h says each promise in words.
 ghost use mathlib.Core.Path.{_≡_};
-ghost use Prim.Native.Nat.{_*_};
-ghost use lib.ListN.{take, getD};
-ghost use Rattle.formula.specs.Words.{width, tableOf};
-ghost use Rattle.formula.specs.Form.{prefixWidth};
-ghost use Rattle.prenex_form.specs.Promise.{PrenexOf};
-ghost use Rattle.prenex.specs.Outcome.{answerWords, measured};
-ghost use Rattle.wakubinryo_tables.specs.Words.{Lift, liftWords, listedWords, Listing, listingWords};
+ghost use Rattle.formula.specs.Words.{tableOf};
+ghost use Rattle.free_variables.specs.Outcome.{listed};
+ghost use Rattle.prenex.specs.Outcome.{answerOf, measured, buffers, lifted, SizesWritten, FormWritten};
+ghost use Rattle.wakubinryo_tables.specs.Words.{
+  sizesAnswer,
+  countAnswer,
+  liftOutcome,
+  listOutcome,
+};
 use free_variables::Listed;
 use prenex::Answer;
 
@@ -17,7 +19,10 @@ use prenex::Answer;
 // refused table.
 #[no_mangle]
 pub extern "C" fn wakubinryo_measure(words: &[u32], list: &[u32], answer: &mut [u32; 9])
-    ensures { λ _. ⌜ now (answer .exit) ≡ answerWords (measured (now (words .entry)) (now (list .entry))) ⌝ }
+    ensures answer { λ _.
+        ⌜ sizesAnswer (now (answer .exit)) ≡ measured (now (words .entry)) (now (list .entry)) ⌝ }
+    ensures sizes { λ _.
+        ⌜ SizesWritten (tableOf (now (words .entry)) (now (list .entry))) (sizesAnswer (now (answer .exit))) ⌝ }
 {
     put_answer(answer, prenex::measure(words, list));
 }
@@ -35,8 +40,15 @@ pub extern "C" fn wakubinryo_lift(
     variables: &mut [u32],
     answer: &mut [u32; 9],
 )
-    ensures outcome { λ _. ⌜ _≡_ {A = Lift} (record { answer = now (answer .exit); nodes = now (nodes .exit); prefix = now (prefix .exit); variables = now (variables .exit) }) (liftWords (now (words .entry)) (now (list .entry)) (now (nodes .entry)) (now (prefix .entry)) (now (variables .entry))) ⌝ }
-    ensures form { λ _. ⌜ (getD (now (answer .exit)) 0 0 ≡ 0 → PrenexOf (tableOf (now (words .entry)) (now (list .entry))) (take (width * getD (now (answer .exit)) 6 0) (now (nodes .exit))) (take (prefixWidth * getD (now (answer .exit)) 7 0) (now (prefix .exit))) (take (getD (now (answer .exit)) 8 0) (now (variables .exit)))) ⌝ }
+    ensures outcome { λ _.
+        ⌜ liftOutcome (now (answer .exit)) (buffers (now (nodes .exit)) (now (prefix .exit)) (now (variables .exit)))
+        ≡ lifted (now (words .entry)) (now (list .entry))
+        (buffers (now (nodes .entry)) (now (prefix .entry)) (now (variables .entry))) ⌝ }
+    ensures sizes { λ _.
+        ⌜ SizesWritten (tableOf (now (words .entry)) (now (list .entry))) (sizesAnswer (now (answer .exit))) ⌝ }
+    ensures form { λ _.
+        ⌜ FormWritten (tableOf (now (words .entry)) (now (list .entry)))
+        (liftOutcome (now (answer .exit)) (buffers (now (nodes .exit)) (now (prefix .exit)) (now (variables .exit)))) ⌝ }
 {
     put_answer(answer, prenex::lift(words, list, nodes, prefix, variables));
 }
@@ -51,18 +63,21 @@ pub extern "C" fn wakubinryo_free_variables(
     names: &mut [u32],
     answer: &mut [u32; 3],
 )
-    ensures { λ _. ⌜ _≡_ {A = Listing} (record { answer = now (answer .exit); names = now (names .exit) }) (listingWords (now (words .entry)) (now (list .entry)) (now (names .entry))) ⌝ }
+    ensures outcome { λ _.
+        ⌜ listOutcome (now (answer .exit)) (now (names .exit))
+        ≡ listed (now (words .entry)) (now (list .entry)) (now (names .entry)) ⌝ }
 {
     put_listed(answer, free_variables::free_variables(words, list, names));
 }
 
 fn put_answer(answer: &mut [u32; 9], a: Answer)
-    ensures { λ _. ⌜ now (answer .exit) ≡ answerWords a ⌝ }
+    ensures { λ _. ⌜ sizesAnswer (now (answer .exit)) ≡ answerOf a ⌝ }
 {
+    let v = a.verdict;
     let s = a.sizes;
     *answer = [
-        a.number,
-        a.position,
+        v.number,
+        v.position,
         s.n,
         s.b,
         s.q,
@@ -74,7 +89,8 @@ fn put_answer(answer: &mut [u32; 9], a: Answer)
 }
 
 fn put_listed(answer: &mut [u32; 3], a: Listed)
-    ensures { λ _. ⌜ now (answer .exit) ≡ listedWords a ⌝ }
+    ensures { λ _. ⌜ countAnswer (now (answer .exit)) ≡ record { verdict = a .verdict; sizes = a .count } ⌝ }
 {
-    *answer = [a.number, a.position, a.count];
+    let v = a.verdict;
+    *answer = [v.number, v.position, a.count];
 }

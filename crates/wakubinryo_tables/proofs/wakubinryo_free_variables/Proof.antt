@@ -1,6 +1,7 @@
 -- `wakubinryo_tables::wakubinryo_free_variables` meets its contract.
 -- Assumes nothing.
-use Rattle.wakubinryo_tables.proofs.Answers.{listing-words}
+use Rattle.free_variables.specs.Outcome.{after}
+use Rattle.wakubinryo_tables.proofs.Answers.{said}
 use borrow.Author.Needs.{needs}
 use Rattle.wakubinryo_tables.proofs.wakubinryo_free_variables.Statement.{statement}
 use Rattle.wakubinryo_tables.proofs.wakubinryo_free_variables.Tie as tie
@@ -15,10 +16,8 @@ same-length : tie.Need-same-length
 same-length c = search needs
 
 returns : tie.Need-returns
-returns c =
-    let s = c .before .before .before .before .before .before .before .before .before in
-    let f = c .before .before .before .free-variables in
-    listing-words (s .args .words .now) (s .args .list .now) (s .args .names .now) (f .result) _ _ (c .put-listed .ensures) (f .ensures)
+unfolding after
+returns c = said _ _ _ _ (c .put-listed .ensures) (c .before .before .before .free-variables .ensures)
 
 pub wakubinryo-free-variables-spec : {M : Type 1} → statement M
 wakubinryo-free-variables-spec =

@@ -1,7 +1,10 @@
 -- `wakubinryo_tables::wakubinryo_lift` meets its contract.
 -- Assumes nothing.
-use Rattle.formula.specs.Words.{tableOf}
-use Rattle.wakubinryo_tables.proofs.Answers.{lift-words, form-words}
+use mathlib.Core.Path.{sym, subst}
+use Rattle.refusals.specs.Outcome.{AnswerWith}
+use Rattle.prenex_form.specs.declared.Sizes.{Sizes}
+use Rattle.prenex.specs.Outcome.{SizesWritten, FormWritten}
+use Rattle.wakubinryo_tables.proofs.Answers.{said}
 use borrow.Author.Needs.{needs}
 use Rattle.wakubinryo_tables.proofs.wakubinryo_lift.Statement.{statement}
 use Rattle.wakubinryo_tables.proofs.wakubinryo_lift.Tie as tie
@@ -23,11 +26,13 @@ same-length-3 c = search needs
 
 returns : tie.Need-returns
 returns c =
-    let s = c .before .before .before .before .before .before .before .before .before .before .before .before .before .before .before .before .before in
-    let f = c .before .before .before .before .before .before .before .lift in (
-      lift-words (s .args .words .now) (s .args .list .now) (s .args .nodes .now) (s .args .prefix .now) (s .args .variables .now) (f .result) _ _ _ _
-          (c .put-answer .ensures) (f .ensures .0),
-      form-words (tableOf (s .args .words .now) (s .args .list .now)) (f .result) _ _ _ _ (c .put-answer .ensures) (f .ensures .1),
+    let f = c .before .before .before .before .before .before .before .lift .ensures in
+    let e = c .put-answer .ensures in (
+      said _ _ _ _ e (f .0),
+      (
+        subst (SizesWritten _) (sym e) (f .1 .0),
+        subst (λ (a : AnswerWith Sizes). FormWritten _ (record { answer = a; buffers = _ })) (sym e) (f .1 .1),
+      ),
     )
 
 pub wakubinryo-lift-spec : {M : Type 1} → statement M

@@ -1,7 +1,7 @@
 -- `wakubinryo_tables::wakubinryo_measure` meets its contract.
 -- Assumes nothing.
-use mathlib.Core.Path.{_∙_, ap}
-use Rattle.prenex.specs.Outcome.{answerWords}
+use mathlib.Core.Path.{sym, _∙_, subst}
+use Rattle.prenex.specs.Outcome.{SizesWritten}
 use borrow.Author.Needs.{needs}
 use Rattle.wakubinryo_tables.proofs.wakubinryo_measure.Statement.{statement}
 use Rattle.wakubinryo_tables.proofs.wakubinryo_measure.Tie as tie
@@ -13,7 +13,9 @@ put-answer-requires : tie.Need-put-answer-requires
 put-answer-requires c κs = search needs
 
 returns : tie.Need-returns
-returns c = c .put-answer .ensures ∙ ap answerWords (c .before .measure .ensures)
+returns c =
+    let m = c .before .measure .ensures in
+    (c .put-answer .ensures ∙ m .0, subst (SizesWritten _) (sym (c .put-answer .ensures)) (m .1))
 
 pub wakubinryo-measure-spec : {M : Type 1} → statement M
 wakubinryo-measure-spec = tie.close (tie.spec measure-requires put-answer-requires returns)
