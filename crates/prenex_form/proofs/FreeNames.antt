@@ -1,4 +1,5 @@
--- The numbers that are free in a table are those that are free in its prenex form (document 01, "Truth and size").
+-- The numbers that are free in a table are those that are free in its prenex form (document 01, "Truth and size"), and where the
+-- variables at the form's nodes come from.
 -- Assumes nothing.
 use mathlib.Core.Path.{_≡_, refl, sym, _∙_, ap, subst}
 use mathlib.Core.Bool.{Bool, true, false, not, _&&_, _||_, or-false}
@@ -12,7 +13,7 @@ use borrow.Author.Tests.{eqb-true, eqb-false, eq-eqb, ne-eqb, ltb-true, ltb-fals
 use Rattle.lists.specs.Choice.{pick, pick-yes, pick-no, Is, is-true, is-false, look, clash, and-left, and-right, and-both, or-left, or-right, or-cases, absent, same-test}
 use Rattle.lists.specs.Members.{mem}
 use Rattle.lists.specs.Parts.{upTo}
-use Rattle.lists.proofs.Search.{lowest-le, lowest-none}
+use Rattle.lists.proofs.Search.{lowest-none}
 use Rattle.lists.proofs.Members.{mem-append, mem-left, mem-right, mem-one, mem-head, mem-tail, mem-getD, mem-flatMap, or-group}
 use Rattle.lists.proofs.Parts.{term-le}
 use Rattle.formula.specs.Node.{Quantifier, exists, for-all, Node, constant, variable, negation, operator, block, Table, operands, isBlock, bound}
@@ -20,12 +21,12 @@ use Rattle.formula.specs.Tree.{Tree, Proper, count}
 use Rattle.formula.specs.Truth.{nodeFree, freeAt, free}
 use Rattle.formula.specs.Form.{Block, binds, formFree}
 use Rattle.formula.proofs.Unfolding.{freeAt-node}
-use Rattle.prenex_form.specs.Scope.{binder, inner, level, above, parent}
+use Rattle.prenex_form.specs.Scope.{binder, inner, level, parent}
 use Rattle.prenex_form.specs.Names.{newNames, newName, copies, definitionVariable}
-use Rattle.prenex_form.specs.Levels.{blocksAt, levels, levelQuantifier}
-use Rattle.prenex_form.specs.Matrix.{kept, renamed, firstNodes, equation, constraint, further, constraints, levelJoin, levelNodes, nodesTo, prenexNodes, writtenNodes}
+use Rattle.prenex_form.specs.Levels.{blocksAt, levels, quantifierAt, levelQuantifier}
+use Rattle.prenex_form.specs.Matrix.{kept, renamed, firstNodes, equation, guard, constraint, further, constraints, levelJoin, levelNodes, nodesTo, prenexNodes, writtenNodes}
 use Rattle.prenex_form.specs.Prefix.{blockCount, leading, prefixBlock, prefixBlocks, writtenPrefix, writtenVariables}
-use Rattle.prenex_form.proofs.Paths.{climb, parent-lt, parent-names, binder-root, binder-step, binder-block, inner-level, level-le-levels, mem-blocksAt, blocksAt-lt, blocksAt-inner, inner-block, kept-le, kept-inner}
+use Rattle.prenex_form.proofs.Paths.{climb, parent-lt, parent-names, binder-le, binder-root, binder-step, binder-block, inner-level, level-le-levels, mem-blocksAt, blocksAt-lt, blocksAt-inner, inner-block, kept-le, kept-inner}
 use Rattle.prenex_form.proofs.NameLaws.{variable-le, length-newNames, length-copies, newName-free, newName-bound}
 use Rattle.prenex_form.proofs.NodeLists.{listTable, Plain}
 use Rattle.prenex_form.proofs.Written.{length-firstNodes, getD-firstNodes}
@@ -139,7 +140,7 @@ binds-one : (b : Block) (x : ℕ) → binds (b ∷ []) x ≡ mem x (b .variables
 unfolding binds
 binds-one b x = or-false (mem x (b .variables))
 
-binds-mem : (bs : List Block) (x : ℕ) → binds bs x ≡ mem x (flatMap (λ (b : Block). b .variables) bs)
+pub binds-mem : (bs : List Block) (x : ℕ) → binds bs x ≡ mem x (flatMap (λ (b : Block). b .variables) bs)
 unfolding binds flatMap mem
 binds-mem [] x = refl
 binds-mem (b ∷ bs) x = ap (_||_ (mem x (b .variables))) (binds-mem bs x) ∙ sym (mem-append x (b .variables) _)
@@ -207,19 +208,23 @@ module _ (t : Table) where
             prefix-binds 0 x (omega arith) (some-block i h b) (mem-left x _ _ (rw s at m))
         go (is-false e) = level-own i x h (and-both _ _ b (ap not e)) (mem-left x _ _ m)
 
--- the variables at the nodes of the form
+-- where the variables and the truth tables at the nodes of the form come from
 
 -- x is a free number of the table, or the prefix binds it
-data Source (t : Table) (x : ℕ) : Type 0 where
+pub data Source (t : Table) (x : ℕ) : Type 0 where
   of-table : Stands t x → Source t x
   of-prefix : binds (prefixBlocks t) x ≡ true → Source t x
 
--- the variable of a variable node has a source
-abbrev Sourced : Table → Node → Type 0
+-- f is the truth table of one of the table's operators, or one that the form adds
+pub data Applied (t : Table) (f : ℕ) : Type 0 where
+  of-node : (i a b : ℕ) → i < t .size → t .node i ≡ operator f a b → Applied t f
+  of-form : f ≤ 15 → Applied t f
+
+abbrev pub Sourced : Table → Node → Type 0
 Sourced t (constant b) = Unit {0}
 Sourced t (variable x) = Source t x
 Sourced t (negation a) = Unit {0}
-Sourced t (operator f a b) = Unit {0}
+Sourced t (operator f a b) = Applied t f
 Sourced t (block q xs a) = Unit {0}
 
 data AllSourced (t : Table) : List Node → Type 0 where
@@ -234,8 +239,13 @@ sourced-at t (nd ∷ ns) (next _ p r) (suc k) = sourced-at t ns r k
 of-variable : {t : Table} {x : ℕ} {ns : List Node} → Source t x → AllSourced t ns → AllSourced t (variable x ∷ ns)
 of-variable {t} {x} p r = next (variable x) p r
 
-of-operator : {t : Table} {f a b : ℕ} {ns : List Node} → AllSourced t ns → AllSourced t (operator f a b ∷ ns)
-of-operator {t} {f} {a} {b} r = next (operator f a b) tt r
+of-operator : {t : Table} {f a b : ℕ} {ns : List Node} → f ≤ 15 → AllSourced t ns → AllSourced t (operator f a b ∷ ns)
+of-operator {t} {f} {a} {b} l r = next (operator f a b) (of-form l) r
+
+guard-le : (q : Quantifier) → guard q ≤ 15
+unfolding guard
+guard-le exists = omega arith
+guard-le for-all = omega arith
 
 module _ (t : Table) where
   append-sourced : (ms ns : List Node) → AllSourced t ms → AllSourced t ns → AllSourced t (ms ++ ns)
@@ -254,18 +264,17 @@ module _ (t : Table) where
 
   levelJoin-sourced : (q : Quantifier) (m c : ℕ) → AllSourced t (levelJoin q m c ∷ [])
   unfolding levelJoin
-  levelJoin-sourced exists m c = of-operator none
-  levelJoin-sourced for-all m c = of-operator none
+  levelJoin-sourced exists m c = of-operator (omega arith) none
+  levelJoin-sourced for-all m c = of-operator (omega arith) none
 
   module _ (tree : Tree t) where
     new-sourced : (i x : ℕ) → i < t .size → t .node i ≡ variable x → Is (ltb (binder t i x) (t .size)) → Source t (newName t i x)
-    unfolding binder
     new-sourced i x h e (is-true l) =
         let k = ltb-true (binder t i x) (t .size) l in
         of-prefix (binds-name t tree (binder t i x) (newName t i x) k (binder-block t tree i x k) (newName-bound t i x k))
     new-sourced i x h e (is-false l) =
         let k = ltb-false (binder t i x) (t .size) l in
-        let b : binder t i x ≡ t .size = omega (arith, lowest-le (λ b. isBlock (t .node b) && mem x (bound (t .node b)) && above t b i) (t .size)) in
+        let b : binder t i x ≡ t .size = omega (arith, binder-le t i x) in
         rw (newName-free t i x b) (of-table (record { node = i; within = h; variable-is = e; unbound = b }))
 
     renamed-sourced : (i : ℕ) → i < kept t → (nd : Node) → t .node i ≡ nd → Sourced t (renamed t i nd)
@@ -273,7 +282,7 @@ module _ (t : Table) where
     renamed-sourced i h (constant b) e = tt
     renamed-sourced i h (variable x) e = new-sourced i x (omega (arith, kept-le t)) e (look _)
     renamed-sourced i h (negation a) e = tt
-    renamed-sourced i h (operator f a b) e = tt
+    renamed-sourced i h (operator f a b) e = of-node i a b (omega (arith, kept-le t)) e
     renamed-sourced i h (block q xs a) e = of-prefix (binds-definition t tree i (omega (arith, kept-le t)) (kept-inner t i h (ap isBlock e)))
 
     first-sourced : AllSourced t (firstNodes t)
@@ -293,17 +302,19 @@ module _ (t : Table) where
           let y = getD (copies t i) k 0 in
           let a : Source t x = of-prefix (binds-name t tree i x h (inner-block t i n) (mem-getD (newNames t i) k 0 (omega (arith, length-newNames t i)))) in
           let b : Source t y = of-prefix (binds-copy t tree i y h n (mem-getD (copies t i) k 0 (omega (arith, length-copies t i)))) in
-          pick-sourced (eqb k 0) _ _ (of-variable a (of-variable b (of-operator none))) (of-variable a (of-variable b (of-operator (of-operator none))))
+          pick-sourced (eqb k 0) _ _
+          (of-variable a (of-variable b (of-operator (omega arith) none)))
+          (of-variable a (of-variable b (of-operator (omega arith) (of-operator (omega arith) none))))
 
       constraint-sourced : (s : ℕ) → AllSourced t (constraint t i s)
       unfolding constraint
       constraint-sourced s =
           of-variable definition-sourced
-          (of-operator
+          (of-operator (omega arith)
           (pick-sourced (eqb (count t i) 0) _ _ none
           (append-sourced (upTo (equation t i (s + 2)) (count t i)) _
           (upTo-sourced (equation t i (s + 2)) (count t i) (λ k l. equation-sourced (s + 2) k l))
-          (of-variable definition-sourced (of-operator (of-operator none))))))
+          (of-variable definition-sourced (of-operator (guard-le (quantifierAt (t .node i))) (of-operator (omega arith) none))))))
 
     -- every number of the list is that of an inner block
     abbrev Inner : List ℕ → Type 0
@@ -315,7 +326,7 @@ module _ (t : Table) where
     further-sourced (i ∷ is) s h =
         let r = h i (mem-head i is) in
         append-sourced (constraint t i s) _ (constraint-sourced i (r .0) (r .1) s)
-        (of-operator (further-sourced is _ (λ j m. h j (mem-tail j i is m))))
+        (of-operator (omega arith) (further-sourced is _ (λ j m. h j (mem-tail j i is m))))
 
     constraints-sourced : (is : List ℕ) (s : ℕ) → Inner is → AllSourced t (constraints t is s)
     unfolding constraints
@@ -332,6 +343,10 @@ module _ (t : Table) where
         (append-sourced (constraints t (blocksAt t (suc j)) (length (nodesTo t j))) _
         (constraints-sourced (blocksAt t (suc j)) _ (λ i m. (blocksAt-lt t tree (suc j) i m, blocksAt-inner t tree (suc j) i m)))
         (levelJoin-sourced (levelQuantifier t j) _ _))
+
+    pub prenex-sourced : (k : ℕ) → Sourced t (getD (prenexNodes t) k (constant false))
+    unfolding prenexNodes
+    prenex-sourced k = sourced-at t (prenexNodes t) (nodes-sourced (levels t)) k
 
     -- the first nodes stand first
     first-at : (j i : ℕ) → i < kept t → (i < length (nodesTo t j)) × (getD (nodesTo t j) i (constant false) ≡ renamed t i (t .node i))
@@ -361,10 +376,10 @@ plain-binder ns plain i x = lowest-none _ (length ns) (λ b h. rw (plain b h) re
 
 module _ (t : Table) (tree : Tree t) (x : ℕ) where
   form-table : free (listTable (prenexNodes t)) x ≡ true → binds (prefixBlocks t) x ≡ false → free t x ≡ true
-  unfolding listTable prenexNodes
+  unfolding listTable
   form-table h n =
       let s = free-stands (listTable (prenexNodes t)) (prenex-tree t tree) x h in
-      let r : Source t x = subst (Sourced t) (s .variable-is) (sourced-at t (prenexNodes t) (nodes-sourced t tree (levels t)) (s .node)) in
+      let r : Source t x = subst (Sourced t) (s .variable-is) (prenex-sourced t tree (s .node)) in
       go r
     where
       go : Source t x → free t x ≡ true

@@ -16,7 +16,7 @@ use Rattle.lists.proofs.Members.{place-lt}
 use Rattle.lists.proofs.Parts.{length-numbers, getD-numbers, mem-numbers, numbers-from, numbers-below, distinct-numbers, sum-cong, sum-mono, sum-grows, highest-ge, pick-le}
 use Rattle.formula.specs.Node.{Node, constant, variable, negation, operator, block, Table, isBlock, bound}
 use Rattle.formula.specs.Tree.{count, boundBelow}
-use Rattle.prenex_form.specs.Scope.{binder, inner, above}
+use Rattle.prenex_form.specs.Scope.{covers, binder, inner, above}
 use Rattle.prenex_form.specs.Names.{maximum, highestAt, highestNumber, boundCount, firstName, newNames, newName, innerBoundBelow, innerBelow, copies, definitionVariable}
 
 maximum-ge : (x : ℕ) (xs : List ℕ) → mem x xs ≡ true → x ≤ maximum xs
@@ -200,8 +200,7 @@ module _ (t : Table) where
   binder-covers i x h =
       let b = binder t i x in
       and-right (isBlock (t .node b)) (mem x (bound (t .node b)))
-      (and-left (isBlock (t .node b) && mem x (bound (t .node b))) (above t b i)
-      (lowest-holds (λ b. isBlock (t .node b) && mem x (bound (t .node b)) && above t b i) (t .size) h))
+      (and-left (covers t b x) (above t b i) (lowest-holds (λ b. covers t b x && above t b i) (t .size) h))
 
   pub newName-bound : (i x : ℕ) → binder t i x < t .size → mem (newName t i x) (newNames t (binder t i x)) ≡ true
   unfolding newName newNames count

@@ -16,7 +16,7 @@ use Rattle.lists.proofs.Members.{mem-one, mem-head, times-zero, times-positive,
 use Rattle.lists.proofs.Parts.{two-terms-le, sum-positive, mem-upTo, mem-upTo-from, highest-ge, highest-attained, highest-le, pick-le}
 use Rattle.formula.specs.Node.{Node, constant, variable, negation, operator, block, Table, operands, isBlock, bound}
 use Rattle.formula.specs.Tree.{Tree, timesNamed}
-use Rattle.prenex_form.specs.Scope.{parent, pathUp, path, above, binder, inner, howMany, level, depth}
+use Rattle.prenex_form.specs.Scope.{parent, pathUp, path, above, covers, binder, inner, howMany, level, depth}
 use Rattle.prenex_form.specs.Names.{firstName, newName}
 use Rattle.prenex_form.specs.Levels.{blocksAt, levels}
 use Rattle.prenex_form.specs.Matrix.{kept, bodyOf}
@@ -116,10 +116,6 @@ kept-inner t i h b = and-both _ _ b (ap not (ne-eqb (suc i) (t .size) (λ e. ome
 pub binder-le : (t : Table) (i x : ℕ) → binder t i x ≤ t .size
 unfolding binder
 binder-le t i x = lowest-le _ (t .size)
-
--- node b is a block that binds x
-abbrev binds : Table → ℕ → ℕ → Bool
-binds t b x = isBlock (t .node b) && mem x (bound (t .node b))
 
 module _ (t : Table) (tree : Tree t) where
   -- no two nodes name one node
@@ -321,22 +317,22 @@ module _ (t : Table) (tree : Tree t) where
   -- binders
   pub binder-root : (i x : ℕ) → suc i ≡ t .size → binder t i x ≡ t .size
   unfolding binder
-  binder-root i x h = nearest-root (λ b. binds t b x) i h
+  binder-root i x h = nearest-root (λ b. covers t b x) i h
 
   pub binder-step : (j i x : ℕ) → j < t .size → mem i (operands (t .node j)) ≡ true
       → binder t i x ≡ pick (isBlock (t .node j) && mem x (bound (t .node j))) j (binder t j x)
   unfolding binder
-  binder-step j i x h m = nearest-step (λ b. binds t b x) j i h m
+  binder-step j i x h m = nearest-step (λ b. covers t b x) j i h m
 
-  binder-holds : (i x : ℕ) → binder t i x < t .size → (binds t (binder t i x) x && above t (binder t i x) i) ≡ true
+  binder-holds : (i x : ℕ) → binder t i x < t .size → (covers t (binder t i x) x && above t (binder t i x) i) ≡ true
   unfolding binder
-  binder-holds i x h = lowest-holds (λ b. binds t b x && above t b i) (t .size) h
+  binder-holds i x h = lowest-holds (λ b. covers t b x && above t b i) (t .size) h
 
   pub binder-block : (i x : ℕ) → binder t i x < t .size → isBlock (t .node (binder t i x)) ≡ true
   binder-block i x h = and-left _ (mem x (bound (t .node (binder t i x)))) (and-left _ _ (binder-holds i x h))
 
   pub binder-above : (i x : ℕ) → binder t i x < t .size → above t (binder t i x) i ≡ true
-  binder-above i x h = and-right (binds t (binder t i x) x) _ (binder-holds i x h)
+  binder-above i x h = and-right (covers t (binder t i x) x) _ (binder-holds i x h)
 
   pub newName-root : (i x : ℕ) → suc i ≡ t .size → newName t i x ≡ x
   unfolding newName
@@ -345,10 +341,10 @@ module _ (t : Table) (tree : Tree t) where
   pub newName-step : (j i x : ℕ) → j < t .size → mem i (operands (t .node j)) ≡ true
       → newName t i x ≡ pick (isBlock (t .node j) && mem x (bound (t .node j))) (firstName t j + place x (bound (t .node j))) (newName t j x)
   unfolding newName
-  newName-step j i x h m = go (look (binds t j x)) (binder-step j i x h m)
+  newName-step j i x h m = go (look (covers t j x)) (binder-step j i x h m)
     where
-      go : Is (binds t j x) → binder t i x ≡ pick (binds t j x) j (binder t j x)
-          → newName t i x ≡ pick (binds t j x) (firstName t j + place x (bound (t .node j))) (newName t j x)
+      go : Is (covers t j x) → binder t i x ≡ pick (covers t j x) j (binder t j x)
+          → newName t i x ≡ pick (covers t j x) (firstName t j + place x (bound (t .node j))) (newName t j x)
       go (is-true e) q =
           let r : binder t i x ≡ j = q ∙ pick-yes _ _ _ e in
           rw r (pick-yes _ _ _ (lt-ltb j (t .size) h)) ∙ sym (pick-yes _ _ _ e)

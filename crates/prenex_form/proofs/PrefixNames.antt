@@ -198,8 +198,8 @@ mem-split x xs ys m = go (look (mem x xs)) (look (mem x ys))
     go (is-false p) (is-false q) = clash m (mem-neither x xs ys p q)
 
 -- the variables of prefix block j
-unfoldable part : Table → ℕ → List ℕ
-part t j = leading t j ++ flatMap (copies t) (blocksAt t (suc j))
+abbrev part : Table → ℕ → List ℕ
+part t j = prefixBlock t j .variables
 
 -- what an inner block adds to its level's prefix block: its names, then its definition variable
 unfoldable own : Table → ℕ → List ℕ
@@ -253,7 +253,7 @@ module _ (t : Table) where
   variables-none e = ap (flatMap (λ (b : Block). b .variables)) (pick-yes _ _ _ e)
 
   variables-parts : eqb (blockCount t) 0 ≡ false → writtenVariables t ≡ upTo (part t) (suc (levels t))
-  unfolding writtenVariables prefixBlocks prefixBlock part
+  unfolding writtenVariables prefixBlocks
   variables-parts e =
       ap (flatMap (λ (b : Block). b .variables)) (pick-no _ _ _ e)
       ∙ flatMap-upTo (λ (b : Block). b .variables) (λ j. prefixBlock t j ∷ []) (suc (levels t))
@@ -334,7 +334,7 @@ module _ (t : Table) where
         (r .0, blocksAt-lt t tree l (r .0) (r .1), blocksAt-inner t tree l (r .0) (r .1), blocksAt-level t tree l (r .0) (r .1), r .2)
 
     part-origin : (j x : ℕ) → mem x (part t j) ≡ true → Origin t j x
-    unfolding part
+    unfolding prefixBlock
     part-origin j x m = go (mem-split x (leading t j) (flatMap (copies t) (blocksAt t (suc j))) m)
       where
         go : Split x (leading t j) (flatMap (copies t) (blocksAt t (suc j))) → Origin t j x
@@ -342,7 +342,7 @@ module _ (t : Table) where
         go (in-right n) = let r = level-copy (suc j) x n in copy (r .0) (r .1) (r .2) (r .3) (r .4)
 
     distinct-part : (j : ℕ) → distinct (part t j) ≡ true
-    unfolding part
+    unfolding prefixBlock
     distinct-part j =
         distinct-append (leading t j) (flatMap (copies t) (blocksAt t (suc j))) (distinct-leading j) (distinct-levelCopies (suc j))
         (λ x m n.
@@ -504,7 +504,7 @@ module _ (t : Table) where
         omega (arith, innerBound-is t r (root-lt t tree))
 
     parts-entries : length (upTo (part t) (suc (levels t))) ≡ boundCount t + innerBoundBelow t (t .size) + innerBelow t (t .size)
-    unfolding part
+    unfolding prefixBlock
     parts-entries =
         length-upTo (part t) (suc (levels t))
         ∙ sum-cong (λ j. length (part t j)) (λ j. length (leading t j) + length (flatMap (copies t) (blocksAt t (suc j)))) (suc (levels t))

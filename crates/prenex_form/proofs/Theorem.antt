@@ -23,7 +23,7 @@ use Rattle.acceptance.specs.Limits.{Limits, tableLimits, matrixLimits}
 use Rattle.acceptance.specs.Verdict.{verdict}
 use Rattle.acceptance.specs.Accepted.{AcceptedWithin, Accepted}
 use Rattle.acceptance.proofs.Accepted.{accepted-holds, holds-within}
-use Rattle.prenex_form.specs.Matrix.{writtenNodes}
+use Rattle.prenex_form.specs.Matrix.{prenexNodes, writtenNodes}
 use Rattle.prenex_form.specs.Prefix.{writtenPrefix, writtenVariables}
 use Rattle.prenex_form.specs.Sizes.{sizes, SizeRule}
 use Rattle.prenex_form.specs.FreeVariables.{standsAt, someNode}
@@ -55,9 +55,9 @@ of-accepted ws ls a =
       names-new = prefix-new t tree;
       whole-nodes = written-whole t tree;
       matrix-formed = λ i h.
+          let l : i < length (prenexNodes t) = rw (written-count t tree) at h in
           rw (written-words t tree i h)
-          (within-formed (highestName t) _ (prenex-plain t tree i (rw (written-count t tree) at h))
-          (prenex-within t tree 65535 (node-within tableLimits ws ls a) i));
+          (within-formed (highestName t) _ (prenex-plain t tree i l) (prenex-within t tree 65535 (node-within tableLimits ws ls a) i l));
       matrix-tree = written-tree t tree;
       prefix-names = prefix-within t tree;
       whole-blocks = prefix-whole t;

@@ -19,7 +19,7 @@ use Rattle.prenex_form.specs.Names.{boundCount}
 use Rattle.prenex_form.specs.Levels.{blocksAt, levels}
 use Rattle.prenex_form.specs.Matrix.{kept, constraint, further, constraints, levelNodes, nodesTo, prenexNodes}
 use Rattle.prenex_form.specs.Prefix.{blockCount}
-use Rattle.prenex_form.specs.Sizes.{addedBy}
+use Rattle.prenex_form.specs.Sizes.{addedFor, addedBy}
 use Rattle.prenex_form.proofs.Paths.{kept-le, inner-level, level-le-levels, inner-block}
 use Rattle.prenex_form.proofs.PrefixNames.{blockCount-le}
 use Rattle.prenex_form.proofs.Written.{length-constraint-bare, length-constraint-full, length-firstNodes, level-some}
@@ -90,16 +90,13 @@ module _ (t : Table) (tree : Tree t) (g : ℕ → ℕ) where
 
 -- what an inner block adds
 abbrev added : Table → ℕ → ℕ
-added t i = pick (eqb (count t i) 0) 3 (4 * count t i + 5)
+added t i = addedFor (count t i)
 
 length-constraint-by : (t : Table) (i s n : ℕ) → count t i ≡ n → suc (length (constraint t i s)) ≡ added t i
 length-constraint-by t i s zero e =
-    let p : _≡_ {A = ℕ} (pick (eqb (count t i) 0) 3 (4 * count t i + 5)) 3 = pick-yes _ _ _ (eq-eqb _ _ e) in
-    omega (arith, length-constraint-bare t i s e)
+    let p : _≡_ {A = ℕ} (added t i) _ = pick-yes _ _ _ (eq-eqb _ _ e) in omega (arith, length-constraint-bare t i s e)
 length-constraint-by t i s (suc n) e =
-    let p : _≡_ {A = ℕ} (pick (eqb (count t i) 0) 3 (4 * count t i + 5)) (4 * count t i + 5) =
-    pick-no _ _ _ (ne-eqb (count t i) 0 (λ z. omega arith)) in
-    omega (arith, length-constraint-full t i s n e)
+    let p : _≡_ {A = ℕ} (added t i) _ = pick-no _ _ _ (ne-eqb (count t i) 0 (λ z. omega arith)) in omega (arith, length-constraint-full t i s n e)
 
 length-constraint : (t : Table) (i s : ℕ) → suc (length (constraint t i s)) ≡ added t i
 length-constraint t i s = length-constraint-by t i s (count t i) refl
@@ -142,9 +139,9 @@ sum-times f zero = (refl, refl)
 sum-times f (suc n) = let r = sum-times f n in (omega (arith, r .0), omega (arith, r .1))
 
 added-le : (t : Table) (i n : ℕ) → count t i ≡ n → added t i ≤ 5 + 4 * count t i
-added-le t i zero e = let p : _≡_ {A = ℕ} (added t i) 3 = pick-yes _ _ _ (eq-eqb _ _ e) in omega arith
+added-le t i zero e = let p : _≡_ {A = ℕ} (added t i) _ = pick-yes _ _ _ (eq-eqb _ _ e) in omega arith
 added-le t i (suc n) e =
-    let p : _≡_ {A = ℕ} (added t i) (4 * count t i + 5) = pick-no _ _ _ (ne-eqb (count t i) 0 (λ z. omega arith)) in omega arith
+    let p : _≡_ {A = ℕ} (added t i) _ = pick-no _ _ _ (ne-eqb (count t i) 0 (λ z. omega arith)) in omega arith
 
 added-by-le : (t : Table) (i : ℕ) → Is (inner t i) → addedBy t i ≤ 5 * pick (isBlock (t .node i)) 1 0 + 4 * count t i
 unfolding addedBy

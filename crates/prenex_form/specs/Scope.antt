@@ -26,10 +26,14 @@ path t i = pathUp (t .size) t i
 unfoldable pub above : Table → ℕ → ℕ → Bool
 above t b i = mem b (path t i) && not (eqb b i)
 
+-- Node b is a block that covers the number x.
+abbrev pub covers : Table → ℕ → ℕ → Bool
+covers t b x = isBlock (t .node b) && mem x (bound (t .node b))
+
 -- "A variable node belongs to the nearest block above it that covers its number" (document 01: its owner). Whatever stands above
 -- a node has a higher index, so the nearest is the lowest. The table's size if there is none.
 unfoldable pub binder : Table → ℕ → ℕ → ℕ
-binder t i x = lowest (λ b. isBlock (t .node b) && mem x (bound (t .node b)) && above t b i) (t .size)
+binder t i x = lowest (λ b. covers t b x && above t b i) (t .size)
 
 -- "A block is inner if it isn't the root."
 unfoldable pub inner : Table → ℕ → Bool

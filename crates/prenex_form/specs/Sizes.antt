@@ -27,9 +27,13 @@ sizes t =
       entries = length (writtenVariables t);
     }
 
--- "4 × count + 5 for each inner block, or 3 where its count is 0": the nodes that node i adds to the first K.
+-- "4 × count + 5 for each inner block, or 3 where its count is 0": the nodes that an inner block of this count adds, and those
+-- that node i adds.
+abbrev pub addedFor : ℕ → ℕ
+addedFor count = pick (eqb count 0) 3 (4 * count + 5)
+
 unfoldable pub addedBy : Table → ℕ → ℕ
-addedBy t i = pick (inner t i) (pick (eqb (count t i) 0) 3 (4 * count t i + 5)) 0
+addedBy t i = pick (inner t i) (addedFor (count t i)) 0
 
 -- No prefix without blocks; else a block for each level and one more: as many as the depth if the root is a block, one more if not.
 unfoldable pub prefixCount : Table → ℕ
