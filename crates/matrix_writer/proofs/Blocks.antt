@@ -12,7 +12,8 @@ use Rattle.lists.specs.Choice.{pick, and-left}
 use Rattle.lists.specs.Parts.{sum, upTo}
 use Rattle.lists.proofs.Parts.{getD-numbers, sum-grows, upTo-cong}
 use Rattle.formula.specs.Node.{Table, isBlock}
-use Rattle.formula.specs.Words.{width, nodeCount, field, nodeOf, nodeAt, tableOf}
+use Rattle.formula.specs.Words.{width, nodeCount, field, wordsAt, nodeOf, nodeAt, tableOf}
+use Rattle.formula.specs.declared.NodeWords.{NodeWords}
 use Rattle.formula.specs.Form.{quantifierOf}
 use Rattle.formula.specs.Tree.{count, boundBelow}
 use Rattle.formula.proofs.Nodes.{Kind, kind-of, kind-constant, kind-variable, kind-negation, kind-operator, kind-exists, kind-for-all, kind-none, block-kind, node-block}
@@ -20,8 +21,7 @@ use Rattle.refusals.specs.Verdict.{accepted}
 use Rattle.acceptance.specs.Limits.{limit}
 use Rattle.acceptance.specs.Verdict.{verdict}
 use Rattle.acceptance.specs.Accepted.{Accepted}
-use Rattle.acceptance.proofs.Accepted.{count-at, accepted-holds}
-use Rattle.acceptance.proofs.Accepted.{count-block}
+use Rattle.acceptance.proofs.Accepted.{count-at, count-block, accepted-holds}
 use Rattle.prenex_form.specs.Scope.{inner}
 use Rattle.prenex_form.specs.Names.{highestNumber, firstName, newNames, boundCount, copies}
 use Rattle.prenex_form.specs.Levels.{quantifierAt}
@@ -32,20 +32,20 @@ use Rattle.arrays.specs.Held.{Starts, firstNew, firstCopy}
 use Rattle.matrix_writer.specs.Entries.{entryNodes, entriesNodes}
 use Rattle.matrix_writer.specs.Chain.{InnerBlock}
 
-quantifier-of : (ls : List ℕ) (kind a b d : ℕ) → Kind kind → quantifierAt (nodeOf ls kind a b d) ≡ quantifierOf kind
+quantifier-of : (ls : List ℕ) (w : NodeWords) → Kind (w .kind) → quantifierAt (nodeOf ls w) ≡ quantifierOf (w .kind)
 unfolding nodeOf pick quantifierAt quantifierOf
-quantifier-of ls kind a b d (kind-constant e) = rw e
-quantifier-of ls kind a b d (kind-variable e) = rw e
-quantifier-of ls kind a b d (kind-negation e) = rw e
-quantifier-of ls kind a b d (kind-operator e) = rw e
-quantifier-of ls kind a b d (kind-exists e) = rw e
-quantifier-of ls kind a b d (kind-for-all e) = rw e
-quantifier-of ls kind a b d (kind-none e1 e2 e3 e4 e5 e6) = rw (e1, e2, e3, e4, e5, e6)
+quantifier-of ls w (kind-constant e) = rw e
+quantifier-of ls w (kind-variable e) = rw e
+quantifier-of ls w (kind-negation e) = rw e
+quantifier-of ls w (kind-operator e) = rw e
+quantifier-of ls w (kind-exists e) = rw e
+quantifier-of ls w (kind-for-all e) = rw e
+quantifier-of ls w (kind-none e1 e2 e3 e4 e5 e6) = rw (e1, e2, e3, e4, e5, e6)
 
 -- the quantifier of a node is that of its kind
 pub quantifier-is : (ws ls : List ℕ) (i : ℕ) → quantifierAt (tableOf ws ls .node i) ≡ quantifierOf (field ws i 0)
 unfolding tableOf nodeAt
-quantifier-is ws ls i = quantifier-of ls (field ws i 0) (field ws i 1) (field ws i 2) (field ws i 3) (kind-of (field ws i 0))
+quantifier-is ws ls i = quantifier-of ls (wordsAt ws i) (kind-of (field ws i 0))
 
 pub size-is : (ws ls : List ℕ) → tableOf ws ls .size ≡ nodeCount ws
 unfolding tableOf

@@ -9,14 +9,16 @@ use Rattle.lists.specs.Parts.{overwrite}
 use Rattle.lists.proofs.Parts.{flatMap-append}
 use Rattle.lists.proofs.Overwrite.{overwrite-nil, overwrite-append}
 use Rattle.formula.specs.Node.{Node}
-use Rattle.formula.specs.Words.{width, nodeWords}
+use Rattle.formula.specs.Words.{width, wordsOf, wordList, nodeWords}
+use Rattle.formula.specs.declared.NodeWords.{NodeWords}
 use Rattle.prenex_form.proofs.NodeLists.{length-words}
 use Rattle.matrix_writer.specs.Buffer.{withNodes, Wrote}
 
--- one node
-pub with-one : (out : List ℕ) (at : ℕ) (n : Node) → overwrite out (width * at) (nodeWords n) ≡ withNodes out at (n ∷ [])
-unfolding withNodes flatMap
-with-one out at n = rw append-nil
+-- one node, by its words
+pub with-one : (out last : List ℕ) (at : ℕ) (n : Node) {w : NodeWords} → w ≡ wordsOf n → last ≡ overwrite out (width * at) (wordList w)
+    → last ≡ withNodes out at (n ∷ [])
+unfolding withNodes flatMap nodeWords
+with-one out last at n e p = rw append-nil (rw e at p)
 
 pub with-none : (out : List ℕ) (at : ℕ) → withNodes out at [] ≡ out
 unfolding withNodes flatMap

@@ -10,7 +10,8 @@ use borrow.Author.Tests.{eq-eqb, ne-eqb}
 use Rattle.lists.specs.Choice.{pick-yes, pick-no}
 use Rattle.lists.specs.Parts.{upTo}
 use Rattle.formula.specs.Node.{Node, Table}
-use Rattle.formula.specs.Words.{width, nodeCount, field, tableOf}
+use Rattle.formula.specs.Words.{width, nodeCount, field, wordsAt, tableOf}
+use Rattle.formula.specs.declared.NodeWords.{NodeWords}
 use Rattle.formula.specs.Form.{quantifierOf}
 use Rattle.formula.specs.Tree.{count}
 use Rattle.acceptance.specs.Limits.{limit}
@@ -97,10 +98,10 @@ module _ {ws ls starts : List ℕ} {names copies : ℕ} {definitions : List ℕ}
   length-constraint : (field ws i 2 ≡ 0 → ⊥) → length (constraint (tableOf ws ls) i s) ≡ 4 * field ws i 2 + 4
   length-constraint h = ap length (constraint-full h) ∙ simp length-append (omega (arith, length-equations))
 
-  -- what the code has of the block: its kind, count and body are those of its words
-  pub wrote-empty : (out last : List ℕ) (size body : ℕ) → size ≡ field ws i 2 → body ≡ field ws i 3 → size ≡ 0
-      → last ≡ withNodes out s (definitionNodes s (getD definitions i 0) body) → Wrote out s (constraint (tableOf ws ls) i s) last (s + 2)
-  wrote-empty out last size body f g h p = wrote _ (constraint-empty (sym f ∙ h)) (rw g at p) refl
+  -- what the code has of the block are its words
+  pub wrote-empty : (out last : List ℕ) {w : NodeWords} → w ≡ wordsAt ws i → w .b ≡ 0
+      → last ≡ withNodes out s (definitionNodes s (getD definitions i 0) (w .c)) → Wrote out s (constraint (tableOf ws ls) i s) last (s + 2)
+  wrote-empty out last e h p = wrote _ (constraint-empty (rw e at h)) (rw e at p) refl
 
   wrote-words : (out m n last : List ℕ) (next : ℕ) → (field ws i 2 ≡ 0 → ⊥)
       → m ≡ withNodes out s definitionPart → Wrote m (s + 2) equationsPart n next → last ≡ withNodes n next (guardPart next)
@@ -115,15 +116,15 @@ module _ {ws ls starts : List ℕ} {names copies : ℕ} {definitions : List ℕ}
       (with-then out n last s next (definitionPart ++ equationsPart) (guardPart next) both r (omega arith) (omega arith))
       (simp length-append (omega arith))
 
-  pub wrote-full : (out m n last : List ℕ) (next kind size body table : ℕ)
-      → kind ≡ field ws i 0 → size ≡ field ws i 2 → body ≡ field ws i 3 → table ≡ guard (quantifierOf kind) → (size ≡ 0 → ⊥)
-      → m ≡ withNodes out s (definitionNodes s (getD definitions i 0) body)
-      → Wrote m (s + 2) (entriesNodes (names + getD starts i 0) (copies + getD starts i 0) (s + 2) size) n next
+  pub wrote-full : (out m n last : List ℕ) (next table : ℕ) {w : NodeWords}
+      → w ≡ wordsAt ws i → table ≡ guard (quantifierOf (w .kind)) → (w .b ≡ 0 → ⊥)
+      → m ≡ withNodes out s (definitionNodes s (getD definitions i 0) (w .c))
+      → Wrote m (s + 2) (entriesNodes (names + getD starts i 0) (copies + getD starts i 0) (s + 2) (w .b)) n next
       → last ≡ withNodes n next (guardNodes next (getD definitions i 0) table (s + 1))
       → width * (s + length (constraint (tableOf ws ls) i s)) ≤ length out
       → Wrote out s (constraint (tableOf ws ls) i s) last (next + 3)
-  wrote-full out m n last next kind size body table e f g v h p q r fits =
-      wrote-words out m n last next (λ z. h (f ∙ z)) (rw g at p) (rw f at q) (rw (v, e) at r) fits
+  wrote-full out m n last next table e v h p q r fits =
+      wrote-words out m n last next (λ z. h (ap (λ (w : NodeWords). w .b) e ∙ z)) (rw e at p) (rw e at q) (rw (v, e) at r) fits
 
 -- what the code's indices, lengths and names are bounded by, at block i
 pub record BlockFacts (ws ls starts : List ℕ) (names copies i at : ℕ) : Type 0 where

@@ -11,7 +11,8 @@ use borrow.Author.Tests.{eq-eqb, ne-eqb}
 use Rattle.lists.specs.Choice.{pick-yes, pick-no}
 use Rattle.lists.specs.Parts.{overwrite}
 use Rattle.formula.specs.Node.{exists, for-all, dual, Node, operator, Table}
-use Rattle.formula.specs.Words.{width, nodeCount, field, tableOf, nodeWords}
+use Rattle.formula.specs.Words.{width, nodeCount, wordsAt, nodeWords, tableOf}
+use Rattle.formula.specs.declared.NodeWords.{NodeWords}
 use Rattle.formula.specs.Form.{quantifierOf}
 use Rattle.refusals.specs.Verdict.{accepted}
 use Rattle.acceptance.specs.Verdict.{verdict}
@@ -74,9 +75,9 @@ module _ {t : Table} {out nodes : List ℕ} {kind next j : ℕ} (done : Levelled
   unfolding withNodes
   levelled-all e = rw (← e) (done .wrote-added .nodes-are)
 
-pub root-quantifier : (ws ls : List ℕ) (kind : ℕ) → kind ≡ field ws (nodeCount ws - 1) 0 → quantifierOf kind ≡ levelQuantifier (tableOf ws ls) 0
+pub root-quantifier : (ws ls : List ℕ) {w : NodeWords} → w ≡ wordsAt ws (nodeCount ws - 1) → quantifierOf (w .kind) ≡ levelQuantifier (tableOf ws ls) 0
 unfolding levelQuantifier tableOf
-root-quantifier ws ls kind e = ap quantifierOf e ∙ sym (quantifier-is ws ls (nodeCount ws - 1))
+root-quantifier ws ls e = rw e (sym (quantifier-is ws ls (nodeCount ws - 1)))
 
 -- how a level is joined to the matrix, by a block's kind
 module _ (kind m d at : ℕ) (out last : List ℕ) where

@@ -7,10 +7,11 @@ use lib.ListN.{length}
 use Rattle.lists.specs.Parts.{overwrite}
 use Rattle.formula.specs.Node.{Node}
 use Rattle.formula.specs.Words.{width, nodeWords}
+use Rattle.acceptance.specs.Limits.{matrixLimits}
 
--- No prenex form has more nodes: 4,096 of the table, 5 for each of as many blocks and 4 for each of as many bound variables.
+-- No prenex form has more nodes, whatever its highest number.
 abbrev pub longestForm : ℕ
-longestForm = 40960
+longestForm = matrixLimits 0 .nodes
 
 -- the buffer with these nodes put over it, the first as node at
 unfoldable pub withNodes : List ℕ → ℕ → List Node → List ℕ

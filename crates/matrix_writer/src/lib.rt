@@ -17,11 +17,11 @@ ghost use Rattle.matrix_writer.specs.Entries.{entryNodes, entriesNodes, 
 ghost use Rattle.matrix_writer.specs.Chain.{InnerBlock, LevelKind, nodesAfter};
 ghost use Rattle.matrix_writer.specs.Arrays.{BlockArrays, NextBlocks};
 use formula::EXISTS_BLOCK;
-use formula::OPERATOR;
-use formula::VARIABLE;
 use formula::WIDTH;
 use formula::node_at;
+use formula::operator_node;
 use formula::put_node;
+use formula::variable_node;
 
 // The truth tables of the operators that are written.
 const AND: u32 = 8;
@@ -37,7 +37,7 @@ fn put_variable(nodes: &mut [u32], at: u32, x: u32)
     requires { ⌜ Room (now nodes) at 1 ⌝ }
     ensures { λ _. ⌜ now (nodes .exit) ≡ withNodes (now (nodes .entry)) at (variable x ∷ []) ⌝ }
 {
-    put_node(nodes, at as usize, VARIABLE, x, 0, 0);
+    put_node(nodes, at as usize, variable_node(x));
 }
 
 // Writes an operator node.
@@ -45,7 +45,7 @@ fn put_operator(nodes: &mut [u32], at: u32, table: u32, left: u32, right: u32)
     requires { ⌜ Room (now nodes) at 1 ⌝ }
     ensures { λ _. ⌜ now (nodes .exit) ≡ withNodes (now (nodes .entry)) at (operator table left right ∷ []) ⌝ }
 {
-    put_node(nodes, at as usize, OPERATOR, table, left, right);
+    put_node(nodes, at as usize, operator_node(table, left, right));
 }
 
 // Writes the nodes of entry k of a block, whose name is x and whose copy is y.

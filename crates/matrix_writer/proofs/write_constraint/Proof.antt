@@ -1,11 +1,12 @@
 -- `matrix_writer::write_constraint` meets its contract. The definition alone where the count is 0; else the definition, the equations and the guard.
 -- Assumes nothing.
-use mathlib.Core.Path.{_∙_, _≡_}
+use mathlib.Core.Path.{_≡_, _∙_, ap}
 use Prim.Native.Nat.{_+_, _*_}
 use native.Mathlib.Omega.{arith}
 use lib.ListN.{length}
 use borrow.Author.Needs.{needs}
 use Rattle.formula.specs.Words.{tableOf}
+use Rattle.formula.specs.declared.NodeWords.{NodeWords}
 use Rattle.prenex_form.specs.Matrix.{constraint}
 use Rattle.matrix_writer.proofs.Constraint.{BlockFacts, block-facts, wrote-empty, wrote-full}
 use Rattle.matrix_writer.proofs.write_constraint.Statement.{statement}
@@ -25,7 +26,7 @@ known s = block-facts (s .args .at) (s .pre .0) (s .pre .1 .0)
 -- how long the constraint of a block that binds something is
 longer : (c : tie.Else1) → length (constraint (tableOf (entry (read c) .args .words .now) (entry (read c) .args .list .now)) (entry (read c) .args .i) (entry (read c) .args .at)) ≡ 4 * read c .node-at .result .b + 4
 longer c =
-    let e = read c .node-at .ensures .2 in
+    let e = ap (λ (w : NodeWords). w .b) (read c .node-at .ensures) in
     omega (arith, known (entry (read c)) .full (λ z. c .if1 .left (e ∙ z)))
 
 node-at-requires : tie.Need-node-at-requires
@@ -50,8 +51,7 @@ returns : tie.Need-returns
 returns c =
     let r = c .before .before .before .before .before .before .before in
     let s = entry r in
-    let e = r .node-at .ensures in
-    wrote-empty (s .pre .0) (s .pre .1 .0) _ _ _ _ _ (e .2) (e .3) (c .if1 .taken) (c .before .before .before .before .write-definition .ensures)
+    wrote-empty (s .pre .0) (s .pre .1 .0) _ _ _ (r .node-at .ensures) (c .if1 .taken) (c .before .before .before .before .write-definition .ensures)
 
 mul-start : tie.Need-mul-start
 mul-start c = omega (arith, known (entry (read c)))
@@ -74,7 +74,7 @@ add-write-entries-3 c = omega (arith, known (entry (read (c .before .before))))
 write-entries-requires : tie.Need-write-entries-requires
 write-entries-requires c κs =
     let e = c .before .before in
-    let r = read e in omega (arith, known (entry r), longer e, r .node-at .ensures, entry r .pre)
+    let r = read e in omega (arith, known (entry r), longer e, ap (λ (w : NodeWords). w .b) (r .node-at .ensures), entry r .pre)
 
 guard-table-requires : tie.Need-guard-table-requires
 guard-table-requires c κs = search needs
@@ -96,8 +96,7 @@ returns-2 c =
     let w = c .before .before .before .before .before .before .before in
     let e = w .before .before .before in
     let s = entry (read e) in
-    let n = read e .node-at .ensures in
-    wrote-full (s .pre .0) (s .pre .1 .0) _ _ _ _ _ _ _ _ _ _ (n .0) (n .2) (n .3) (c .before .before .before .guard-table .ensures) (e .if1 .left)
+    wrote-full (s .pre .0) (s .pre .1 .0) _ _ _ _ _ _ _ (read e .node-at .ensures) (c .before .before .before .guard-table .ensures) (e .if1 .left)
     (e .before .before .before .before .write-definition .ensures) (w .write-entries .ensures .0) (c .before .before .write-guard .ensures) (s .pre .1 .1 .fits)
 
 pub write-constraint-spec : {M : Type 1} → statement M

@@ -19,6 +19,13 @@ abbrev μ-loop : tie.MeasureT-loop
 abbrev entry : tie.In-loop Inv-loop μ-loop → tie.Start Inv-loop μ-loop
 entry c = c .before .before .before .before .before .before .before .before .before .before
 
+-- with all levels passed, all are written
+returns : tie.Need-returns Inv-loop μ-loop
+returns c =
+    let p = c .before .before .before .before .before .before .before .before .before .before .pre .1 .1 in
+    let i = c .before .loop .inv in
+    levelled-all (i .1) (omega (arith, i .0, c .loop-test .left, p .1 .0))
+
 sub-node-at : tie.Need-sub-node-at Inv-loop μ-loop
 sub-node-at c = omega (arith, table-whole _ _ (c .before .before .before .before .before .before .before .pre .0 .starts-held .checked))
 
@@ -29,7 +36,7 @@ cast-next : tie.Need-cast-next Inv-loop μ-loop
 cast-next c = search needs
 
 loop-holds : tie.Need-loop-holds Inv-loop μ-loop
-loop-holds c = (search needs, levelled-none _ _ _ (c .before .before .before .before .before .before .before .before .pre .1 .1 .0) (root-quantifier _ _ _ (c .node-at .ensures .0)))
+loop-holds c = (search needs, levelled-none _ _ _ (c .before .before .before .before .before .before .before .before .pre .1 .1 .0) (root-quantifier _ _ (c .node-at .ensures)))
 
 write-level-requires : tie.Need-write-level-requires Inv-loop μ-loop
 write-level-requires c κs =
@@ -66,12 +73,6 @@ loop-again c =
 
 same-length : tie.Need-same-length Inv-loop μ-loop
 same-length c = c .before .loop .inv .1 .long
-
-returns : tie.Need-returns Inv-loop μ-loop
-returns c =
-    let p = c .before .before .before .before .before .before .before .before .before .before .pre .1 .1 in
-    let i = c .before .loop .inv in
-    levelled-all (i .1) (omega (arith, i .0, c .loop-test .left, p .1 .0))
 
 pub write-levels-spec : {M : Type 1} → statement M
 write-levels-spec =
