@@ -144,9 +144,11 @@ void wakubinryo_measure(const uint32_t *words, size_t words_len,
  * shorter than that.
  *
  * The form has the table's truth value under every valuation, that is, for
- * all values of the variables. Its prefix variables are distinct, and none of
- * them stands at a variable node of the table or in a block's range. It has at
- * most
+ * all values of the variables; its free variables are the table's, and no
+ * other number's value changes the truth value. Its prefix variables are
+ * distinct, and none of them stands at a variable node of the table or in a
+ * block's range. Its names and the order of its nodes are document 01's. It
+ * has at most
  *
  *   n + 5 b + 4 q  nodes,
  *   2 q + b        prefix variables,
