@@ -59,6 +59,6 @@ unfoldable pub binds : List Block → ℕ → Bool
 binds [] x = false
 binds (b ∷ bs) x = mem x (b .variables) || binds bs x
 
--- Whether x is free in a prenex form: it stands at a node below the matrix's root, and no prefix block binds it.
+-- Whether x is free in a prenex form: it stands at the matrix's root or at a node below it, and no prefix block binds it.
 unfoldable pub formFree : List ℕ → List ℕ → List ℕ → ℕ → Bool
 formFree ns ps xs x = free (tableOf ns []) x && not (binds (blocksOf ps xs) x)

@@ -13,15 +13,15 @@ dual for-all = exists
 
 -- A node as document 01's table of kinds gives it. A block holds the variables of its range.
 pub data Node : Type 0 where
-  -- kind 1: "constant: value 0 or 1"
+  -- kind 1, constant: "value 0 or 1"
   constant : Bool → Node
-  -- kind 2: "variable: its number"
+  -- kind 2, variable: "its number"
   variable : ℕ → Node
-  -- kind 3: "not: operand"
+  -- kind 3, not: "operand"
   negation : ℕ → Node
-  -- kind 4: "operator: truth table 0 to 15, left, right"
+  -- kind 4, operator: "truth table 0 to 15, left, right"
   operator : ℕ → ℕ → ℕ → Node
-  -- kinds 5 and 6: "exists block, for-all block: first list entry, count, body"
+  -- kinds 5 and 6, exists block and for-all block: "first list entry, count, body"
   block : Quantifier → List ℕ → ℕ → Node
 
 -- A table as nodes: how many there are, and node i. "Nodes count from 0. The last node is the root." What stands at

@@ -29,7 +29,7 @@ nodeValue at (operator f a b) v = operatorValue f (at a v) (at b v)
 nodeValue at (block q xs a) v = quant q xs (at a) v
 
 -- The value of node i of a table. The first argument bounds how far down the operands go; where operands are lower than
--- their users, any bound above i gives the same value (proofs/Unfolding.antt).
+-- their users it says nothing, and this is the only value that document 01's sentences allow (specs/Laws.antt).
 unfoldable pub value : ℕ → Table → ℕ → Valuation → Bool
 value zero t i v = false
 value (suc f) t i v = nodeValue (value f t) (t .node i) v
@@ -38,7 +38,7 @@ value (suc f) t i v = nodeValue (value f t) (t .node i) v
 unfoldable pub truth : Table → Valuation → Bool
 truth t v = value (t .size) t (t .size - 1) v
 
--- Whether the number x is free in a node: x stands at a variable node below it, with no block between that covers x.
+-- Whether the number x is free in a node: x stands at it or at a variable node below it, with no block from there up to it that covers x.
 unfoldable pub nodeFree : (ℕ → Bool) → ℕ → Node → Bool
 nodeFree at x (constant b) = false
 nodeFree at x (variable y) = eqb x y

@@ -22,7 +22,7 @@ join for-all a b = a && b
 
 -- f under the quantifier q over the variables xs, each of them false and true in turn. That this is document 01's
 -- "under some setting that differs from this one at most at the numbers in its stretch", and "under every such
--- setting", are the laws exists-reading and for-all-reading (proofs/Reading.antt).
+-- setting", are the laws `ExistsRead` and `ForAllRead` (specs/Laws.antt).
 unfoldable pub quant : Quantifier → List ℕ → (Valuation → Bool) → Valuation → Bool
 quant q [] f v = f v
 quant q (x ∷ xs) f v = join q (quant q xs f (update v x false)) (quant q xs f (update v x true))

@@ -22,7 +22,7 @@ nodeCount ws = length ws / width
 unfoldable pub field : List ℕ → ℕ → ℕ → ℕ
 field ws i f = getD ws (width * i + f) 0
 
--- Kinds 5 and 6: "exists block, for-all block".
+-- Kinds 5 and 6: "exists block", "for-all block".
 unfoldable pub isBlockKind : ℕ → Bool
 isBlockKind kind = eqb kind 5 || eqb kind 6
 
