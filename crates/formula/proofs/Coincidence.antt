@@ -13,7 +13,8 @@ use Rattle.formula.specs.Words.{tableOf}
 use Rattle.formula.specs.Valuation.{Valuation}
 use Rattle.formula.specs.Truth.{operatorValue, nodeValue, value, truth, nodeFree, freeAt, free}
 use Rattle.formula.specs.Form.{Block, quantify, matrixTruth, formTruth, blocksOf, binds, formFree}
-use Rattle.formula.proofs.Quantify.{Inside, Outside, quant-same}
+use Rattle.formula.specs.Meaning.{DiffersAtMostAt}
+use Rattle.formula.proofs.Quantify.{Inside, quant-same}
 
 -- Two valuations that are equal at the numbers that pass the test.
 abbrev pub EqualAt : (ℕ → Bool) → Valuation → Valuation → Type 0
@@ -26,7 +27,7 @@ Only p f = (v u : Valuation) → EqualAt p v u → f v ≡ f u
 -- Past a range that two valuations share, they are equal wherever they were.
 past : (p r : ℕ → Bool) (xs : List ℕ) (v u v' u' : Valuation)
     → ((x : ℕ) → mem x xs ≡ false → p x ≡ true → r x ≡ true)
-    → EqualAt r v u → Inside xs v' u' → Outside xs v' v → Outside xs u' u → EqualAt p v' u'
+    → EqualAt r v u → Inside xs v' u' → DiffersAtMostAt xs v' v → DiffersAtMostAt xs u' u → EqualAt p v' u'
 past p r xs v u v' u' sub same shared ov ou x h = go (look (mem x xs))
   where
     go : Is (mem x xs) → v' x ≡ u' x

@@ -14,10 +14,7 @@ use Rattle.lists.specs.Members.{mem, distinct}
 use Rattle.lists.proofs.Members.{distinct-tail}
 use Rattle.formula.specs.Node.{Quantifier, exists, for-all, dual}
 use Rattle.formula.specs.Valuation.{Valuation, update, join, quant}
-
--- Two valuations that differ at most at the numbers in the list.
-abbrev pub Outside : List ℕ → Valuation → Valuation → Type 0
-Outside xs v u = (y : ℕ) → mem y xs ≡ false → v y ≡ u y
+use Rattle.formula.specs.Meaning.{DiffersAtMostAt}
 
 -- Two valuations that are equal at the numbers in the list.
 abbrev pub Inside : List ℕ → Valuation → Valuation → Type 0
@@ -38,17 +35,17 @@ unfolding update
 update-same v x b = pick-yes _ _ _ (eq-eqb x x refl)
 
 -- A longer list: what differs at x alone, and then at most in xs, differs at most in x ∷ xs.
-outside-cons : (x : ℕ) (b : Bool) (xs : List ℕ) (v u : Valuation) → Outside xs (update v x b) u → Outside (x ∷ xs) v u
+outside-cons : (x : ℕ) (b : Bool) (xs : List ℕ) (v u : Valuation) → DiffersAtMostAt xs (update v x b) u → DiffersAtMostAt (x ∷ xs) v u
 unfolding mem update
 outside-cons x b xs v u out y m =
     sym (pick-no _ _ _ (or-neither-left (eqb y x) (mem y xs) m)) ∙ out y (or-neither-right (eqb y x) (mem y xs) m)
 
 -- The same, the other way round.
-outside-cons′ : (x : ℕ) (b : Bool) (xs : List ℕ) (v u : Valuation) → Outside xs u (update v x b) → Outside (x ∷ xs) u v
+outside-cons′ : (x : ℕ) (b : Bool) (xs : List ℕ) (v u : Valuation) → DiffersAtMostAt xs u (update v x b) → DiffersAtMostAt (x ∷ xs) u v
 outside-cons′ x b xs v u out y m = sym (outside-cons x b xs v u (λ z n. sym (out z n)) y m)
 
 -- And back: once x has u's value, the two differ at most in xs.
-outside-tail : (x : ℕ) (xs : List ℕ) (v u : Valuation) → Outside (x ∷ xs) v u → Outside xs (update v x (u x)) u
+outside-tail : (x : ℕ) (xs : List ℕ) (v u : Valuation) → DiffersAtMostAt (x ∷ xs) v u → DiffersAtMostAt xs (update v x (u x)) u
 unfolding mem update
 outside-tail x xs v u out y m = go (look (eqb y x))
   where
@@ -58,7 +55,7 @@ outside-tail x xs v u out y m = go (look (eqb y x))
 
 -- Valuations that are equal inside xs, and outside xs only have the same value at x, are equal inside x ∷ xs.
 inside-cons : (x : ℕ) (b : Bool) (xs : List ℕ) (v u v' u' : Valuation)
-    → Inside xs v' u' → Outside xs v' (update v x b) → Outside xs u' (update u x b) → Inside (x ∷ xs) v' u'
+    → Inside xs v' u' → DiffersAtMostAt xs v' (update v x b) → DiffersAtMostAt xs u' (update u x b) → Inside (x ∷ xs) v' u'
 unfolding mem update
 inside-cons x b xs v u v' u' in′ ov ou y m = go (look (mem y xs)) (look (eqb y x))
   where
@@ -100,7 +97,7 @@ join-cong q a c h = ap₂ (join q) (h false) (h true)
 
 -- A valuation within reach that has the deciding value decides.
 pub quant-reach : (q : Quantifier) (xs : List ℕ) (f : Valuation → Bool) (v u : Valuation)
-    → Outside xs v u → f u ≡ decides q → quant q xs f v ≡ decides q
+    → DiffersAtMostAt xs v u → f u ≡ decides q → quant q xs f v ≡ decides q
 unfolding quant mem
 quant-reach q [] f v u out h = ap f (fun-ext (λ y. out y refl)) ∙ h
 quant-reach q (x ∷ xs) f v u out h =
@@ -109,7 +106,7 @@ quant-reach q (x ∷ xs) f v u out h =
 
 -- The value is that at some valuation within reach.
 pub quant-attain : (q : Quantifier) (xs : List ℕ) (f : Valuation → Bool) (v : Valuation)
-    → (u : Valuation) × Outside xs v u × (quant q xs f v ≡ f u)
+    → (u : Valuation) × DiffersAtMostAt xs v u × (quant q xs f v ≡ f u)
 unfolding quant
 quant-attain q [] f v = (v, λ y m. refl, refl)
 quant-attain q (x ∷ xs) f v =
@@ -129,7 +126,7 @@ quant-cong q xs f g v h = ap (λ k. quant q xs k v) (fun-ext h)
 
 -- Two functions under one list, from two valuations.
 pub quant-same : (q : Quantifier) (xs : List ℕ) (f g : Valuation → Bool) (v u : Valuation)
-    → ((v' u' : Valuation) → Inside xs v' u' → Outside xs v' v → Outside xs u' u → f v' ≡ g u')
+    → ((v' u' : Valuation) → Inside xs v' u' → DiffersAtMostAt xs v' v → DiffersAtMostAt xs u' u → f v' ≡ g u')
     → quant q xs f v ≡ quant q xs g u
 unfolding quant mem
 quant-same q [] f g v u same = same v u (λ y m. clash m refl) (λ y m. refl) (λ y m. refl)
@@ -140,7 +137,7 @@ quant-same q (x ∷ xs) f g v u same =
 
 -- A number that is not in xs keeps its value.
 kept : (x : ℕ) (b : Bool) (xs : List ℕ) (v v' : Valuation)
-    → distinct (x ∷ xs) ≡ true → Outside xs v' (update v x b) → v' x ≡ b
+    → distinct (x ∷ xs) ≡ true → DiffersAtMostAt xs v' (update v x b) → v' x ≡ b
 unfolding distinct
 kept x b xs v v' d out = out x (not-true (mem x xs) (and-left (not (mem x xs)) (distinct xs) d)) ∙ update-same v x b
 
@@ -155,7 +152,7 @@ places-cons x y xs ys v w e r (suc k) l = r k (le-of-suc-le-suc l)
 pub quant-two : (q : Quantifier) (xs ys : List ℕ) → length xs ≡ length ys → distinct xs ≡ true → distinct ys ≡ true
     → (f g : Valuation → Bool) (v w : Valuation)
     → ((v' w' : Valuation) → ((k : ℕ) → k < length xs → v' (getD xs k 0) ≡ w' (getD ys k 0))
-    → Outside xs v' v → Outside ys w' w → f v' ≡ g w')
+    → DiffersAtMostAt xs v' v → DiffersAtMostAt ys w' w → f v' ≡ g w')
     → quant q xs f v ≡ quant q ys g w
 unfolding quant
 quant-two q [] [] e dx dy f g v w same = same v w (λ k l. absurd (not-suc-le-zero l)) (λ y m. refl) (λ y m. refl)

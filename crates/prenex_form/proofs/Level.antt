@@ -15,7 +15,8 @@ use Rattle.lists.specs.Members.{mem, all, place}
 use Rattle.lists.proofs.Members.{mem-left, mem-right, mem-neither, mem-one, mem-head, mem-getD, place-lt, getD-place, all-mem, all-intro, mem-flatMap, mem-flatMap-from}
 use Rattle.formula.specs.Node.{Quantifier, exists, for-all, dual}
 use Rattle.formula.specs.Valuation.{Valuation, quant}
-use Rattle.formula.proofs.Quantify.{Outside, Inside, decides, decides-dual, quant-reach, quant-attain, quant-same}
+use Rattle.formula.specs.Meaning.{DiffersAtMostAt}
+use Rattle.formula.proofs.Quantify.{Inside, decides, decides-dual, quant-reach, quant-attain, quant-same}
 use Rattle.prenex_form.proofs.Cut.{agree, guarded, holds, joined}
 
 -- The blocks of a level, and of each its quantifier, its names, their copies, its definition variable and the value of its
@@ -266,11 +267,11 @@ module _ (b : Blocks) (s : Separate b) where
       ∙ ap (λ y. attained (s .binder y) v y) (s .original-copy x)
       ∙ ap (λ j. attained j v x) (s .binder-is i x m h)
 
-  spread-outside : (v : Valuation) → Outside (flatMap (b .copies) (b .members)) v (spread v)
+  spread-outside : (v : Valuation) → DiffersAtMostAt (flatMap (b .copies) (b .members)) v (spread v)
   unfolding spread
   spread-outside v y n = sym (pick-no _ _ _ n)
 
-  module _ (v w : Valuation) (out : Outside (flatMap (lifted b) (b .members)) (spread v) w) where
+  module _ (v w : Valuation) (out : DiffersAtMostAt (flatMap (lifted b) (b .members)) (spread v) w) where
     -- under the constraint every definition variable then has its block's true value
     spread-untouched : Alike b v w
     spread-untouched z t =
@@ -316,7 +317,7 @@ module _ (b : Blocks) (s : Separate b) where
   unfolding chosen
   chosen-other u z n d = sym (pick-no _ _ _ (isDefinition-no z d) ∙ pick-no _ _ _ (not-in (b .names) z (b .members) n))
 
-  chosen-outside : (u : Valuation) → Outside (flatMap (lifted b) (b .members)) u (chosen u)
+  chosen-outside : (u : Valuation) → DiffersAtMostAt (flatMap (lifted b) (b .members)) u (chosen u)
   chosen-outside u z h = chosen-other u z
       (λ j m n. clash (mem-flatMap (lifted b) z j (b .members) m (mem-left z (b .names j) (b .definition j ∷ []) n)) h)
       (λ j m e. clash (mem-flatMap (lifted b) z j (b .members) m (mem-right z (b .names j) (b .definition j ∷ []) (rw e (mem-head (b .definition j) [])))) h)
@@ -352,7 +353,7 @@ module _ (b : Blocks) (s : Separate b) where
     inside : Valuation → Bool
     inside = quant (dual k) (flatMap (lifted b) (b .members)) (λ w. joined k (β w) (constraint b w))
 
-    spread-joined : (v w : Valuation) → Outside (flatMap (lifted b) (b .members)) (spread v) w → β (settled b v) ≡ decides k → Is (constraint b w) → joined k (β w) (constraint b w) ≡ decides k
+    spread-joined : (v w : Valuation) → DiffersAtMostAt (flatMap (lifted b) (b .members)) (spread v) w → β (settled b v) ≡ decides k → Is (constraint b w) → joined k (β w) (constraint b w) ≡ decides k
     spread-joined v w out e (is-true c) =
         joined-true k (β w) _ c ∙ matrix-settled β blind v w (spread-untouched v w out) (spread-definitions v w out c) ∙ e
     spread-joined v w out e (is-false c) = joined-false k (β w) _ c

@@ -17,7 +17,8 @@ use Rattle.formula.specs.Node.{Quantifier, Node, constant, variable, negation, 
 use Rattle.formula.specs.Tree.{Proper, count}
 use Rattle.formula.specs.Valuation.{Valuation, quant}
 use Rattle.formula.specs.Truth.{operatorValue, nodeValue, value, truth}
-use Rattle.formula.proofs.Quantify.{Outside, quant-two}
+use Rattle.formula.specs.Meaning.{DiffersAtMostAt}
+use Rattle.formula.proofs.Quantify.{quant-two}
 use Rattle.prenex_form.specs.Scope.{binder, inner, level}
 use Rattle.prenex_form.specs.Names.{highestNumber, firstName, newNames, newName}
 use Rattle.prenex_form.proofs.Cut.{cutNode, cut, valueAt}
@@ -70,7 +71,7 @@ module _ (t : Table) (proper : Proper t) where
 
     related-body : isBlock (t .node i) ≡ true → (v w v' w' : Valuation) → Related t i v w
         → ((k : ℕ) → k < length (bound (t .node i)) → v' (getD (bound (t .node i)) k 0) ≡ w' (getD (newNames t i) k 0))
-        → Outside (bound (t .node i)) v' v → Outside (newNames t i) w' w → Related t a v' w'
+        → DiffersAtMostAt (bound (t .node i)) v' v → DiffersAtMostAt (newNames t i) w' w → Related t a v' w'
     unfolding count
     related-body b v w v' w' r same ov ow x l = go (look (mem x (bound (t .node i))))
       where

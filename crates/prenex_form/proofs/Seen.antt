@@ -14,7 +14,8 @@ use Rattle.formula.specs.Node.{Node, constant, variable, negation, operator, bl
 use Rattle.formula.specs.Tree.{Tree}
 use Rattle.formula.specs.Valuation.{Valuation, quant}
 use Rattle.formula.specs.Truth.{operatorValue, nodeValue}
-use Rattle.formula.proofs.Quantify.{Inside, Outside, quant-same}
+use Rattle.formula.specs.Meaning.{DiffersAtMostAt}
+use Rattle.formula.proofs.Quantify.{Inside, quant-same}
 use Rattle.formula.proofs.Unfolding.{Lower, value-node}
 use Rattle.prenex_form.specs.Scope.{parent, path, above, binder, inner, level}
 use Rattle.prenex_form.specs.Names.{highestNumber, newName, newNames, copies, definitionVariable}
@@ -117,7 +118,7 @@ module _ (t : Table) (tree : Tree t) where
     along i h = along-from (suc i) i (omega arith) h
 
 -- What valuations that differ only below a quantifier keep.
-through : (xs : List ℕ) (v u v' u' : Valuation) → Inside xs v' u' → Outside xs v' v → Outside xs u' u → (x : ℕ) → v x ≡ u x → v' x ≡ u' x
+through : (xs : List ℕ) (v u v' u' : Valuation) → Inside xs v' u' → DiffersAtMostAt xs v' v → DiffersAtMostAt xs u' u → (x : ℕ) → v x ≡ u x → v' x ≡ u' x
 through xs v u v' u' same ov ou x e = go (look (mem x xs))
   where
     go : Is (mem x xs) → v' x ≡ u' x
