@@ -14,7 +14,7 @@ use Rattle.lists.specs.Choice.{clash}
 use Rattle.lists.specs.Parts.{highest}
 use Rattle.formula.specs.Node.{isBlock}
 use Rattle.formula.specs.declared.NodeWords.{NodeWords}
-use Rattle.formula.specs.Words.{nodeCount, range, nodeAt, tableOf}
+use Rattle.formula.specs.Words.{nodeCount, range, wordsAt, nodeAt, tableOf}
 use Rattle.formula.specs.Tree.{count, boundBelow}
 use Rattle.formula.proofs.Nodes.{block-kind}
 use Rattle.refusals.specs.Verdict.{accepted}
@@ -29,7 +29,7 @@ use Rattle.arrays.proofs.Enclosing.{enclosing-le}
 use Rattle.arrays.proofs.Entries.{boundBelow-next, boundBelow-grows}
 use Rattle.scopes.specs.declared.Passed.{Passed}
 use Rattle.scopes.specs.Passes.{Cleared, LevelsFrom, MembersFrom, ChainedFrom}
-use Rattle.scopes.proofs.Nodes.{accepted-tree, nodes-few, ReadAt, variable-read, plain-member, plain-highest, block-highest}
+use Rattle.scopes.proofs.Nodes.{accepted-tree, nodes-few, variable-read, plain-member, plain-highest, block-highest}
 use Rattle.scopes.proofs.Scopes.{level-small, outer-plain, outer-root, inner-rest}
 use Rattle.scopes.proofs.Counting.{from-here, count-read}
 use Rattle.scopes.proofs.Chains.{chains-start, chains-skip, chains-put, chains-end}
@@ -79,9 +79,9 @@ module _ (ws ls : List ℕ) (ok : verdict ws ls ≡ accepted) (i : ℕ) (h : i <
   root-chained fs ns z s = outer-chained fs ns (outer-root (tableOf ws ls) i (rw add-one at z)) s
 
   -- a block's entries lie within the list, and there are no more than entries up to it
-  module _ (w : NodeWords) (r : ReadAt ws i w) (e : isBlock (nodeAt ws ls i) ≡ true) where
+  module _ (w : NodeWords) (r : w ≡ wordsAt ws i) (e : isBlock (nodeAt ws ls i) ≡ true) where
     pub entries-within : w .a + w .b ≤ length ls
-    entries-within = omega (arith, r .1, r .2, accepted-holds ws ls ok .fits i h (block-kind ws ls i e))
+    entries-within = rw r (accepted-holds ws ls ok .fits i h (block-kind ws ls i e))
 
     start-before : boundBelow (tableOf ws ls) (i + 1) ≡ boundBelow (tableOf ws ls) i + w .b
     start-before = rw (add-one, count-read ws ls ok i h w r e) (boundBelow-next (tableOf ws ls) i)
@@ -109,7 +109,7 @@ module _ (ws ls : List ℕ) (ok : verdict ws ls ≡ accepted) (i : ℕ) (h : i <
     unfolding tableOf
     highest-with x e = omega (arith, e, s .highest-is, highest-next (λ j. highestAt (nodeAt ws ls j)) i)
 
-    pub plain-passed : (w : NodeWords) → ReadAt ws i w → (w .kind ≡ 2 → ⊥) → isBlock (nodeAt ws ls i) ≡ false
+    pub plain-passed : (w : NodeWords) → w ≡ wordsAt ws i → (w .kind ≡ 2 → ⊥) → isBlock (nodeAt ws ls i) ≡ false
         → ChainedFrom (tableOf ws ls) i lfs lns mfs mns starts p
     unfolding tableOf
     plain-passed w r n e =
@@ -128,7 +128,7 @@ module _ (ws ls : List ℕ) (ok : verdict ws ls ≡ accepted) (i : ℕ) (h : i <
         }
 
     module _ (mfs' mns' : List ℕ) (fl : length mfs' ≡ length mfs) (nl : length mns' ≡ length mns) (members : MembersFrom (tableOf ws ls) i mfs' mns') where
-      pub variable-passed : (w : NodeWords) → ReadAt ws i w → w .kind ≡ 2
+      pub variable-passed : (w : NodeWords) → w ≡ wordsAt ws i → w .kind ≡ 2
           → ChainedFrom (tableOf ws ls) i lfs lns mfs' mns' starts (record { start = p .start; highest = max (p .highest) (w .a) })
       unfolding tableOf isBlock highestAt
       variable-passed w r k =
@@ -148,7 +148,7 @@ module _ (ws ls : List ℕ) (ok : verdict ws ls ≡ accepted) (i : ℕ) (h : i <
           }
 
       pub block-passed : (lfs' lns' : List ℕ) → length lfs' ≡ length lfs → length lns' ≡ length lns → LevelsFrom (tableOf ws ls) i lfs' lns'
-          → (w : NodeWords) → ReadAt ws i w → isBlock (nodeAt ws ls i) ≡ true
+          → (w : NodeWords) → w ≡ wordsAt ws i → isBlock (nodeAt ws ls i) ≡ true
           → (x y : ℕ) → x ≡ maximum (range ls (w .a) (w .b)) → y ≡ max (p .highest) x
           → ChainedFrom (tableOf ws ls) i lfs' lns' mfs' mns' (set starts i (p .start - w .b)) (record { start = p .start - w .b; highest = y })
       unfolding tableOf
@@ -171,10 +171,10 @@ module _ (ws ls : List ℕ) (ok : verdict ws ls ≡ accepted) (i : ℕ) (h : i <
           }
 
     -- the block's entries are among those counted
-    pub start-fits : (w : NodeWords) → ReadAt ws i w → isBlock (nodeAt ws ls i) ≡ true → (w .b ≤ p .start) × (p .start ≤ limit)
+    pub start-fits : (w : NodeWords) → w ≡ wordsAt ws i → isBlock (nodeAt ws ls i) ≡ true → (w .b ≤ p .start) × (p .start ≤ limit)
     start-fits w r e = (omega (arith, s .start-here, start-before w r e), omega (arith, s .start-here, start-small))
 
-    pub start-narrow : (w : NodeWords) → ReadAt ws i w → isBlock (nodeAt ws ls i) ≡ true → Fits w16 (p .start - w .b)
+    pub start-narrow : (w : NodeWords) → w ≡ wordsAt ws i → isBlock (nodeAt ws ls i) ≡ true → Fits w16 (p .start - w .b)
     start-narrow w r e = omega (arith, start-fits w r e .1)
 
 module _ (ws ls : List ℕ) (lfs lns mfs mns starts : List ℕ) where

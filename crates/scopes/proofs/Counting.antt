@@ -1,6 +1,6 @@
 -- What the pass from the root down counts, step by step, and how large the counts can be.
 -- Assumes nothing.
-use mathlib.Core.Path.{_≡_, sym, _∙_, subst}
+use mathlib.Core.Path.{_≡_, sym, _∙_, ap, subst}
 use mathlib.Core.Bool.{Bool, true, false}
 use mathlib.Core.List.{List}
 use Prim.Native.Nat.{ℕ, zero, suc, _+_, _*_, _<_, _≤_, max}
@@ -13,7 +13,7 @@ use Rattle.lists.specs.Parts.{sum}
 use Rattle.lists.proofs.Parts.{highest-le}
 use Rattle.formula.specs.Node.{Table, isBlock, bound}
 use Rattle.formula.specs.declared.NodeWords.{NodeWords}
-use Rattle.formula.specs.Words.{nodeCount, nodeAt, tableOf}
+use Rattle.formula.specs.Words.{nodeCount, wordsAt, nodeAt, tableOf}
 use Rattle.formula.specs.Tree.{Tree, count, boundBelow}
 use Rattle.formula.proofs.Nodes.{block-kind}
 use Rattle.refusals.specs.Verdict.{accepted}
@@ -29,7 +29,7 @@ use Rattle.prenex_form.proofs.Paths.{parent-lt, parent-higher, level-root, leve
 use Rattle.prenex_form.proofs.NameLaws.{none-bound, innerBound-le}
 use Rattle.scopes.specs.declared.Counts.{Counts}
 use Rattle.scopes.specs.Passes.{withRoot, withInner, Small, CountsFrom, BlockCounts}
-use Rattle.scopes.proofs.Nodes.{accepted-tree, nodes-few, ReadAt}
+use Rattle.scopes.proofs.Nodes.{accepted-tree, nodes-few}
 use Rattle.scopes.proofs.Scopes.{outer-plain, outer-root, inner-rest}
 
 -- sums over the nodes below i
@@ -164,16 +164,16 @@ module _ (t : Table) where
 
 -- The same of an accepted table.
 module _ (ws ls : List ℕ) (ok : verdict ws ls ≡ accepted) (i : ℕ) (h : i < nodeCount ws) where
-  pub count-read : (w : NodeWords) → ReadAt ws i w → isBlock (nodeAt ws ls i) ≡ true → w .b ≡ count (tableOf ws ls) i
+  pub count-read : (w : NodeWords) → w ≡ wordsAt ws i → isBlock (nodeAt ws ls i) ≡ true → w .b ≡ count (tableOf ws ls) i
   unfolding countAt
-  count-read w r e = r .2 ∙ sym (count-at ws ls i (λ b. accepted-holds ws ls ok .fits i h b) ∙ pick-yes _ _ _ (block-kind ws ls i e))
+  count-read w r e = ap (λ (v : NodeWords). v .b) r ∙ sym (count-at ws ls i (λ b. accepted-holds ws ls ok .fits i h b) ∙ pick-yes _ _ _ (block-kind ws ls i e))
 
   module _ (c : Counts) (s : CountsFrom (tableOf ws ls) (i + 1) c) where
     pub plain-counted : isBlock (nodeAt ws ls i) ≡ false → CountsFrom (tableOf ws ls) i c
     unfolding tableOf
     plain-counted e = counts-plain (tableOf ws ls) (accepted-tree ws ls ok) i h c (rw add-one at s) e
 
-    module _ (w : NodeWords) (r : ReadAt ws i w) (e : isBlock (nodeAt ws ls i) ≡ true) where
+    module _ (w : NodeWords) (r : w ≡ wordsAt ws i) (e : isBlock (nodeAt ws ls i) ≡ true) where
       pub root-counted : i + 1 ≡ nodeCount ws → CountsFrom (tableOf ws ls) i (withRoot (w .b) c)
       unfolding tableOf
       root-counted z =
