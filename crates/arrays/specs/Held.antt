@@ -87,13 +87,20 @@ firstCopy t = highestNumber t + boundCount t + 1
 pub record Definitions (t : Table) (definitions : List ℕ) : Type 0 where
   pub definition-is : (i : ℕ) → i < t .size → inner t i ≡ true → getD definitions i 0 ≡ definitionVariable t i
 
--- What the writers read of an accepted table, in arrays of 4,096 elements.
+-- What is read of an accepted table, in arrays of 4,096 elements.
 
 -- An accepted table, and where each block's entries start.
 pub record Started (ws ls starts : List ℕ) : Type 0 where
   pub checked : verdict ws ls ≡ accepted
   pub started : Starts (tableOf ws ls) starts
   pub starts-long : length starts ≡ limit
+
+-- The parent blocks and levels of its nodes.
+pub record Placed (ws ls parents levels : List ℕ) : Type 0 where
+  pub parents-length : length parents ≡ limit
+  pub levels-length : length levels ≡ limit
+  pub parents-hold : Parents (tableOf ws ls) parents
+  pub levels-hold : NodeLevels (tableOf ws ls) levels
 
 -- The chains of its levels.
 pub record Chained (ws ls firsts nexts : List ℕ) : Type 0 where

@@ -94,7 +94,11 @@ pub inner-block : (t : Table) (i : ℕ) → inner t i ≡ true → isBlock (t .n
 unfolding inner
 inner-block t i h = and-left (isBlock (t .node i)) _ h
 
-inner-root : (t : Table) (i : ℕ) → suc i ≡ t .size → inner t i ≡ false
+pub not-inner : (t : Table) (i : ℕ) → isBlock (t .node i) ≡ false → inner t i ≡ false
+unfolding inner
+not-inner t i h = rw h
+
+pub inner-root : (t : Table) (i : ℕ) → suc i ≡ t .size → inner t i ≡ false
 unfolding inner
 inner-root t i h = rw (eq-eqb (suc i) (t .size) h) (and-false (isBlock (t .node i)))
 

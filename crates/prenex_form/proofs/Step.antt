@@ -17,7 +17,7 @@ use Rattle.prenex_form.specs.Names.{newName, newNames, copies, definitio
 use Rattle.prenex_form.specs.Levels.{blocksAt, quantifierAt}
 use Rattle.prenex_form.specs.Matrix.{kept, bodyOf}
 use Rattle.prenex_form.proofs.Cut.{valueAt, blockHolds, matrixAt}
-use Rattle.prenex_form.proofs.Paths.{body-named, inner-is, parent-is, level-root, level-step, mem-blocksAt, blocksAt-lt, blocksAt-inner, blocksAt-level, inner-block}
+use Rattle.prenex_form.proofs.Paths.{body-named, inner-is, not-inner, parent-is, level-root, level-step, mem-blocksAt, blocksAt-lt, blocksAt-inner, blocksAt-level, inner-block}
 use Rattle.prenex_form.proofs.NameLaws.{newNames-le, copies-le, definition-above, definition-apart}
 use Rattle.prenex_form.proofs.Seen.{value-definition, value-real, along, name-cases, kept-cases, holds-cong, matrix-cong}
 
@@ -26,10 +26,6 @@ real : (n : Bool) (l c : ℕ) → pick n 1 0 + c ≤ l → (n && leb l c) ≡ fa
 unfolding pick
 real true l c h = lt-leb l c (omega arith)
 real false l c h = refl
-
-not-inner : (t : Table) (i : ℕ) → isBlock (t .node i) ≡ false → inner t i ≡ false
-unfolding inner
-not-inner t i h = rw h
 
 module _ (t : Table) (tree : Tree t) where
   -- an operand's level, from that of the node that names it; an operand that is a block is inner

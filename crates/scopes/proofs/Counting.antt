@@ -1,6 +1,6 @@
 -- What the pass from the root down counts, step by step, and how large the counts can be.
 -- Assumes nothing.
-use mathlib.Core.Path.{_≡_, sym, _∙_, ap, subst}
+use mathlib.Core.Path.{_≡_, _∙_}
 use mathlib.Core.Bool.{Bool, true, false}
 use mathlib.Core.List.{List}
 use Prim.Native.Nat.{ℕ, zero, suc, _+_, _*_, _<_, _≤_, max}
@@ -11,26 +11,24 @@ use borrow.Author.Tests.{eqb-true, eqb-false}
 use Rattle.lists.specs.Choice.{pick, pick-yes, pick-no, Is, is-true, is-false, look}
 use Rattle.lists.specs.Parts.{sum}
 use Rattle.lists.proofs.Parts.{highest-le}
-use Rattle.formula.specs.Node.{Table, isBlock, bound}
+use Rattle.formula.specs.Node.{Table, isBlock}
 use Rattle.formula.specs.declared.NodeWords.{NodeWords}
 use Rattle.formula.specs.Words.{nodeCount, wordsAt, nodeAt, tableOf}
 use Rattle.formula.specs.Tree.{Tree, count, boundBelow}
-use Rattle.formula.proofs.Nodes.{block-kind}
 use Rattle.refusals.specs.Verdict.{accepted}
 use Rattle.acceptance.specs.Limits.{limit}
-use Rattle.acceptance.specs.Verdict.{countAt, verdict}
-use Rattle.acceptance.proofs.Accepted.{accepted-holds, count-at}
+use Rattle.acceptance.specs.Verdict.{verdict}
+use Rattle.acceptance.proofs.Accepted.{accepted-holds}
 use Rattle.prenex_form.specs.Scope.{parent, inner, level}
 use Rattle.prenex_form.specs.Levels.{levels}
 use Rattle.prenex_form.specs.Names.{boundCount, innerBoundBelow, innerBelow}
 use Rattle.prenex_form.specs.Prefix.{blockCount}
 use Rattle.prenex_form.specs.Sizes.{addedBy}
-use Rattle.prenex_form.proofs.Paths.{parent-lt, parent-higher, level-root, level-step, level-le-levels}
+use Rattle.prenex_form.proofs.Paths.{inner-is, not-inner, inner-root, parent-lt, parent-higher, level-root, level-step, level-le-levels}
 use Rattle.prenex_form.proofs.NameLaws.{none-bound, innerBound-le}
+use Rattle.arrays.proofs.Nodes.{from-here, accepted-tree, nodes-few, count-read}
 use Rattle.scopes.specs.declared.Counts.{Counts}
 use Rattle.scopes.specs.Passes.{withRoot, withInner, Small, CountsFrom, BlockCounts}
-use Rattle.scopes.proofs.Nodes.{accepted-tree, nodes-few}
-use Rattle.scopes.proofs.Scopes.{outer-plain, outer-root, inner-rest}
 
 -- sums over the nodes below i
 ones-le : (p : ℕ → Bool) (n : ℕ) → sum (λ j. pick (p j) 1 0) n ≤ n
@@ -98,15 +96,6 @@ module _ (t : Table) where
         deepest-is = omega (arith, s' .deepest-le);
       }
 
-  -- what holds of node i and of those above it
-  pub from-here : (P : ℕ → Type 0) (i : ℕ) → P i → ((x : ℕ) → suc i ≤ x → x < t .size → P x) → (x : ℕ) → i ≤ x → x < t .size → P x
-  from-here P i p q x k l = go (look (eqb x i))
-    where
-      go : Is (eqb x i) → P x
-      go (is-true e) = subst P (sym (eqb-true x i e)) p
-      go (is-false e) =
-          let d = eqb-false x i e in q x (omega arith) l
-
   -- node i, which is no block, the root block or an inner block
   module _ (tree : Tree t) (i : ℕ) (h : i < t .size) (c : Counts) (s : CountsFrom t (suc i) c) where
     -- a node that is no inner block is no deeper than its parent
@@ -124,7 +113,7 @@ module _ (t : Table) where
     counts-plain : isBlock (t .node i) ≡ false → CountsFrom t i c
     unfolding sum boundBelow innerBelow innerBoundBelow addedBy count
     counts-plain e =
-        let n = outer-plain t i e in
+        let n = not-inner t i e in
         record {
           blocks-is = omega (arith, s .blocks-is, pick-no {A = ℕ} (isBlock (t .node i)) 1 0 e);
           bound-is = omega (arith, s .bound-is, none-bound (t .node i) e);
@@ -132,13 +121,13 @@ module _ (t : Table) where
           inner-bound-is = omega (arith, s .inner-bound-is, pick-no {A = ℕ} (inner t i) (count t i) 0 n);
           added-is = omega (arith, s .added-is, pick-no {A = ℕ} (inner t i) (pick (eqb (count t i) 0) 3 (4 * count t i + 5)) 0 n);
           deepest-le = s .deepest-le;
-          deepest-from = from-here (λ x. level t x ≤ c .deepest) i (outer-level n) (s .deepest-from);
+          deepest-from = from-here (λ x. level t x ≤ c .deepest) i (t .size) (outer-level n) (s .deepest-from);
         }
 
     counts-root : isBlock (t .node i) ≡ true → suc i ≡ t .size → CountsFrom t i (withRoot (count t i) c)
     unfolding sum boundBelow innerBelow innerBoundBelow addedBy
     counts-root e r =
-        let n = outer-root t i r in
+        let n = inner-root t i r in
         record {
           blocks-is = omega (arith, s .blocks-is, pick-yes {A = ℕ} (isBlock (t .node i)) 1 0 e);
           bound-is = omega (arith, s .bound-is);
@@ -146,7 +135,7 @@ module _ (t : Table) where
           inner-bound-is = omega (arith, s .inner-bound-is, pick-no {A = ℕ} (inner t i) (count t i) 0 n);
           added-is = omega (arith, s .added-is, pick-no {A = ℕ} (inner t i) (pick (eqb (count t i) 0) 3 (4 * count t i + 5)) 0 n);
           deepest-le = s .deepest-le;
-          deepest-from = from-here (λ x. level t x ≤ c .deepest) i (outer-level n) (s .deepest-from);
+          deepest-from = from-here (λ x. level t x ≤ c .deepest) i (t .size) (outer-level n) (s .deepest-from);
         }
 
     counts-inner : isBlock (t .node i) ≡ true → inner t i ≡ true → CountsFrom t i (withInner (count t i) (level t i) c)
@@ -159,15 +148,11 @@ module _ (t : Table) where
           inner-bound-is = omega (arith, s .inner-bound-is, pick-yes {A = ℕ} (inner t i) (count t i) 0 n);
           added-is = omega (arith, s .added-is, pick-yes {A = ℕ} (inner t i) (pick (eqb (count t i) 0) 3 (4 * count t i + 5)) 0 n);
           deepest-le = omega (arith, s .deepest-le, level-le-levels t tree i h);
-          deepest-from = from-here (λ x. level t x ≤ max (c .deepest) (level t i)) i (omega arith) (λ x k l. omega (arith, s .deepest-from x k l));
+          deepest-from = from-here (λ x. level t x ≤ max (c .deepest) (level t i)) i (t .size) (omega arith) (λ x k l. omega (arith, s .deepest-from x k l));
         }
 
 -- The same of an accepted table.
 module _ (ws ls : List ℕ) (ok : verdict ws ls ≡ accepted) (i : ℕ) (h : i < nodeCount ws) where
-  pub count-read : (w : NodeWords) → w ≡ wordsAt ws i → isBlock (nodeAt ws ls i) ≡ true → w .b ≡ count (tableOf ws ls) i
-  unfolding countAt
-  count-read w r e = ap (λ (v : NodeWords). v .b) r ∙ sym (count-at ws ls i (λ b. accepted-holds ws ls ok .fits i h b) ∙ pick-yes _ _ _ (block-kind ws ls i e))
-
   module _ (c : Counts) (s : CountsFrom (tableOf ws ls) (i + 1) c) where
     pub plain-counted : isBlock (nodeAt ws ls i) ≡ false → CountsFrom (tableOf ws ls) i c
     unfolding tableOf
@@ -177,14 +162,14 @@ module _ (ws ls : List ℕ) (ok : verdict ws ls ≡ accepted) (i : ℕ) (h : i <
       pub root-counted : i + 1 ≡ nodeCount ws → CountsFrom (tableOf ws ls) i (withRoot (w .b) c)
       unfolding tableOf
       root-counted z =
-          rw (count-read w r e)
+          rw (count-read ws ls ok i h w r e)
           (counts-root (tableOf ws ls) (accepted-tree ws ls ok) i h c (rw add-one at s) e (rw add-one at z))
 
       pub inner-counted : (v : ℕ) → (i + 1 ≡ nodeCount ws → ⊥) → v ≡ level (tableOf ws ls) i → CountsFrom (tableOf ws ls) i (withInner (w .b) v c)
       unfolding tableOf
       inner-counted v n q =
-          rw (q, count-read w r e)
-          (counts-inner (tableOf ws ls) (accepted-tree ws ls ok) i h c (rw add-one at s) e (inner-rest (tableOf ws ls) i e (rw add-one at n)))
+          rw (q, count-read ws ls ok i h w r e)
+          (counts-inner (tableOf ws ls) (accepted-tree ws ls ok) i h c (rw add-one at s) e (inner-is (tableOf ws ls) i (omega arith) ∙ e))
 
   pub counted-small : (c : Counts) → CountsFrom (tableOf ws ls) i c → Small c
   unfolding tableOf

@@ -1,7 +1,7 @@
 -- The pass that fills parent blocks and levels, step by step.
 -- Assumes nothing.
 use mathlib.Core.Path.{_≡_, sym, _∙_, ap, subst}
-use mathlib.Core.Bool.{true, false, and-false}
+use mathlib.Core.Bool.{true, false}
 use mathlib.Core.List.{List, [], _∷_}
 use Prim.Native.Nat.{ℕ, suc, _+_, _-_, _<_, _≤_}
 use native.Mathlib.Numerals.{add-one}
@@ -9,12 +9,11 @@ use native.Mathlib.Omega.{arith}
 use lib.Dec.{eqb}
 use lib.ListN.{length, getD, set}
 use lib.Seq.{getD-set-same}
-use borrow.Author.Tests.{eqb-true, eqb-false, eq-eqb, ne-eqb}
+use borrow.Author.Tests.{eqb-true, eqb-false, ne-eqb}
 use Rattle.lists.specs.Choice.{pick, pick-yes, pick-no, Is, is-true, is-false, look, absent}
 use Rattle.lists.specs.Members.{mem}
 use Rattle.lists.proofs.Stores.{getD-set}
 use Rattle.lists.proofs.Search.{lowest-holds}
-use Rattle.lists.proofs.Parts.{highest-le}
 use Rattle.formula.specs.Node.{Table, operands, isBlock}
 use Rattle.formula.specs.Words.{nodeCount, nodeAt, tableOf}
 use Rattle.formula.specs.Tree.{Tree}
@@ -22,26 +21,12 @@ use Rattle.refusals.specs.Verdict.{accepted}
 use Rattle.acceptance.specs.Limits.{limit}
 use Rattle.acceptance.specs.Verdict.{verdict}
 use Rattle.prenex_form.specs.Scope.{parent, inner, level}
-use Rattle.prenex_form.specs.Levels.{levels}
-use Rattle.prenex_form.proofs.Paths.{parent-is, parent-lt, parent-higher, root-parent, level-root, level-step, level-below}
+use Rattle.prenex_form.proofs.Paths.{inner-is, not-inner, inner-root, parent-is, parent-lt, parent-higher, root-parent, level-root, level-step}
 use Rattle.arrays.specs.Held.{enclosing, Parents, NodeLevels}
+use Rattle.arrays.proofs.Nodes.{accepted-tree, nodes-few, level-small}
 use Rattle.arrays.proofs.Enclosing.{enclosing-root, enclosing-step}
 use Rattle.scopes.specs.Passes.{Stored, ScopesFrom}
-use Rattle.scopes.proofs.Nodes.{accepted-tree, nodes-few, nodes-some}
-
--- which nodes are inner blocks
-module _ (t : Table) (i : ℕ) where
-  pub outer-plain : isBlock (t .node i) ≡ false → inner t i ≡ false
-  unfolding inner
-  outer-plain e = rw e
-
-  pub outer-root : suc i ≡ t .size → inner t i ≡ false
-  unfolding inner
-  outer-root h = rw (eq-eqb _ _ h) (and-false (isBlock (t .node i)))
-
-  pub inner-rest : isBlock (t .node i) ≡ true → (suc i ≡ t .size → ⊥) → inner t i ≡ true
-  unfolding inner
-  inner-rest e n = rw (e, ne-eqb _ _ n)
+use Rattle.scopes.proofs.Nodes.{nodes-some}
 
 -- the same list, at an index that holds the value already
 same-stored : (l : List ℕ) (i v : ℕ) → getD l i 0 ≡ v → (x : ℕ) → getD l x 0 ≡ pick (eqb x i) v (getD l x 0)
@@ -88,7 +73,7 @@ module _ (t : Table) (tree : Tree t) where
         level-is = λ x k m. absurd (omega arith);
         inherited-is = λ x q k m.
             let e : r ≡ x = omega (arith, only-root x k m) in
-            subst (λ y. pick (inner t y) 1 0 + getD ls y 0 ≡ level t y) e (omega (arith, level-root t tree r h, pick-no {A = ℕ} (inner t r) 1 0 (outer-root t r h)));
+            subst (λ y. pick (inner t y) 1 0 + getD ls y 0 ≡ level t y) e (omega (arith, level-root t tree r h, pick-no {A = ℕ} (inner t r) 1 0 (inner-root t r h)));
       }
 
   -- node i's level, given that its parent's is known
@@ -145,13 +130,9 @@ module _ (t : Table) (tree : Tree t) where
 
 -- The same of an accepted table.
 module _ (ws ls : List ℕ) (ok : verdict ws ls ≡ accepted) (i : ℕ) (h : i < nodeCount ws) where
-  pub level-small : level (tableOf ws ls) i < limit
-  unfolding tableOf
-  level-small = omega (arith, level-below (tableOf ws ls) (accepted-tree ws ls ok) i h, nodes-few ws ls ok)
-
   pub inherited-small : (ps vs : List ℕ) → ScopesFrom (tableOf ws ls) (i + 1) ps vs → getD vs i 0 < limit
   unfolding tableOf
-  inherited-small ps vs s = omega (arith, own-level-is (tableOf ws ls) (accepted-tree ws ls ok) i ps vs h s, level-small)
+  inherited-small ps vs s = omega (arith, own-level-is (tableOf ws ls) (accepted-tree ws ls ok) i ps vs h s, level-small ws ls ok i h)
 
   -- what node i hands down, by its kind
   module _ (ps vs : List ℕ) (s : ScopesFrom (tableOf ws ls) (i + 1) ps vs) where
@@ -165,21 +146,21 @@ module _ (ws ls : List ℕ) (ok : verdict ws ls ≡ accepted) (i : ℕ) (h : i <
     pub inner-own : isBlock (nodeAt ws ls i) ≡ true → (i + 1 ≡ nodeCount ws → ⊥) → getD vs i 0 + 1 ≡ level (tableOf ws ls) i
     unfolding tableOf
     inner-own e n =
-        let y = inner-rest (tableOf ws ls) i e (rw add-one at n) in
+        let y : inner (tableOf ws ls) i ≡ true = inner-is (tableOf ws ls) i (omega arith) ∙ e in
         omega (arith, own, pick-yes {A = ℕ} (inner (tableOf ws ls) i) 1 0 y)
 
     pub plain-filled : (xs ps' vs' : List ℕ) → operands (nodeAt ws ls i) ≡ xs → isBlock (nodeAt ws ls i) ≡ false
         → Stored xs (getD ps i 0) ps ps' → Stored xs (getD vs i 0) vs vs' → ScopesFrom (tableOf ws ls) i ps' vs'
     unfolding tableOf
     plain-filled xs ps' vs' q e sp sv =
-        let l = outer-own (outer-plain (tableOf ws ls) i e) in
+        let l = outer-own (not-inner (tableOf ws ls) i e) in
         scopes-step (tableOf ws ls) (accepted-tree ws ls ok) i (getD ps i 0) ps vs vs ps' vs' h s (sym (pick-no _ _ _ e)) (same-stored vs i _ l) (rw q sp) (rw (q, ← l) sv)
 
     pub root-filled : (x : ℕ) (ps' vs' : List ℕ) → operands (nodeAt ws ls i) ≡ x ∷ [] → isBlock (nodeAt ws ls i) ≡ true → i + 1 ≡ nodeCount ws
         → Stored (x ∷ []) i ps ps' → Stored (x ∷ []) (getD vs i 0) vs vs' → ScopesFrom (tableOf ws ls) i ps' vs'
     unfolding tableOf
     root-filled x ps' vs' q e z sp sv =
-        let l = outer-own (outer-root (tableOf ws ls) i (rw add-one at z)) in
+        let l = outer-own (inner-root (tableOf ws ls) i (rw add-one at z)) in
         scopes-step (tableOf ws ls) (accepted-tree ws ls ok) i i ps vs vs ps' vs' h s (sym (pick-yes _ _ _ e)) (same-stored vs i _ l) (rw q sp) (rw (q, ← l) sv)
 
     pub inner-filled : (x : ℕ) (ps' vs' : List ℕ) → operands (nodeAt ws ls i) ≡ x ∷ [] → isBlock (nodeAt ws ls i) ≡ true
@@ -192,10 +173,6 @@ module _ (ws ls : List ℕ) (ok : verdict ws ls ≡ accepted) (i : ℕ) (h : i <
         (λ x. getD-set vs i (getD vs i 0 + 1) 0 (omega (arith, nodes-few ws ls ok)) x ∙ ap (λ k. pick (eqb x i) k (getD vs x 0)) l) (rw q sp) (rw (q, ← l) sv)
 
 module _ (ws ls : List ℕ) (ok : verdict ws ls ≡ accepted) where
-  pub levels-small : levels (tableOf ws ls) ≤ limit
-  unfolding levels tableOf
-  levels-small = highest-le (level (tableOf ws ls)) (nodeCount ws) limit (λ i h. omega (arith, level-small ws ls ok i h))
-
   -- the root has no parent block and is at level 0
   pub scopes-begun : (ps vs : List ℕ) → length ps ≡ limit → length vs ≡ limit
       → ScopesFrom (tableOf ws ls) (nodeCount ws) (set ps (nodeCount ws - 1) (nodeCount ws)) (set vs (nodeCount ws - 1) 0)

@@ -1,27 +1,23 @@
--- What the passes over a table t hold after each step, and what counting gives.
+-- What the pass from the root down over a table t holds after each step, and what counting gives.
 -- Assumes nothing.
-use mathlib.Core.Bool.{Bool, true, _&&_}
 use mathlib.Core.List.{List}
 use mathlib.Core.Path.{_≡_}
-use Prim.Native.Nat.{ℕ, suc, _+_, _*_, _<_, _≤_, max}
+use Prim.Native.Nat.{ℕ, _+_, _*_, _<_, _≤_, max}
 use lib.Dec.{eqb}
-use lib.ListN.{length, getD}
+use lib.ListN.{getD}
 use Rattle.lists.specs.Choice.{pick}
 use Rattle.lists.specs.Members.{mem}
-use Rattle.lists.specs.Parts.{sum, highest}
+use Rattle.lists.specs.Parts.{sum}
 use Rattle.formula.specs.Node.{Table, isBlock}
-use Rattle.formula.specs.Words.{tableOf}
 use Rattle.formula.specs.Tree.{boundBelow}
 use Rattle.acceptance.specs.Limits.{limit}
 use Rattle.prenex_form.specs.Scope.{parent, inner, level}
 use Rattle.prenex_form.specs.Levels.{levels}
-use Rattle.prenex_form.specs.Names.{highestAt, highestNumber, boundCount, innerBoundBelow, innerBelow}
+use Rattle.prenex_form.specs.Names.{boundCount, innerBoundBelow, innerBelow}
 use Rattle.prenex_form.specs.Prefix.{blockCount}
 use Rattle.prenex_form.specs.Sizes.{addedBy}
-use Rattle.arrays.specs.Held.{enclosing, isMember, Parents, NodeLevels}
-use Rattle.arrays.specs.Link.{link}
+use Rattle.arrays.specs.Held.{enclosing}
 use Rattle.scopes.specs.declared.Counts.{Counts}
-use Rattle.scopes.specs.declared.Passed.{Passed}
 
 -- After a value was stored at each of the indices xs, the other elements are as before.
 pub record Stored (xs : List ℕ) (value : ℕ) (before after : List ℕ) : Type 0 where
@@ -33,57 +29,6 @@ pub record ScopesFrom (t : Table) (i : ℕ) (parents levels : List ℕ) : Type 0
   pub parent-is : (x : ℕ) → x < t .size → i ≤ parent t x → getD parents x 0 ≡ enclosing t x
   pub level-is : (x : ℕ) → i ≤ x → x < t .size → getD levels x 0 ≡ level t x
   pub inherited-is : (x : ℕ) → x < i → x < t .size → i ≤ parent t x → pick (inner t x) 1 0 + getD levels x 0 ≡ level t x
-
--- The arrays that the chaining pass reads: each node's parent block and level.
-pub record Placed (ws ls parents levels : List ℕ) : Type 0 where
-  pub parents-length : length parents ≡ limit
-  pub levels-length : length levels ≡ limit
-  pub parents-hold : Parents (tableOf ws ls) parents
-  pub levels-hold : NodeLevels (tableOf ws ls) levels
-
--- The arrays that it fills. Those of the level chains and of the starts: their lengths, and no block chained yet.
-pub record Blank (firsts nexts starts : List ℕ) : Type 0 where
-  pub firsts-length : length firsts ≡ limit
-  pub nexts-length : length nexts ≡ limit
-  pub starts-length : length starts ≡ limit
-  pub firsts-clear : (l : ℕ) → getD firsts l 0 ≡ 0
-
--- Those, and the arrays of the member chains. There is one scope more than nodes, that outside all blocks.
-pub record Cleared (lfs lns mfs mns starts : List ℕ) : Type 0 where
-  pub levels-blank : Blank lfs lns starts
-  pub member-firsts-length : length mfs ≡ suc limit
-  pub member-nexts-length : length mns ≡ limit
-  pub member-firsts-clear : (k : ℕ) → getD mfs k 0 ≡ 0
-
--- The numbers from i up are chained by their keys.
-pub record LinkedFrom (passes : ℕ → Bool) (key : ℕ → ℕ) (n i : ℕ) (firsts nexts : List ℕ) : Type 0 where
-  pub first-is : (k : ℕ) → getD firsts k 0 ≡ link (λ j. passes j && eqb (key j) k) i n
-  pub next-is : (j : ℕ) → i ≤ j → j < n → passes j ≡ true → getD nexts j 0 ≡ link (λ m. passes m && eqb (key m) (key j)) (suc j) n
-
--- The inner blocks from node i up are chained by level, and the variable nodes and blocks by parent block.
-abbrev pub LevelsFrom : Table → ℕ → List ℕ → List ℕ → Type 0
-LevelsFrom t i firsts nexts = LinkedFrom (inner t) (level t) (t .size) i firsts nexts
-
-abbrev pub MembersFrom : Table → ℕ → List ℕ → List ℕ → Type 0
-MembersFrom t i firsts nexts = LinkedFrom (λ j. isMember (t .node j)) (enclosing t) (t .size) i firsts nexts
-
--- What it has found, with a variable node's number x.
-abbrev pub withNumber : ℕ → Passed → Passed
-withNumber x p = record { start = p .start; highest = max (p .highest) x }
-
--- The chaining pass has done the nodes from i up.
-pub record ChainedFrom (t : Table) (i : ℕ) (lfs lns mfs mns starts : List ℕ) (p : Passed) : Type 0 where
-  pub level-firsts-length : length lfs ≡ limit
-  pub level-nexts-length : length lns ≡ limit
-  pub member-firsts-length : length mfs ≡ suc limit
-  pub member-nexts-length : length mns ≡ limit
-  pub starts-length : length starts ≡ limit
-  pub levels-linked : LevelsFrom t i lfs lns
-  pub members-linked : MembersFrom t i mfs mns
-  pub start-is : (j : ℕ) → i ≤ j → j < t .size → isBlock (t .node j) ≡ true → getD starts j 0 ≡ boundBelow t j
-  pub start-here : p .start ≡ boundBelow t i
-  -- with the nodes below i it is the whole table's
-  pub highest-is : max (highest (λ j. highestAt (t .node j)) i) (p .highest) ≡ highestNumber t
 
 -- The counts c with a root block, and with an inner block of level v, that binds q variables.
 abbrev pub withRoot : ℕ → Counts → Counts

@@ -1,34 +1,43 @@
 -- `scopes::count_inner` meets its contract.
 -- Assumes nothing.
+use mathlib.Core.Path.{_≡_}
+use Prim.Native.Nat.{max}
+use native.Mathlib.Omega.{arith}
 use borrow.Author.Needs.{needs}
 use Rattle.scopes.proofs.count_inner.Statement.{statement}
 use Rattle.scopes.proofs.count_inner.Tie as tie
 
-add-t4 : tie.Need-add-t4
-add-t4 c = search needs
+add-c : tie.Need-add-c
+add-c c = search needs
 
-add-t5 : tie.Need-add-t5
-add-t5 c = search needs
+add-c-2 : tie.Need-add-c-2
+add-c-2 c = search needs
 
-add-t6 : tie.Need-add-t6
-add-t6 c = search needs
+add-c-3 : tie.Need-add-c-3
+add-c-3 c = search needs
 
-add-t7 : tie.Need-add-t7
-add-t7 c = search needs
+add-c-4 : tie.Need-add-c-4
+add-c-4 c = search needs
 
 nodes-added-requires : tie.Need-nodes-added-requires
 nodes-added-requires c κs = search needs
 
-add-t9 : tie.Need-add-t9
-add-t9 c = search needs
-
-larger-requires : tie.Need-larger-requires
-larger-requires c κs = search needs
+add-c-5 : tie.Need-add-c-5
+add-c-5 c = search needs
 
 returns : tie.Need-returns
-returns c = rw (c .before .before .nodes-added .ensures, c .larger .ensures)
+returns c =
+    let s = c .before .before .before .before .before .before .before .before in
+    let e : max (s .args .counts .deepest) (s .args .level) ≡ s .args .level = omega arith in
+    rw (c .before .before .before .nodes-added .ensures, e)
+
+returns-2 : tie.Need-returns-2
+returns-2 c =
+    let s = c .before .before .before .before .before .before .before .before in
+    let e : max (s .args .counts .deepest) (s .args .level) ≡ s .args .counts .deepest = omega arith in
+    rw (c .before .before .before .nodes-added .ensures, e)
 
 pub count-inner-spec : {M : Type 1} → statement M
 count-inner-spec =
     tie.close
-    (tie.spec add-t4 add-t5 add-t6 add-t7 nodes-added-requires add-t9 larger-requires returns)
+    (tie.spec add-c add-c-2 add-c-3 add-c-4 nodes-added-requires add-c-5 returns returns-2)

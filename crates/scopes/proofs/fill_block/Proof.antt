@@ -5,7 +5,8 @@ use native.Mathlib.Omega.{arith}
 use lib.ListN.{length-set}
 use borrow.Author.Needs.{needs}
 use Rattle.lists.proofs.Members.{mem-head}
-use Rattle.scopes.proofs.Nodes.{nodes-few, operand-lt, body-read}
+use Rattle.arrays.proofs.Nodes.{nodes-few}
+use Rattle.scopes.proofs.Nodes.{operand-lt, body-read}
 use Rattle.scopes.proofs.Scopes.{inherited-small, inner-own, root-filled, inner-filled}
 use Rattle.scopes.proofs.Counting.{root-counted, inner-counted, counted-small}
 use Rattle.scopes.proofs.fill_block.Statement.{statement}

@@ -5,7 +5,8 @@ use native.Mathlib.Omega.{arith}
 use borrow.Author.Needs.{needs}
 use Rattle.lists.proofs.Members.{mem-head, mem-tail}
 use Rattle.formula.specs.Words.{isBlockKind}
-use Rattle.scopes.proofs.Nodes.{block-read, nodes-few, operand-lt, plain-read, negation-read, operator-read, none-read}
+use Rattle.arrays.proofs.Nodes.{block-read, nodes-few}
+use Rattle.scopes.proofs.Nodes.{operand-lt, plain-read, negation-read, operator-read, none-read}
 use Rattle.scopes.proofs.Stores.{stored-none, stored-both}
 use Rattle.scopes.proofs.Scopes.{plain-filled}
 use Rattle.scopes.proofs.Counting.{plain-counted}

@@ -8,7 +8,8 @@ use lib.ListN.{length, length-set}
 use Rattle.formula.specs.Words.{nodeCount, tableOf}
 use Rattle.acceptance.specs.Limits.{limit}
 use Rattle.scopes.specs.Passes.{ScopesFrom, CountsFrom}
-use Rattle.scopes.proofs.Nodes.{accepted-tree, nodes-few, nodes-some}
+use Rattle.arrays.proofs.Nodes.{accepted-tree, nodes-few}
+use Rattle.scopes.proofs.Nodes.{nodes-some}
 use Rattle.scopes.proofs.Scopes.{scopes-begun, scopes-end}
 use Rattle.scopes.proofs.Counting.{counts-none, counts-end}
 use Rattle.scopes.proofs.fill_scopes.Statement.{statement}

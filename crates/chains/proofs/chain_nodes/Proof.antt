@@ -1,4 +1,4 @@
--- `scopes::chain_nodes` meets its contract. The loop's invariant: the pass has done the nodes from i up. The measure is i.
+-- `chains::chain_nodes` meets its contract. The loop's invariant: the pass has done the nodes from i up. The measure is i.
 -- Assumes nothing.
 use mathlib.Core.Path.{_≡_, sym, _∙_, subst}
 use Prim.Native.Nat.{_+_, _-_, _≤_}
@@ -6,10 +6,10 @@ use native.Mathlib.Omega.{arith}
 use Rattle.formula.specs.Words.{nodeCount, tableOf}
 use Rattle.acceptance.proofs.Accepted.{accepted-holds}
 use Rattle.prenex_form.proofs.Limits.{highest-limit}
-use Rattle.scopes.specs.Passes.{ChainedFrom}
-use Rattle.scopes.proofs.Chaining.{passed-none, levels-done, members-done, starts-done, highest-done}
-use Rattle.scopes.proofs.chain_nodes.Statement.{statement}
-use Rattle.scopes.proofs.chain_nodes.Tie as tie
+use Rattle.chains.specs.Chaining.{ChainedFrom}
+use Rattle.chains.proofs.Chaining.{passed-none, levels-done, members-done, starts-done, highest-done}
+use Rattle.chains.proofs.chain_nodes.Statement.{statement}
+use Rattle.chains.proofs.chain_nodes.Tie as tie
 
 abbrev Inv-loop : tie.InvT-loop
 Inv-loop words list parents levels level-firsts₀ level-nexts₀ member-firsts₀ member-nexts₀ starts₀ bound i₀ passed₀ level-firsts level-nexts member-firsts member-nexts starts i passed =
@@ -41,10 +41,10 @@ loop-again : tie.Need-loop-again Inv-loop μ-loop
 loop-again c = (omega arith, c .before .before .before .before .before .before .before .before .before .before .chain-node .ensures)
 
 same-length : tie.Need-same-length Inv-loop μ-loop
-same-length c = c .before .loop .inv .1 .level-firsts-length ∙ sym (c .before .before .before .before .before .before .before .before .before .before .before .pre .1 .1 .1 .levels-blank .firsts-length)
+same-length c = c .before .loop .inv .1 .level-firsts-length ∙ sym (c .before .before .before .before .before .before .before .before .before .before .before .pre .1 .1 .1 .level-firsts-length)
 
 same-length-2 : tie.Need-same-length-2 Inv-loop μ-loop
-same-length-2 c = c .before .loop .inv .1 .level-nexts-length ∙ sym (c .before .before .before .before .before .before .before .before .before .before .before .pre .1 .1 .1 .levels-blank .nexts-length)
+same-length-2 c = c .before .loop .inv .1 .level-nexts-length ∙ sym (c .before .before .before .before .before .before .before .before .before .before .before .pre .1 .1 .1 .level-nexts-length)
 
 same-length-3 : tie.Need-same-length-3 Inv-loop μ-loop
 same-length-3 c = c .before .loop .inv .1 .member-firsts-length ∙ sym (c .before .before .before .before .before .before .before .before .before .before .before .pre .1 .1 .1 .member-firsts-length)
@@ -53,7 +53,7 @@ same-length-4 : tie.Need-same-length-4 Inv-loop μ-loop
 same-length-4 c = c .before .loop .inv .1 .member-nexts-length ∙ sym (c .before .before .before .before .before .before .before .before .before .before .before .pre .1 .1 .1 .member-nexts-length)
 
 same-length-5 : tie.Need-same-length-5 Inv-loop μ-loop
-same-length-5 c = c .before .loop .inv .1 .starts-length ∙ sym (c .before .before .before .before .before .before .before .before .before .before .before .pre .1 .1 .1 .levels-blank .starts-length)
+same-length-5 c = c .before .loop .inv .1 .starts-length ∙ sym (c .before .before .before .before .before .before .before .before .before .before .before .pre .1 .1 .1 .starts-length)
 
 returns : tie.Need-returns Inv-loop μ-loop
 returns c =

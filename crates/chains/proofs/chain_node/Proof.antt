@@ -1,4 +1,4 @@
--- `scopes::chain_node` meets its contract. One step of the pass is the law `variable-passed`, `plain-passed` or `block-passed`.
+-- `chains::chain_node` meets its contract. One step of the pass is the law `variable-passed`, `plain-passed` or `block-passed`.
 -- Assumes nothing.
 use mathlib.Core.Path.{_≡_, sym, _∙_}
 use mathlib.Core.Bool.{true}
@@ -8,11 +8,12 @@ use borrow.Author.Needs.{needs}
 use borrow.Author.Tests.{not-true, not-false}
 use Rattle.formula.specs.Node.{isBlock}
 use Rattle.formula.specs.Words.{nodeAt}
-use Rattle.scopes.proofs.Nodes.{block-read, variable-member, index-lt, index-fits}
-use Rattle.scopes.proofs.Chaining.{entries-within, start-fits, start-narrow, variable-passed, plain-passed, block-passed}
-use Rattle.scopes.proofs.chain_node.Statement.{statement}
-use Rattle.scopes.proofs.chain_node.Tie as tie
 use Rattle.arrays.proofs.Members.{block-member}
+use Rattle.arrays.proofs.Nodes.{block-read}
+use Rattle.chains.proofs.Nodes.{variable-member, index-lt, index-fits}
+use Rattle.chains.proofs.Chaining.{entries-within, start-fits, start-narrow, variable-passed, plain-passed, block-passed}
+use Rattle.chains.proofs.chain_node.Statement.{statement}
+use Rattle.chains.proofs.chain_node.Tie as tie
 
 -- the start of a call, and the place where its node is read
 abbrev entry : tie.After-node-at → tie.Start
@@ -99,7 +100,7 @@ mul-starts c =
 slice-write-starts : tie.Need-slice-write-starts
 slice-write-starts c =
     let s = c .before .before .before .before .before .before .before .before .before .before .before .before .before .before .before .before .before .before .before .before .before .before .before .before .before .before .before .before .before .before in
-    index-lt (s .args .words .now) (s .args .list .now) (s .pre .0) (s .args .i) (s .args .starts .now) (s .pre .1 .0) (s .pre .1 .1 .1 .starts-length)
+    index-lt (s .args .words .now) (s .args .list .now) (s .pre .0) (s .args .i) (s .pre .1 .0) (s .args .starts .now) (s .pre .1 .1 .1 .starts-length)
 
 cast-highest-entry : tie.Need-cast-highest-entry
 cast-highest-entry c = omega (arith, c .struct-known4 .given)

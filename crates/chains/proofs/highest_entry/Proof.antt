@@ -1,4 +1,4 @@
--- `scopes::highest_entry` meets its contract. The loop's invariant: the highest so far is that of the first k entries. The measure is what is left of the count.
+-- `chains::highest_entry` meets its contract. The loop's invariant: the highest so far is that of the first k entries. The measure is what is left of the count.
 -- Assumes nothing.
 use mathlib.Core.Path.{_≡_}
 use Prim.Native.Nat.{_-_, _≤_}
@@ -6,9 +6,9 @@ use native.Mathlib.Omega.{arith}
 use borrow.Author.Needs.{needs}
 use Rattle.formula.specs.Words.{range}
 use Rattle.prenex_form.specs.Names.{maximum}
-use Rattle.scopes.proofs.Highest.{maximum-none, maximum-next}
-use Rattle.scopes.proofs.highest_entry.Statement.{statement}
-use Rattle.scopes.proofs.highest_entry.Tie as tie
+use Rattle.chains.proofs.Highest.{maximum-none, maximum-next}
+use Rattle.chains.proofs.highest_entry.Statement.{statement}
+use Rattle.chains.proofs.highest_entry.Tie as tie
 
 abbrev Inv-loop : tie.InvT-loop
 Inv-loop list first count highest₀ k₀ highest k = (k ≤ count) × (highest ≡ maximum (range list first k))

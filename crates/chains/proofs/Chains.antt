@@ -7,12 +7,13 @@ use Prim.Native.Nat.{ℕ, suc, _<_, _≤_}
 use native.Mathlib.Omega.{arith}
 use lib.Dec.{eqb}
 use lib.ListN.{length, getD, set}
-use borrow.Author.Tests.{eqb-true, eqb-false, eq-eqb, ne-eqb}
-use Rattle.lists.specs.Choice.{Is, is-true, is-false, look, clash, and-both, and-off-left, and-off-right}
+use borrow.Author.Tests.{eq-eqb, ne-eqb}
+use Rattle.lists.specs.Choice.{clash, and-both, and-off-left, and-off-right}
 use Rattle.lists.proofs.Stores.{set-all}
 use Rattle.arrays.specs.Link.{link, Chains}
+use Rattle.arrays.proofs.Nodes.{from-here}
 use Rattle.arrays.proofs.Link.{link-end, link-here, link-skip}
-use Rattle.scopes.specs.Passes.{LinkedFrom}
+use Rattle.chains.specs.Chaining.{LinkedFrom}
 
 module _ (passes : ℕ → Bool) (key : ℕ → ℕ) (n : ℕ) where
   -- number j passes the test and has key k
@@ -31,13 +32,8 @@ module _ (passes : ℕ → Bool) (key : ℕ → ℕ) (n : ℕ) where
   chains-skip i fs ns o s =
       record {
         first-is = λ k. s .first-is k ∙ sym (link-skip (keyed k) i n (and-off-left (passes i) (eqb (key i) k) o));
-        next-is = λ j k l e. go j k l e (look (eqb j i));
+        next-is = from-here (λ j. passes j ≡ true → getD ns j 0 ≡ link (keyed (key j)) (suc j) n) i n (λ y. clash y o) (s .next-is);
       }
-    where
-      go : (j : ℕ) → i ≤ j → j < n → passes j ≡ true → Is (eqb j i) → getD ns j 0 ≡ link (keyed (key j)) (suc j) n
-      go j k l e (is-true q) = clash (subst (λ y. passes y ≡ true) (eqb-true j i q) e) o
-      go j k l e (is-false q) =
-          let d = eqb-false j i q in s .next-is j (omega arith) l e
 
   -- one that does goes before those with its key
   module _ (i : ℕ) (fs ns : List ℕ) (h : i < n) (o : passes i ≡ true) (w : key i < length fs) (v : i < length ns) (s : LinkedFrom passes key n (suc i) fs ns) where

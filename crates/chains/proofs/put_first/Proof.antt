@@ -1,12 +1,12 @@
--- `scopes::put_first` meets its contract.
+-- `chains::put_first` meets its contract.
 -- Assumes nothing.
 use mathlib.Core.Path.{refl, ap}
 use Prim.Native.Nat.{ℕ}
 use native.Mathlib.Omega.{arith}
 use lib.ListN.{set}
 use borrow.Author.Needs.{needs}
-use Rattle.scopes.proofs.put_first.Statement.{statement}
-use Rattle.scopes.proofs.put_first.Tie as tie
+use Rattle.chains.proofs.put_first.Statement.{statement}
+use Rattle.chains.proofs.put_first.Tie as tie
 
 mul-nexts : tie.Need-mul-nexts
 mul-nexts c = search needs

@@ -23,17 +23,17 @@ use Rattle.acceptance.specs.Verdict.{verdict}
 use Rattle.acceptance.proofs.Accepted.{accepted-holds}
 use Rattle.prenex_form.specs.Scope.{inner, level}
 use Rattle.prenex_form.specs.Names.{maximum, highestAt, highestNumber, boundCount}
+use Rattle.prenex_form.proofs.Paths.{inner-is, not-inner, inner-root}
 use Rattle.prenex_form.proofs.NameLaws.{none-bound}
 use Rattle.arrays.specs.Held.{enclosing, isMember, Parents, NodeLevels, LevelChains, MemberChains, Starts}
+use Rattle.arrays.proofs.Nodes.{from-here, accepted-tree, nodes-few, level-small, count-read}
 use Rattle.arrays.proofs.Enclosing.{enclosing-le}
 use Rattle.arrays.proofs.Entries.{boundBelow-next, boundBelow-grows}
-use Rattle.scopes.specs.declared.Passed.{Passed}
-use Rattle.scopes.specs.Passes.{Cleared, LevelsFrom, MembersFrom, ChainedFrom}
-use Rattle.scopes.proofs.Nodes.{accepted-tree, nodes-few, variable-read, plain-member, plain-highest, block-highest}
-use Rattle.scopes.proofs.Scopes.{level-small, outer-plain, outer-root, inner-rest}
-use Rattle.scopes.proofs.Counting.{from-here, count-read}
-use Rattle.scopes.proofs.Chains.{chains-start, chains-skip, chains-put, chains-end}
-use Rattle.scopes.proofs.Highest.{highest-next}
+use Rattle.chains.specs.declared.Passed.{Passed}
+use Rattle.chains.specs.Chaining.{Cleared, LevelsFrom, MembersFrom, ChainedFrom}
+use Rattle.chains.proofs.Nodes.{variable-read, plain-member}
+use Rattle.chains.proofs.Chains.{chains-start, chains-skip, chains-put, chains-end}
+use Rattle.chains.proofs.Highest.{highest-next, plain-highest, block-highest}
 
 module _ (ws ls : List ℕ) (ok : verdict ws ls ≡ accepted) (i : ℕ) (h : i < nodeCount ws) where
   -- the keys of a node as the arrays hold them, which index the arrays of the first nodes
@@ -68,7 +68,7 @@ module _ (ws ls : List ℕ) (ok : verdict ws ls ≡ accepted) (i : ℕ) (h : i <
         → LevelsFrom (tableOf ws ls) i fs' ns'
     unfolding tableOf
     inner-chained fs ns fs' ns' e n w v s =
-        chains-put (inner (tableOf ws ls)) (level (tableOf ws ls)) (nodeCount ws) i fs ns h (inner-rest (tableOf ws ls) i e (rw add-one at n))
+        chains-put (inner (tableOf ws ls)) (level (tableOf ws ls)) (nodeCount ws) i fs ns h (inner-is (tableOf ws ls) i (omega arith) ∙ e)
         (omega (arith, level-small ws ls ok i h)) (omega (arith, nodes-few ws ls ok)) (rw add-one at s) (getD vs i 0) fs' ns' level-read
 
   outer-chained : (fs ns : List ℕ) → inner (tableOf ws ls) i ≡ false → LevelsFrom (tableOf ws ls) (i + 1) fs ns → LevelsFrom (tableOf ws ls) i fs ns
@@ -76,7 +76,7 @@ module _ (ws ls : List ℕ) (ok : verdict ws ls ≡ accepted) (i : ℕ) (h : i <
 
   pub root-chained : (fs ns : List ℕ) → i + 1 ≡ nodeCount ws → LevelsFrom (tableOf ws ls) (i + 1) fs ns → LevelsFrom (tableOf ws ls) i fs ns
   unfolding tableOf
-  root-chained fs ns z s = outer-chained fs ns (outer-root (tableOf ws ls) i (rw add-one at z)) s
+  root-chained fs ns z s = outer-chained fs ns (inner-root (tableOf ws ls) i (rw add-one at z)) s
 
   -- a block's entries lie within the list, and there are no more than entries up to it
   module _ (w : NodeWords) (r : w ≡ wordsAt ws i) (e : isBlock (nodeAt ws ls i) ≡ true) where
@@ -95,7 +95,7 @@ module _ (ws ls : List ℕ) (ok : verdict ws ls ≡ accepted) (i : ℕ) (h : i <
         → (j : ℕ) → i ≤ j → j < tableOf ws ls .size → isBlock (tableOf ws ls .node j) ≡ true → getD starts j 0 ≡ boundBelow (tableOf ws ls) j
     unfolding tableOf
     above-same e =
-        from-here (tableOf ws ls) (λ j. isBlock (nodeAt ws ls j) ≡ true → getD starts j 0 ≡ boundBelow (tableOf ws ls) j) i (λ y. clash y e)
+        from-here (λ j. isBlock (nodeAt ws ls j) ≡ true → getD starts j 0 ≡ boundBelow (tableOf ws ls) j) i (nodeCount ws) (λ y. clash y e)
         (λ j k l y. s .start-is j (omega arith) l y)
 
     start-same : isBlock (nodeAt ws ls i) ≡ false → p .start ≡ boundBelow (tableOf ws ls) i
@@ -120,7 +120,7 @@ module _ (ws ls : List ℕ) (ok : verdict ws ls ≡ accepted) (i : ℕ) (h : i <
           member-firsts-length = s .member-firsts-length;
           member-nexts-length = s .member-nexts-length;
           starts-length = s .starts-length;
-          levels-linked = outer-chained lfs lns (outer-plain (tableOf ws ls) i e) (s .levels-linked);
+          levels-linked = outer-chained lfs lns (not-inner (tableOf ws ls) i e) (s .levels-linked);
           members-linked = chains-skip (λ j. isMember (nodeAt ws ls j)) (enclosing (tableOf ws ls)) (nodeCount ws) i mfs mns m (rw add-one at (s .members-linked));
           start-is = above-same e;
           start-here = start-same e;
@@ -140,7 +140,7 @@ module _ (ws ls : List ℕ) (ok : verdict ws ls ≡ accepted) (i : ℕ) (h : i <
             member-firsts-length = fl ∙ s .member-firsts-length;
             member-nexts-length = nl ∙ s .member-nexts-length;
             starts-length = s .starts-length;
-            levels-linked = outer-chained lfs lns (outer-plain (tableOf ws ls) i e) (s .levels-linked);
+            levels-linked = outer-chained lfs lns (not-inner (tableOf ws ls) i e) (s .levels-linked);
             members-linked = members;
             start-is = above-same e;
             start-here = start-same e;
@@ -163,7 +163,7 @@ module _ (ws ls : List ℕ) (ok : verdict ws ls ≡ accepted) (i : ℕ) (h : i <
             levels-linked = levels;
             members-linked = members;
             start-is =
-                from-here (tableOf ws ls) (λ j. isBlock (nodeAt ws ls j) ≡ true → getD (set starts i (p .start - w .b)) j 0 ≡ boundBelow (tableOf ws ls) j) i
+                from-here (λ j. isBlock (nodeAt ws ls j) ≡ true → getD (set starts i (p .start - w .b)) j 0 ≡ boundBelow (tableOf ws ls) j) i (nodeCount ws)
                 (λ y. getD-set-same starts i (p .start - w .b) 0 (omega (arith, s .starts-length, nodes-few ws ls ok)) ∙ v)
                 (λ j k l y. getD-set-other starts i j (p .start - w .b) 0 (λ q. omega arith) ∙ s .start-is j (omega arith) l y);
             start-here = v;
@@ -183,12 +183,12 @@ module _ (ws ls : List ℕ) (lfs lns mfs mns starts : List ℕ) where
   unfolding tableOf boundCount highestNumber
   passed-none q e c =
       record {
-        level-firsts-length = c .levels-blank .firsts-length;
-        level-nexts-length = c .levels-blank .nexts-length;
+        level-firsts-length = c .level-firsts-length;
+        level-nexts-length = c .level-nexts-length;
         member-firsts-length = c .member-firsts-length;
         member-nexts-length = c .member-nexts-length;
-        starts-length = c .levels-blank .starts-length;
-        levels-linked = chains-start (inner (tableOf ws ls)) (level (tableOf ws ls)) (nodeCount ws) lfs lns (c .levels-blank .firsts-clear);
+        starts-length = c .starts-length;
+        levels-linked = chains-start (inner (tableOf ws ls)) (level (tableOf ws ls)) (nodeCount ws) lfs lns (c .level-firsts-clear);
         members-linked = chains-start (λ j. isMember (nodeAt ws ls j)) (enclosing (tableOf ws ls)) (nodeCount ws) mfs mns (c .member-firsts-clear);
         start-is = λ j k l y. absurd (omega arith);
         start-here = e;

@@ -1,8 +1,8 @@
--- `scopes::with_number` meets its contract.
+-- `chains::with_number` meets its contract.
 -- Assumes nothing.
 use borrow.Author.Needs.{needs}
-use Rattle.scopes.proofs.with_number.Statement.{statement}
-use Rattle.scopes.proofs.with_number.Tie as tie
+use Rattle.chains.proofs.with_number.Statement.{statement}
+use Rattle.chains.proofs.with_number.Tie as tie
 
 larger-requires : tie.Need-larger-requires
 larger-requires c κs = search needs

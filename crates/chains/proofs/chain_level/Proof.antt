@@ -1,11 +1,11 @@
--- `scopes::chain_level` meets its contract. The root is the law `root-chained`, an inner block `inner-chained`.
+-- `chains::chain_level` meets its contract. The root is the law `root-chained`, an inner block `inner-chained`.
 -- Assumes nothing.
 use native.Mathlib.Omega.{arith}
 use borrow.Author.Needs.{needs}
-use Rattle.scopes.proofs.Nodes.{nodes-few}
-use Rattle.scopes.proofs.Chaining.{level-index, inner-chained, root-chained}
-use Rattle.scopes.proofs.chain_level.Statement.{statement}
-use Rattle.scopes.proofs.chain_level.Tie as tie
+use Rattle.arrays.proofs.Nodes.{nodes-few}
+use Rattle.chains.proofs.Chaining.{level-index, inner-chained, root-chained}
+use Rattle.chains.proofs.chain_level.Statement.{statement}
+use Rattle.chains.proofs.chain_level.Tie as tie
 
 add-if1 : tie.Need-add-if1
 add-if1 c = search needs

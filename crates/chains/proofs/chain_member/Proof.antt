@@ -1,11 +1,11 @@
--- `scopes::chain_member` meets its contract. The step is the law `member-chained`.
+-- `chains::chain_member` meets its contract. The step is the law `member-chained`.
 -- Assumes nothing.
 use native.Mathlib.Omega.{arith}
 use borrow.Author.Needs.{needs}
-use Rattle.scopes.proofs.Nodes.{nodes-few}
-use Rattle.scopes.proofs.Chaining.{parent-small, member-chained}
-use Rattle.scopes.proofs.chain_member.Statement.{statement}
-use Rattle.scopes.proofs.chain_member.Tie as tie
+use Rattle.arrays.proofs.Nodes.{nodes-few}
+use Rattle.chains.proofs.Chaining.{parent-small, member-chained}
+use Rattle.chains.proofs.chain_member.Statement.{statement}
+use Rattle.chains.proofs.chain_member.Tie as tie
 
 mul-block : tie.Need-mul-block
 mul-block c = search needs

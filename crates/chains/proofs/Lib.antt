@@ -1,0 +1,4 @@
+pub mod Nodes
+pub mod Chains
+pub mod Highest
+pub mod Chaining
