@@ -51,8 +51,8 @@ pub struct Answer {
 
 // Measures a table: its nodes, blocks, bound variables and depth, and what lifting it writes.
 //
-// The contract rules out a measure that gives a refused table's sizes, and one with invented sizes, as
-// one that answers those of a table without blocks.
+// The contract rules out a measure that gives sizes of a refused table, and one with invented sizes,
+// that answers done and sizes of 0.
 pub fn measure(words: &[u32], list: &[u32]) -> Answer
     ensures answer { λ r.
         ⌜ answerOf r ≡ measured (now (words .entry)) (now (list .entry)) ⌝ }
@@ -150,9 +150,9 @@ pub fn lift(
         ⌜ FormWritten (tableOf (now (words .entry)) (now (list .entry)))
         (after r (buffers (now (nodes .exit)) (now (prefix .exit)) (now (variables .exit)))) ⌝ }
 {
-    let verdict = table_check::check(words, list);
-    if verdict.number != ACCEPTED {
-        return refused(verdict);
+    let fault = table_check::check(words, list);
+    if fault.number != ACCEPTED {
+        return refused(fault);
     }
     lift_accepted(words, list, nodes, prefix, variables)
 }
