@@ -23,15 +23,16 @@ int main(void) {
     if (answer[0] != 0)
         return refused(answer);
     size_t nodes = answer[6], blocks = answer[7], variables = answer[8];
-    uint32_t *out = malloc((4 * nodes + 3 * blocks + variables) * sizeof *out);
+    size_t nodes_len = WAKUBINRYO_NODE_WORDS * nodes, prefix_len = WAKUBINRYO_PREFIX_WORDS * blocks;
+    uint32_t *out = malloc((nodes_len + prefix_len + variables) * sizeof *out);
     if (out == NULL)
         return 1;
-    uint32_t *prefix = out + 4 * nodes, *names = prefix + 3 * blocks;
-    wakubinryo_lift(words, 24, list, 1, out, 4 * nodes, prefix, 3 * blocks, names, variables, answer);
+    uint32_t *prefix = out + nodes_len, *names = prefix + prefix_len;
+    wakubinryo_lift(words, 24, list, 1, out, nodes_len, prefix, prefix_len, names, variables, answer);
     if (answer[0] != 0)
         return free(out), refused(answer);
-    print("nodes", out, nodes, 4);
-    print("prefix", prefix, blocks, 3);
+    print("nodes", out, nodes, WAKUBINRYO_NODE_WORDS);
+    print("prefix", prefix, blocks, WAKUBINRYO_PREFIX_WORDS);
     print("variables", names, variables, 1);
     free(out);
     return 0;

@@ -112,6 +112,12 @@
 extern "C" {
 #endif
 
+/* The words of a node, and of a prefix block. */
+enum {
+    WAKUBINRYO_NODE_WORDS = 4,
+    WAKUBINRYO_PREFIX_WORDS = 3
+};
+
 /*
  * Measures a table.
  *

@@ -4,19 +4,22 @@
 //! valuation. [`table_function`] and [`form_function`] compute the value under
 //! all valuations of a few variables at once, as a set of bits.
 
+use crate::{Node, WIDTH};
 use std::collections::BTreeSet;
 use std::iter::successors;
 
 /// The variables that are true; all others are false.
 pub type Valuation = BTreeSet<u32>;
 
-fn node(words: &[u32], i: u32) -> [u32; 4] {
-    let at = 4 * i as usize;
-    words[at..at + 4].try_into().expect("four words")
+fn node(words: &[u32], i: u32) -> Node {
+    let at = WIDTH * i as usize;
+    words[at..at + WIDTH]
+        .try_into()
+        .expect("the words of a node")
 }
 
 fn root(words: &[u32]) -> u32 {
-    (words.len() / 4 - 1) as u32
+    (words.len() / WIDTH - 1) as u32
 }
 
 fn range(list: &[u32], first: u32, count: u32) -> &[u32] {
@@ -108,7 +111,7 @@ pub fn form_value(
 /// covers.
 pub fn free_occurrences(words: &[u32], list: &[u32]) -> BTreeSet<u32> {
     // The nearest block above each node: nodes are named by higher ones.
-    let mut above = vec![None; words.len() / 4];
+    let mut above = vec![None; words.len() / WIDTH];
     for i in (0..=root(words)).rev() {
         let outer = above[i as usize];
         match node(words, i) {
@@ -138,7 +141,7 @@ pub fn free_occurrences(words: &[u32], list: &[u32]) -> BTreeSet<u32> {
 /// The numbers in the ranges of a table's blocks.
 pub fn variables_in_ranges(words: &[u32], list: &[u32]) -> BTreeSet<u32> {
     words
-        .chunks_exact(4)
+        .chunks_exact(WIDTH)
         .filter(|node| node[0] == 5 || node[0] == 6)
         .flat_map(|node| range(list, node[1], node[2]))
         .copied()
@@ -148,7 +151,7 @@ pub fn variables_in_ranges(words: &[u32], list: &[u32]) -> BTreeSet<u32> {
 /// The numbers at the variable nodes of a table or form.
 pub fn variables_at_nodes(words: &[u32]) -> BTreeSet<u32> {
     words
-        .chunks_exact(4)
+        .chunks_exact(WIDTH)
         .filter(|node| node[0] == 2)
         .map(|node| node[1])
         .collect()
@@ -259,7 +262,7 @@ fn projection(variables: &[u32], k: usize) -> Function {
 /// stand at its variable nodes.
 pub fn table_function(words: &[u32], list: &[u32], variables: &[u32]) -> Function {
     let mut values: Vec<Option<Function>> = Vec::new();
-    for words in words.chunks_exact(4) {
+    for words in words.chunks_exact(WIDTH) {
         let &[kind, a, b, c] = words else {
             unreachable!()
         };
@@ -387,10 +390,10 @@ mod tests {
         let variables: Vec<u32> = (1..=8).collect();
         let mut words = vec![2, 1, 0, 0];
         for variable in 2..=8 {
-            let at = (words.len() / 4) as u32;
+            let at = (words.len() / WIDTH) as u32;
             words.extend([2, variable, 0, 0, 4, 8, at - 1, at]);
         }
-        let body = (words.len() / 4 - 1) as u32;
+        let body = (words.len() / WIDTH - 1) as u32;
         for (kind, value) in [(5, true), (6, false)] {
             let mut table = words.clone();
             table.extend([kind, 0, 2, body]);

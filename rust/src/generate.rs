@@ -2,7 +2,7 @@
 //! benchmark. The same seed always gives the same tables.
 
 use crate::answer::{Reason, Refusal};
-use crate::reference::{HIGHEST, LIMIT};
+use crate::reference::{Node, HIGHEST, LIMIT, WIDTH};
 pub use crate::Table;
 
 /// A small generator of pseudo-random numbers (splitmix64).
@@ -41,7 +41,7 @@ impl Rng {
 }
 
 impl Table {
-    pub fn new(nodes: &[[u32; 4]], list: &[u32]) -> Table {
+    pub fn new(nodes: &[Node], list: &[u32]) -> Table {
         Table {
             words: nodes.concat(),
             list: list.to_vec(),
@@ -49,23 +49,25 @@ impl Table {
     }
 
     pub fn len(&self) -> usize {
-        self.words.len() / 4
+        self.words.len() / WIDTH
     }
 
     pub fn is_empty(&self) -> bool {
         self.words.is_empty()
     }
 
-    pub fn node(&self, i: usize) -> [u32; 4] {
-        self.words[4 * i..4 * i + 4].try_into().expect("four words")
+    pub fn node(&self, i: usize) -> Node {
+        self.words[WIDTH * i..WIDTH * i + WIDTH]
+            .try_into()
+            .expect("the words of a node")
     }
 
     pub fn node_mut(&mut self, i: usize) -> &mut [u32] {
-        &mut self.words[4 * i..4 * i + 4]
+        &mut self.words[WIDTH * i..WIDTH * i + WIDTH]
     }
 
     /// Adds a node and gives its index.
-    pub fn push(&mut self, node: [u32; 4]) -> u32 {
+    pub fn push(&mut self, node: Node) -> u32 {
         self.words.extend(node);
         self.len() as u32 - 1
     }
@@ -389,7 +391,7 @@ pub fn damaged(rng: &mut Rng, profile: &Profile, reason: Reason) -> Option<(Tabl
         Reason::TooLarge => {
             let over = LIMIT + rng.pick(&[1, 1, 2, 100]);
             if rng.one_in(2) {
-                table.words.resize(4 * over, rng.pick(&EDGES));
+                table.words.resize(WIDTH * over, rng.pick(&EDGES));
             } else {
                 table.list.resize(over, rng.pick(&EDGES));
             }

@@ -690,7 +690,7 @@ fn blanks(bytes: usize) -> Vec<u8> {
 #[cfg(test)]
 mod tests {
     use super::*;
-    use crate::qcir;
+    use crate::{qcir, WIDTH};
 
     #[test]
     fn random_circuits_have_every_feature() {
@@ -699,7 +699,7 @@ mod tests {
         for _ in 0..1000 {
             let gates = rng.between(3, 20);
             let (circuit, text) = good_file(&mut rng, gates);
-            let mut words = [0; 4 * 4096];
+            let mut words = [0; WIDTH * 4096];
             let mut list = [0; 4096];
             let answer = qcir::read(&text, &mut words, &mut list);
             assert!(answer.is_ok(), "{answer:?}: {circuit:?}");

@@ -17,6 +17,7 @@ pub mod reference;
 pub mod timing;
 
 pub use answer::{Reason, Refusal, Sizes, Written};
+pub use reference::{Node, WIDTH};
 
 mod ffi {
     extern "C" {
@@ -192,7 +193,7 @@ impl PrenexForm {
     /// Zeroed buffers of exactly the sizes that a table's form needs.
     pub fn with_sizes(sizes: &Sizes) -> PrenexForm {
         PrenexForm {
-            nodes: vec![0; 4 * sizes.nodes as usize],
+            nodes: vec![0; WIDTH * sizes.nodes as usize],
             prefix: vec![0; 3 * sizes.blocks as usize],
             variables: vec![0; sizes.entries as usize],
         }
@@ -237,7 +238,7 @@ pub fn read_qcir_into(
 /// Allocates room for any table and reads a QCIR file.
 pub fn read_qcir(text: &[u8]) -> Result<Table, Refusal> {
     let mut table = Table {
-        words: vec![0; 4 * reference::LIMIT],
+        words: vec![0; WIDTH * reference::LIMIT],
         list: vec![0; reference::LIMIT],
     };
     let written = read_qcir_into(text, &mut table.words, &mut table.list)?;

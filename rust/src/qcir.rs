@@ -7,9 +7,9 @@
 //! call: the index of names is on the stack, the others are allocated.
 
 use crate::answer::{Reason, Refusal, Written};
+use crate::reference::{Node, HIGHEST, LIMIT};
 use crate::reference::{AND, OR, XOR};
 use crate::reference::{CONSTANT, EXISTS, FOR_ALL, NOT, OPERATOR, VARIABLE};
-use crate::reference::{HIGHEST, LIMIT};
 use std::ops::Range;
 
 /// Most bytes of a file.
@@ -249,7 +249,7 @@ struct Reader<'a> {
     output: Option<Literal>,
     gates: Vec<Gate>,
     /// The nodes, no more than `LIMIT` of them.
-    nodes: Vec<[u32; 4]>,
+    nodes: Vec<Node>,
     /// How many nodes there are without the limit.
     node_count: usize,
     /// The sum of the blocks' counts.
@@ -288,7 +288,7 @@ impl Reader<'_> {
 
     /// Adds a node and gives its index.
     #[inline(always)]
-    fn node(&mut self, node: [u32; 4]) -> u32 {
+    fn node(&mut self, node: Node) -> u32 {
         if self.nodes.len() < LIMIT {
             self.nodes.push(node);
         }

@@ -24,7 +24,10 @@ const IFF: u32 = 9;
 const IMPLIES: u32 = 11;
 pub(crate) const OR: u32 = 14;
 
-type Node = [u32; 4];
+/// The words of a node: a kind and three fields.
+pub const WIDTH: usize = 4;
+
+pub type Node = [u32; WIDTH];
 
 /// A set of variable numbers.
 struct NumberSet([u64; 1024]);
@@ -250,7 +253,7 @@ pub fn lift(
 ) -> Result<Sizes, Refusal> {
     let summary = check(words, list)?;
     let sizes = summary.sizes;
-    let nodes_len = 4 * sizes.nodes as usize;
+    let nodes_len = WIDTH * sizes.nodes as usize;
     let prefix_len = 3 * sizes.blocks as usize;
     let variables_len = sizes.entries as usize;
     if nodes.len() < nodes_len || prefix.len() < prefix_len || variables.len() < variables_len {

@@ -7,7 +7,7 @@ use std::collections::HashMap;
 use std::ops::RangeInclusive;
 use wakubinryo::generate::{accepted, damaged, mutated};
 use wakubinryo::generate::{Profile, Table, FAMILIES};
-use wakubinryo::{Reason, Sizes};
+use wakubinryo::{Node, Reason, Sizes};
 
 fn prefill(number: u64) -> [Prefill; 1] {
     [Prefill::ALL[number as usize % 4]]
@@ -117,9 +117,9 @@ fn tables_changed_anywhere() {
 #[test]
 fn all_tiny_tables() {
     let lists: [&[u32]; 5] = [&[], &[1], &[1, 2], &[1, 1], &[0, 2]];
-    let one: Vec<[u32; 4]> = all_nodes(&[0, 1, 2, 3, 4, 5, 6, 7], &[0, 1, 2]);
+    let one: Vec<Node> = all_nodes(&[0, 1, 2, 3, 4, 5, 6, 7], &[0, 1, 2]);
     let mut accepted = 0u32;
-    let mut check = |nodes: &[[u32; 4]], list: &[u32]| {
+    let mut check = |nodes: &[Node], list: &[u32]| {
         let table = Table::new(nodes, list);
         let given = assert_same(&table, &[Prefill::Counting], 2);
         accepted += u32::from(given.is_ok());
@@ -146,7 +146,7 @@ fn all_tiny_tables() {
     assert!(accepted > 1000, "only {accepted} accepted");
 }
 
-fn all_nodes(kinds: &[u32], fields: &[u32]) -> Vec<[u32; 4]> {
+fn all_nodes(kinds: &[u32], fields: &[u32]) -> Vec<Node> {
     let mut nodes = Vec::new();
     for &kind in kinds {
         for &a in fields {

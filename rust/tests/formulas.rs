@@ -7,7 +7,7 @@ use common::{reference_form, reference_free_variables, Prefill};
 use common::{LIBRARY_LIFT, NOTHING, TOO_SHORT};
 use wakubinryo::brute::{self, Valuation};
 use wakubinryo::generate::Table;
-use wakubinryo::{PrenexForm, Reason, Sizes};
+use wakubinryo::{Node, PrenexForm, Reason, Sizes};
 
 /// Holds library and reference to a form.
 fn assert_form(table: &Table, sizes: [u32; 7], form: &PrenexForm, names: &[u32]) {
@@ -17,7 +17,7 @@ fn assert_form(table: &Table, sizes: [u32; 7], form: &PrenexForm, names: &[u32])
     assert_operations(table, sizes, form, names, &Prefill::ALL, 7);
 }
 
-fn form(nodes: &[[u32; 4]], prefix: &[[u32; 3]], variables: &[u32]) -> PrenexForm {
+fn form(nodes: &[Node], prefix: &[[u32; 3]], variables: &[u32]) -> PrenexForm {
     PrenexForm {
         nodes: nodes.concat(),
         prefix: prefix.concat(),

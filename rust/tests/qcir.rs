@@ -14,7 +14,7 @@ use wakubinryo::generate_qcir::{circuit, damage_once, exchange_names, good_file,
 use wakubinryo::generate_qcir::{with_bound, with_length, with_nodes, Layout, Profile, FAMILIES};
 use wakubinryo::reference::LIMIT;
 use wakubinryo::Reason::*;
-use wakubinryo::{measure, qcir, read_qcir, Reason, Table};
+use wakubinryo::{measure, qcir, read_qcir, Node, Reason, Table, WIDTH};
 
 /// A case of the vectors.
 #[derive(Default)]
@@ -135,20 +135,20 @@ fn assert_refused(text: &[u8], reason: Reason, position: usize) {
 }
 
 /// The table that library and reference must both give.
-fn assert_table(text: &str, nodes: &[[u32; 4]], list: &[u32]) {
+fn assert_table(text: &str, nodes: &[Node], list: &[u32]) {
     for prefill in Prefill::ALL {
         let given = assert_same_reading(text.as_bytes(), prefill, 5);
         assert_eq!(given, Ok(Table::new(nodes, list)), "{text:?}");
     }
 }
 
-const X: [u32; 4] = [2, 1, 0, 0];
-const Y: [u32; 4] = [2, 2, 0, 0];
+const X: Node = [2, 1, 0, 0];
+const Y: Node = [2, 2, 0, 0];
 
 #[test]
 fn every_kind_of_gate() {
     let file = |gate: &str| format!("#QCIR-G14\nfree(1,2)\noutput(3)\n3={gate}\n");
-    type Expected<'a> = (&'a str, &'a [[u32; 4]], &'a [u32]);
+    type Expected<'a> = (&'a str, &'a [Node], &'a [u32]);
     let cases: [Expected; 17] = [
         ("and()", &[[1, 1, 0, 0]], &[]),
         ("or()", &[[1, 0, 0, 0]], &[]),
@@ -457,7 +457,7 @@ fn order_of_the_last_refusals() {
 /// Holds what is read to the circuit that a file spells.
 fn assert_spells(circuit: &Circuit, text: &[u8], prefill: Prefill, spare: usize) -> Table {
     let table = assert_same_reading(text, prefill, spare).expect("accepted");
-    assert_eq!(table.words.len(), 4 * circuit.node_count());
+    assert_eq!(table.words.len(), WIDTH * circuit.node_count());
     assert_eq!(table.list.len(), circuit.bound_count());
     table
 }

@@ -5,17 +5,18 @@ mod common;
 use common::{assert_refused, assert_same, Prefill};
 use wakubinryo::generate::Table;
 use wakubinryo::Reason::*;
+use wakubinryo::{Node, WIDTH};
 
 fn numbers(count: u32) -> Vec<u32> {
     (1..=count).collect()
 }
 
-const LEAF: [u32; 4] = [2, 1, 0, 0];
+const LEAF: Node = [2, 1, 0, 0];
 
 #[test]
 fn length_before_limits() {
     let mut table = Table {
-        words: vec![9; 4 * 4097 + 1],
+        words: vec![9; WIDTH * 4097 + 1],
         list: vec![0; 4097],
     };
     assert_refused(&table, PartialNode, 0);
@@ -28,7 +29,7 @@ fn length_before_limits() {
 #[test]
 fn limits_before_nodes() {
     let table = Table {
-        words: vec![u32::MAX; 4 * 4097],
+        words: vec![u32::MAX; WIDTH * 4097],
         list: vec![],
     };
     assert_refused(&table, TooLarge, 0);

@@ -6,7 +6,7 @@ use common::{each, Case};
 use std::collections::BTreeSet;
 use wakubinryo::brute;
 use wakubinryo::generate::{accepted, largest_form, Profile, Table, FAMILIES};
-use wakubinryo::{free_variables, measure, prenex_form, PrenexForm};
+use wakubinryo::{free_variables, measure, prenex_form, PrenexForm, WIDTH};
 
 /// The number of variables that brute force is asked to go through.
 const MOST: usize = 16;
@@ -56,13 +56,13 @@ fn assert_well_formed(table: &Table) {
         prefix,
         variables,
     } = prenex_form(&table.words, &table.list).expect("accepted");
-    assert_eq!(nodes.len(), 4 * sizes.nodes as usize);
+    assert_eq!(nodes.len(), WIDTH * sizes.nodes as usize);
     assert_eq!(prefix.len(), 3 * sizes.blocks as usize);
     assert_eq!(variables.len(), sizes.entries as usize);
 
     // No quantifiers in the matrix, and it is a tree.
     let mut uses = vec![0; sizes.nodes as usize];
-    for (i, node) in nodes.chunks_exact(4).enumerate() {
+    for (i, node) in nodes.chunks_exact(WIDTH).enumerate() {
         let operands = match node[0] {
             1 | 2 => &[],
             3 => &node[1..2],

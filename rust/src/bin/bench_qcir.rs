@@ -5,7 +5,7 @@
 use std::hint::black_box;
 use std::time::{Duration, Instant};
 use wakubinryo::generate_qcir::FAMILIES;
-use wakubinryo::reference::LIMIT;
+use wakubinryo::reference::{LIMIT, WIDTH};
 use wakubinryo::timing::{growth, Times, ROUNDS, RUNS, WARM_UP};
 use wakubinryo::{qcir, read_qcir_into, Refusal, Table, Written};
 
@@ -19,7 +19,7 @@ const SIDES: [Read; 2] = [read_qcir_into, qcir::read];
 /// Room for any table.
 fn room() -> Table {
     Table {
-        words: vec![0; 4 * LIMIT],
+        words: vec![0; WIDTH * LIMIT],
         list: vec![0; LIMIT],
     }
 }
@@ -100,7 +100,7 @@ fn main() {
             let [library, plain] = bench.times.medians();
             let growth = growth(before, [library, plain]);
             let (number, nodes) = match bench.answer {
-                Ok(written) => (0, (written.words / 4).to_string()),
+                Ok(written) => (0, (written.words / WIDTH as u32).to_string()),
                 Err(refusal) => (refusal.reason.number(), String::new()),
             };
             let line = format!(

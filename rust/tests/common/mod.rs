@@ -4,7 +4,7 @@
 
 use wakubinryo::answer::{count_words, size_words, written_words};
 use wakubinryo::generate::{Rng, Table};
-use wakubinryo::reference::LIMIT;
+use wakubinryo::reference::{LIMIT, WIDTH};
 use wakubinryo::{free_variables, lift, measure, prenex_form, qcir, raw, reference};
 use wakubinryo::{read_qcir, read_qcir_into, PrenexForm, Reason, Refusal, Sizes, Written};
 
@@ -195,7 +195,7 @@ pub static NOTHING: PrenexForm = PrenexForm {
 /// Words enough for any buffer, if the table were accepted.
 fn ample(Table { words, list }: &Table) -> usize {
     let is_block = |node: &&[u32]| node[0] == 5 || node[0] == 6;
-    let blocks = words.chunks_exact(4).filter(is_block);
+    let blocks = words.chunks_exact(WIDTH).filter(is_block);
     let counts = blocks.map(|node| list.len().min(node[2] as usize));
     // Four words for each of n + 5 b + 4 q nodes.
     6 * words.len() + 16 * counts.sum::<usize>().min(LIMIT) + 16
@@ -341,7 +341,7 @@ const REFERENCE_READ: Read = |text, words, list| written_words(qcir::read(text, 
 /// The reference's answer, and what it writes.
 pub fn reference_table(text: &[u8]) -> (Result<Written, Refusal>, Table) {
     let mut table = Table {
-        words: vec![0; 4 * LIMIT],
+        words: vec![0; WIDTH * LIMIT],
         list: vec![0; LIMIT],
     };
     let answer = qcir::read(text, &mut table.words, &mut table.list);
@@ -420,7 +420,7 @@ pub fn assert_same_reading(text: &[u8], prefill: Prefill, spare: usize) -> Resul
     assert!(*text == before, "the text has changed");
     answer?;
     let sizes = measure(&table.words, &table.list).expect("the table is accepted");
-    let [n, q] = [table.words.len() / 4, table.list.len()];
+    let [n, q] = [table.words.len() / WIDTH, table.list.len()];
     assert_eq!([sizes.n as usize, sizes.q as usize], [n, q]);
     Ok(table)
 }
