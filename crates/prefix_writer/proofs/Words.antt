@@ -6,7 +6,8 @@ use Prim.Native.Nat.{ℕ, _+_, _-_, _*_, _≤_}
 use native.Mathlib.Omega.{arith}
 use lib.ListN.{length}
 use Rattle.lists.specs.Choice.{pick}
-use Rattle.formula.specs.Words.{width, nodeCount, field, nodeOf, nodeAt, tableOf}
+use Rattle.formula.specs.Words.{width, nodeCount, wordsAt, nodeOf, nodeAt, tableOf}
+use Rattle.formula.specs.declared.NodeWords.{NodeWords}
 use Rattle.formula.proofs.Nodes.{Kind, kind-of, kind-constant, kind-variable, kind-negation, kind-operator, kind-exists, kind-for-all, kind-none}
 use Rattle.refusals.specs.Verdict.{accepted}
 use Rattle.acceptance.specs.Verdict.{verdict}
@@ -14,28 +15,30 @@ use Rattle.acceptance.proofs.Accepted.{accepted-holds}
 use Rattle.prenex_form.specs.Levels.{quantifierAt, levelQuantifier}
 use Rattle.prenex_form.specs.Prefix.{kindOf}
 
-kind-exists-is : (ls : List ℕ) (kind a b c : ℕ) → kind ≡ 5 → 5 ≡ kindOf (quantifierAt (nodeOf ls kind a b c))
+kind-exists-is : (ls : List ℕ) (w : NodeWords) → w .kind ≡ 5 → 5 ≡ kindOf (quantifierAt (nodeOf ls w))
 unfolding nodeOf quantifierAt kindOf pick
-kind-exists-is ls kind a b c e = rw e
+kind-exists-is ls w e = rw e
 
-kind-other-is : (ls : List ℕ) (kind a b c : ℕ) → (kind ≡ 5 → ⊥) → Kind kind → 6 ≡ kindOf (quantifierAt (nodeOf ls kind a b c))
+kind-other-is : (ls : List ℕ) (w : NodeWords) → (w .kind ≡ 5 → ⊥) → Kind (w .kind) → 6 ≡ kindOf (quantifierAt (nodeOf ls w))
 unfolding nodeOf quantifierAt kindOf pick
-kind-other-is ls kind a b c n (kind-constant e) = rw e
-kind-other-is ls kind a b c n (kind-variable e) = rw e
-kind-other-is ls kind a b c n (kind-negation e) = rw e
-kind-other-is ls kind a b c n (kind-operator e) = rw e
-kind-other-is ls kind a b c n (kind-exists e) = absurd (n e)
-kind-other-is ls kind a b c n (kind-for-all e) = rw e
-kind-other-is ls kind a b c n (kind-none e1 e2 e3 e4 e5 e6) = rw (e1, e2, e3, e4, e5, e6)
+kind-other-is ls w n (kind-constant e) = rw e
+kind-other-is ls w n (kind-variable e) = rw e
+kind-other-is ls w n (kind-negation e) = rw e
+kind-other-is ls w n (kind-operator e) = rw e
+kind-other-is ls w n (kind-exists e) = absurd (n e)
+kind-other-is ls w n (kind-for-all e) = rw e
+kind-other-is ls w n (kind-none e1 e2 e3 e4 e5 e6) = rw (e1, e2, e3, e4, e5, e6)
 
 module _ (ws ls : List ℕ) where
-  pub root-exists : field ws (nodeCount ws - 1) 0 ≡ 5 → 5 ≡ kindOf (levelQuantifier (tableOf ws ls) 0)
-  unfolding levelQuantifier tableOf nodeAt
-  root-exists e = kind-exists-is ls (field ws (nodeCount ws - 1) 0) _ _ _ e
+  -- by the words that are read of the root
+  module _ {w : NodeWords} (read : w ≡ wordsAt ws (nodeCount ws - 1)) where
+    pub root-exists : w .kind ≡ 5 → 5 ≡ kindOf (levelQuantifier (tableOf ws ls) 0)
+    unfolding levelQuantifier tableOf nodeAt
+    root-exists e = rw (← read) (kind-exists-is ls w e)
 
-  pub root-other : (field ws (nodeCount ws - 1) 0 ≡ 5 → ⊥) → 6 ≡ kindOf (levelQuantifier (tableOf ws ls) 0)
-  unfolding levelQuantifier tableOf nodeAt
-  root-other n = kind-other-is ls (field ws (nodeCount ws - 1) 0) _ _ _ n (kind-of _)
+    pub root-other : (w .kind ≡ 5 → ⊥) → 6 ≡ kindOf (levelQuantifier (tableOf ws ls) 0)
+    unfolding levelQuantifier tableOf nodeAt
+    root-other n = rw (← read) (kind-other-is ls w n (kind-of (w .kind)))
 
   -- an accepted table has a root
   pub has-root : verdict ws ls ≡ accepted → 1 ≤ nodeCount ws

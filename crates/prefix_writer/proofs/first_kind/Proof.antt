@@ -1,6 +1,5 @@
 -- `prefix_writer::first_kind` meets its contract.
 -- Assumes nothing.
-use mathlib.Core.Path.{_∙_, sym}
 use Rattle.prefix_writer.proofs.Words.{root-exists, root-other, has-root, root-fits}
 use Rattle.prefix_writer.proofs.first_kind.Statement.{statement}
 use Rattle.prefix_writer.proofs.first_kind.Tie as tie
@@ -12,10 +11,10 @@ node-at-requires : tie.Need-node-at-requires
 node-at-requires c κs = root-fits _ _ (c .before .before .pre)
 
 returns : tie.Need-returns
-returns c = root-exists _ _ (sym (c .before .before .node-at .ensures .0) ∙ c .if1 .taken)
+returns c = root-exists _ _ (c .before .before .node-at .ensures) (c .if1 .taken)
 
 returns-2 : tie.Need-returns-2
-returns-2 c = root-other _ _ (λ e. c .if1 .left (c .before .before .node-at .ensures .0 ∙ e))
+returns-2 c = root-other _ _ (c .before .before .node-at .ensures) (c .if1 .left)
 
 pub first-kind-spec : {M : Type 1} → statement M
 first-kind-spec = tie.close (tie.spec sub-node-at node-at-requires returns returns-2)
