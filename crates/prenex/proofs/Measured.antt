@@ -26,7 +26,7 @@ use Rattle.prenex_form.proofs.NameLaws.{innerBound-le}
 use Rattle.prenex_form.proofs.Limits.{bound-limit, size-limit}
 use Rattle.prenex_form.proofs.WrittenSizes.{nodes-few}
 use Rattle.prenex_form.proofs.Theorem.{size-rule}
-use Rattle.scopes.proofs.Scopes.{levels-small}
+use Rattle.arrays.proofs.Nodes.{levels-small}
 
 -- 1 if the root is a block
 abbrev pub rootBlocks : Table → ℕ

@@ -13,11 +13,11 @@ ghost use Rattle.acceptance.specs.Limits.{limit};
 ghost use Rattle.acceptance.specs.Verdict.{verdict};
 ghost use Rattle.prenex_form.specs.Sizes.{sizes as sizesOf};
 ghost use Rattle.prenex_form.specs.Promise.{PrenexOf};
-ghost use Rattle.prenex_form.specs.Names.{highestNumber, boundCount};
+ghost use Rattle.prenex_form.specs.Names.{highestNumber};
 ghost use Rattle.prenex_form.specs.Levels.{levels};
 ghost use Rattle.prenex_form.specs.Matrix.{writtenNodes};
-ghost use Rattle.arrays.specs.Held.{firstCopy, Definitions, Started, Chained, Bound};
-ghost use Rattle.scopes.specs.Passes.{Placed, Blank, BlockCounts};
+ghost use Rattle.arrays.specs.Held.{firstCopy, Definitions, Started, Placed, Chained, Bound};
+ghost use Rattle.scopes.specs.Passes.{BlockCounts};
 ghost use Rattle.first_nodes.specs.Given.{Given, Counted};
 ghost use Rattle.prenex.specs.Arrays.{Room, Written};
 ghost use Rattle.refusals.specs.Outcome.{refused as refusedOf, done as doneOf};
@@ -39,9 +39,6 @@ use refusals::ACCEPTED;
 use refusals::BUFFER_TOO_SHORT;
 use refusals::Verdict;
 use scopes::Counts;
-
-// One scope for each node, and that outside all blocks.
-const SCOPES: usize = LIMIT + 1;
 
 // The verdict and the sizes.
 pub struct Answer {
@@ -191,14 +188,13 @@ fn lift_accepted(
         prefix,
         variables,
         &parents,
-        &mut levels,
+        &levels,
         counts,
     );
     done(sizes)
 }
 
-// Chains the nodes, finds the binders, and goes on. The levels are done with once the nodes are
-// chained: their array takes the bindings.
+// Finds the bindings, and goes on.
 fn write_form(
     words: &[u32],
     list: &[u32],
@@ -206,7 +202,7 @@ fn write_form(
     prefix: &mut [u32],
     variables: &mut [u32],
     parents: &[u32],
-    levels: &mut [u16],
+    levels: &[u16],
     counts: Counts,
 )
     requires { ⌜ verdict (now words) (now list) ≡ accepted ⌝ }
@@ -218,8 +214,9 @@ fn write_form(
     let mut firsts = [0u16; LIMIT];
     let mut nexts = [0u16; LIMIT];
     let mut starts = [0u16; LIMIT];
+    let mut bindings = [0u16; LIMIT];
     let bound = counts.bound as usize;
-    let highest = find_bindings(
+    let highest = bindings::find_bindings(
         words,
         list,
         parents,
@@ -227,6 +224,7 @@ fn write_form(
         &mut firsts,
         &mut nexts,
         &mut starts,
+        &mut bindings,
         bound,
     );
     write_named(
@@ -238,58 +236,10 @@ fn write_form(
         &firsts,
         &nexts,
         &starts,
-        levels,
+        &bindings,
         counts,
         highest,
     );
-}
-
-// Chains the nodes by level and by parent block, and writes the entry that binds each variable node's
-// number over the levels. The result is the highest number.
-fn find_bindings(
-    words: &[u32],
-    list: &[u32],
-    parents: &[u32],
-    levels: &mut [u16],
-    firsts: &mut [u16],
-    nexts: &mut [u16],
-    starts: &mut [u16],
-    bound: usize,
-) -> u32
-    requires { ⌜ verdict (now words) (now list) ≡ accepted ⌝ }
-    requires { ⌜ Placed (now words) (now list) (now parents) (now levels) ⌝ }
-    requires { ⌜ bound ≡ boundCount (tableOf (now words) (now list)) ⌝ }
-    requires { ⌜ Blank (now firsts) (now nexts) (now starts) ⌝ }
-    ensures { λ r. ⌜ Chained (now (words .entry)) (now (list .entry)) (now (firsts .exit)) (now (nexts .exit)) ⌝ }
-    ensures { λ r. ⌜ Started (now (words .entry)) (now (list .entry)) (now (starts .exit)) ⌝ }
-    ensures { λ r. ⌜ Bound (now (words .entry)) (now (list .entry)) (now (levels .exit)) ⌝ }
-    ensures { λ r. ⌜ (r ≡ highestNumber (tableOf (now (words .entry)) (now (list .entry)))) × (r ≤ 65535) ⌝ }
-{
-    let mut member_firsts = [0u16; SCOPES];
-    let mut member_nexts = [0u16; LIMIT];
-    let highest = scopes::chain_nodes(
-        words,
-        list,
-        parents,
-        levels,
-        firsts,
-        nexts,
-        &mut member_firsts,
-        &mut member_nexts,
-        starts,
-        bound,
-    );
-    binders::find_binders(
-        words,
-        list,
-        parents,
-        &member_firsts,
-        &member_nexts,
-        starts,
-        highest,
-        levels,
-    );
-    highest
 }
 
 // Hands out the new names, and writes the three parts of the form.

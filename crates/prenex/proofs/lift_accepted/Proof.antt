@@ -3,7 +3,7 @@
 use mathlib.Core.Path.{ap}
 use Rattle.prenex_form.proofs.Theorem.{sizes-written}
 use Rattle.prenex_form.specs.declared.Sizes.{Sizes}
-use Rattle.scopes.specs.Passes.{Placed}
+use Rattle.arrays.specs.Held.{Placed}
 use Rattle.formula.specs.Words.{tableOf}
 use Rattle.prenex.specs.Arrays.{Room}
 use Rattle.prenex.specs.Outcome.{buffers}

@@ -2,7 +2,7 @@
 -- Assumes nothing.
 use mathlib.Core.Path.{_∙_, sym}
 use Rattle.lists.specs.Choice.{pick-yes, pick-no}
-use Rattle.scopes.proofs.Nodes.{block-read}
+use Rattle.arrays.proofs.Nodes.{block-read}
 use Rattle.prenex.proofs.Measured.{count-some}
 use borrow.Author.Needs.{needs}
 use native.Mathlib.Omega.{arith}

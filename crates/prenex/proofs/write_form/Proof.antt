@@ -2,7 +2,6 @@
 -- Assumes nothing.
 use mathlib.Core.Path.{refl}
 use Rattle.lists.proofs.Stores.{getD-filled}
-use Rattle.scopes.specs.Passes.{Blank}
 use borrow.Author.Needs.{needs}
 use Rattle.prenex.proofs.write_form.Statement.{statement}
 use Rattle.prenex.proofs.write_form.Tie as tie
@@ -23,8 +22,7 @@ find-bindings-requires : tie.Need-find-bindings-requires
 find-bindings-requires c κs =
     let s = c .before .before .before .before .before .before .before .before .before .before .before .before in
     let p = s .pre in
-    let z : Blank _ _ _ = record { firsts-length = refl; nexts-length = refl; starts-length = refl; firsts-clear = λ l. getD-filled 4096 l 0 } in
-    (p .0, (p .1 .0, (p .1 .1 .0 .bound-is, z)))
+    (p .0, (p .1 .0, (p .1 .1 .0 .bound-is, record { firsts-length = refl; nexts-length = refl; starts-length = refl; bindings-length = refl; firsts-clear = λ l. getD-filled 4096 l 0 })))
 
 slice-aggregate-write-named : tie.Need-slice-aggregate-write-named
 slice-aggregate-write-named c = search needs
