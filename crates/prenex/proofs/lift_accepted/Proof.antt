@@ -111,16 +111,16 @@ same-length-3 c = search needs
 
 returns-4 : tie.Need-returns-4
 returns-4 c =
-    let s = c .before .before .before .before .before .before .before .before .before .before .before .before .before .before .before .before .before .before .before .before .before .before .before .before .before .before .before .before .before .before .before in
+    let s = c .before .before .before .before .before .before .before .before .before .before .before .before .before .before .before .before .before .before .before .before .before .before .before .before .before .before .before .before .before .before in
     let m = sizes-written (s .args .words .now) (s .args .list .now) (s .pre) in
-    let z = c .before .before .before .before .before .before .before .before .before .before .before .before .before .before .before .before .before .before .before .before .sizes-of .ensures in
+    let z = c .before .before .before .before .before .before .before .before .before .before .before .before .before .before .before .before .before .before .before .sizes-of .ensures in
     let room : Room (s .args .words .now) (s .args .list .now) (s .args .nodes .now) (s .args .prefix .now) (s .args .variables .now) =
     record {
-      nodes-fit = omega (arith, m .nodes-measured, ap (λ (z : Sizes). z .nodes) z, c .before .before .before .before .before .before .before .before .before .before .before .before .before .before .before .before .before .before .if1 .left);
-      prefix-fits = omega (arith, m .blocks-measured, ap (λ (z : Sizes). z .blocks) z, c .before .before .before .before .before .before .before .before .before .before .before .before .before .before .before .before .if2 .left);
-      variables-fit = omega (arith, m .entries-measured, ap (λ (z : Sizes). z .entries) z, c .before .before .before .before .before .before .before .before .before .before .before .before .before .before .if3 .left);
+      nodes-fit = omega (arith, m .nodes-measured, ap (λ (z : Sizes). z .nodes) z, c .before .before .before .before .before .before .before .before .before .before .before .before .before .before .before .before .before .if1 .left);
+      prefix-fits = omega (arith, m .blocks-measured, ap (λ (z : Sizes). z .blocks) z, c .before .before .before .before .before .before .before .before .before .before .before .before .before .before .before .if2 .left);
+      variables-fit = omega (arith, m .entries-measured, ap (λ (z : Sizes). z .entries) z, c .before .before .before .before .before .before .before .before .before .before .before .before .before .if3 .left);
     } in
-    lifted-done (s .args .words .now) (s .args .list .now) (s .pre) (s .args .nodes .now) (s .args .prefix .now) (s .args .variables .now) room _ _ (c .done .ensures) z _ _ _ (c .before .before .before .before .before .before .before .before .write-form .ensures)
+    lifted-done (s .args .words .now) (s .args .list .now) (s .pre) (s .args .nodes .now) (s .args .prefix .now) (s .args .variables .now) room _ _ (c .done .ensures) z _ _ _ (c .before .before .before .before .before .before .before .write-form .ensures)
 
 pub lift-accepted-spec : {M : Type 1} → statement M
 lift-accepted-spec =
