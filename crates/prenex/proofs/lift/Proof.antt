@@ -15,16 +15,16 @@ refused-requires c κs = search needs
 
 returns : tie.Need-returns
 returns c =
-    let s = c .before .before .before .before .before .before .before .before in
-    let d = c .before .before in
+    let s = c .before .before .before .before .before .before .before .before .before in
+    let d = c .before .before .before in
     let before = buffers (s .args .nodes .now) (s .args .prefix .now) (s .args .variables .now) in
     let e = lifted-refused (s .args .words .now) (s .args .list .now) (d .check .result) (d .check .ensures) (c .before .if1 .taken) _ (c .refused .ensures) before in
     (e, (lifted-sizes (s .args .words .now) (s .args .list .now) before _ e, lifted-form (s .args .words .now) (s .args .list .now) before _ e))
 
 lift-accepted-requires : tie.Need-lift-accepted-requires
 lift-accepted-requires c κs =
-    let s = c .before .before .before .before .before .before .before .before .before .before in
-    let d = c .before .before .before .before in
+    let s = c .before .before .before .before .before .before .before .before .before .before .before in
+    let d = c .before .before .before .before .before in
     accepted-by (s .args .words .now) (s .args .list .now) (d .check .result) (d .check .ensures) (c .before .before .before .if1 .left)
 
 same-length : tie.Need-same-length
@@ -38,7 +38,7 @@ same-length-3 c = search needs
 
 returns-2 : tie.Need-returns-2
 returns-2 c =
-    let s = c .before .before .before .before .before .before .before .before .before .before .before .before .before .before .before .before .before in
+    let s = c .before .before .before .before .before .before .before .before .before .before .before .before .before .before .before .before .before .before in
     let before = buffers (s .args .nodes .now) (s .args .prefix .now) (s .args .variables .now) in
     let e = c .before .before .before .before .before .before .lift-accepted .ensures in
     (e, (lifted-sizes (s .args .words .now) (s .args .list .now) before _ e, lifted-form (s .args .words .now) (s .args .list .now) before _ e))

@@ -14,14 +14,14 @@ refused-requires c κs = search needs
 
 returns : tie.Need-returns
 returns c =
-    let d = c .before .before in
+    let d = c .before .before .before in
     let s = d .before .before .before in
     let e = measured-refused (s .args .words .now) (s .args .list .now) (d .check .result) (d .check .ensures) (c .before .if1 .taken) _ (c .refused .ensures) in
     (e, measured-sizes (s .args .words .now) (s .args .list .now) _ e)
 
 measure-accepted-requires : tie.Need-measure-accepted-requires
 measure-accepted-requires c κs =
-    let d = c .before in
+    let d = c .before .before in
     let s = d .before .before .before in
     accepted-by (s .args .words .now) (s .args .list .now) (d .check .result) (d .check .ensures) (c .if1 .left)
 
@@ -30,7 +30,7 @@ done-requires c κs = search needs
 
 returns-2 : tie.Need-returns-2
 returns-2 c =
-    let d = c .before .before .before in
+    let d = c .before .before .before .before in
     let s = d .before .before .before in
     let ok = accepted-by (s .args .words .now) (s .args .list .now) (d .check .result) (d .check .ensures) (c .before .before .if1 .left) in
     let e = measured-done (s .args .words .now) (s .args .list .now) ok _ _ (c .done .ensures) (c .before .measure-accepted .ensures) in
