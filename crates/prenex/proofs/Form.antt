@@ -43,7 +43,7 @@ module _ (ws ls : List ℕ) where
   sizes-are ok s e = rw e (sizes-written ws ls ok)
 
   pub measured-sizes : (a : AnswerWith Sizes) → a ≡ measured ws ls → SizesWritten (tableOf ws ls) a
-  unfolding measured refused done
+  unfolding measured refused done SizesWritten
   measured-sizes a e z = go (look (eqb (verdict ws ls .number) 0))
     where
       go : Is (eqb (verdict ws ls .number) 0)
@@ -82,10 +82,11 @@ module _ (ws ls : List ℕ) where
     sizes-answered = ap (λ (p : Outcome Sizes FormBuffers). p .answer .sizes) (lifted-is .1)
 
   pub lifted-sizes : (before : FormBuffers) (o : Outcome Sizes FormBuffers) → o ≡ lifted ws ls before → SizesWritten (tableOf ws ls) (o .answer)
+  unfolding SizesWritten
   lifted-sizes before o e z = sizes-are (lifted-is before o e z .0) (o .answer .sizes) (sizes-answered before o e z)
 
   pub lifted-form : (before : FormBuffers) (o : Outcome Sizes FormBuffers) → o ≡ lifted ws ls before → FormWritten (tableOf ws ls) o
-  unfolding written
+  unfolding written FormWritten
   lifted-form before o e z =
       let t = tableOf ws ls in
       let d = lifted-is before o e z in

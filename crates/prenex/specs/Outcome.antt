@@ -68,11 +68,11 @@ abbrev pub after : Answer → FormBuffers → Outcome Sizes FormBuffers
 after r held = record { answer = answerOf r; buffers = held }
 
 -- If done, the sizes that are answered are those of what lifting writes.
-abbrev pub SizesWritten : Table → AnswerWith Sizes → Type 0
+unfoldable pub SizesWritten : Table → AnswerWith Sizes → Type 0
 SizesWritten t a = a .verdict .number ≡ 0 → SizesOf (a .sizes) (writtenNodes t) (writtenPrefix t) (writtenVariables t)
 
 -- If done, what stands in the buffers, as far as the sizes say, is a prenex form of the table.
-abbrev pub FormWritten : Table → Outcome Sizes FormBuffers → Type 0
+unfoldable pub FormWritten : Table → Outcome Sizes FormBuffers → Type 0
 FormWritten t o =
     let s = o .answer .sizes in
     let held = o .buffers in

@@ -1,10 +1,6 @@
 -- `wakubinryo_tables::wakubinryo_lift` meets its contract.
 -- Assumes nothing.
-use mathlib.Core.Path.{sym, subst}
-use Rattle.refusals.specs.Outcome.{AnswerWith}
-use Rattle.prenex_form.specs.declared.Sizes.{Sizes}
-use Rattle.prenex.specs.Outcome.{SizesWritten, FormWritten}
-use Rattle.wakubinryo_tables.proofs.Answers.{said}
+use Rattle.wakubinryo_tables.proofs.Answers.{said, sizes-said, form-said}
 use borrow.Author.Needs.{needs}
 use Rattle.wakubinryo_tables.proofs.wakubinryo_lift.Statement.{statement}
 use Rattle.wakubinryo_tables.proofs.wakubinryo_lift.Tie as tie
@@ -27,13 +23,8 @@ same-length-3 c = search needs
 returns : tie.Need-returns
 returns c =
     let f = c .before .before .before .before .before .before .before .lift .ensures in
-    let e = c .put-answer .ensures in (
-      said _ _ _ _ e (f .0),
-      (
-        subst (SizesWritten _) (sym e) (f .1 .0),
-        subst (λ (a : AnswerWith Sizes). FormWritten _ (record { answer = a; buffers = _ })) (sym e) (f .1 .1),
-      ),
-    )
+    let e = c .put-answer .ensures in
+    (said _ _ _ _ e (f .0), (sizes-said _ _ _ e (f .1 .0), form-said _ _ _ e _ (f .1 .1)))
 
 pub wakubinryo-lift-spec : {M : Type 1} → statement M
 wakubinryo-lift-spec =
