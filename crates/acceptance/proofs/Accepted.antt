@@ -242,23 +242,23 @@ module _ (lim : Limits) (ws ls : List ℕ) (i : ℕ) where
       → badVariable lim ls (wordsAt ws i) ≡ false
   good-clear p q = bad-node ∙ ap not (and-both _ _ p q)
 
--- The sum of counts stays within the limit where no block brings it over.
-module _ (lim : Limits) (ws : List ℕ) where
-  few-next : (i : ℕ) → Is (isBlockKind (field ws i 0)) → tooManyVariables (lim .counts) ws i ≡ false → sum (countAt ws) i ≤ lim .counts → sum (countAt ws) i + countAt ws i ≤ lim .counts
+-- The sum of counts stays within `most` where no block brings it over.
+module _ (most : ℕ) (ws : List ℕ) where
+  few-next : (i : ℕ) → Is (isBlockKind (field ws i 0)) → tooManyVariables most ws i ≡ false → sum (countAt ws) i ≤ most → sum (countAt ws) i + countAt ws i ≤ most
   unfolding tooManyVariables
   few-next i (is-true b) t s = rw (count-block ws i b) (ltb-false _ _ (and-when _ _ t b))
   few-next i (is-false b) t s = rw (count-none ws i b) (omega arith)
 
-  few-sum : (n : ℕ) → ((i : ℕ) → i < n → tooManyVariables (lim .counts) ws i ≡ false) → sum (countAt ws) n ≤ lim .counts
+  pub counts-few : (n : ℕ) → ((i : ℕ) → i < n → tooManyVariables most ws i ≡ false) → sum (countAt ws) n ≤ most
   unfolding sum
-  few-sum zero h = omega arith
-  few-sum (suc n) h = few-next n (look (isBlockKind (field ws n 0))) (h n (omega arith)) (few-sum n (λ i l. h i (omega arith)))
+  counts-few zero h = omega arith
+  counts-few (suc n) h = few-next n (look (isBlockKind (field ws n 0))) (h n (omega arith)) (counts-few n (λ i l. h i (omega arith)))
 
-  sum-few : (i n : ℕ) → i < n → sum (countAt ws) n ≤ lim .counts → tooManyVariables (lim .counts) ws i ≡ false
+  sum-few : (i n : ℕ) → i < n → sum (countAt ws) n ≤ most → tooManyVariables most ws i ≡ false
   unfolding tooManyVariables sum
   sum-few i n l h =
       let g = sum-grows (countAt ws) (suc i) n l in
-      and-not (isBlockKind (field ws i 0)) _ (λ b. le-ltb (lim .counts) (sum (countAt ws) i + field ws i 2) (omega (arith, count-block ws i b)))
+      and-not (isBlockKind (field ws i 0)) _ (λ b. le-ltb most (sum (countAt ws) i + field ws i 2) (omega (arith, count-block ws i b)))
 
 module _ (lim : Limits) (ws ls : List ℕ) where
   partial-length : partialNode ws ≡ false → (0 < length ws) × (length ws % width ≡ 0)
@@ -296,7 +296,7 @@ module _ (lim : Limits) (ws ls : List ℕ) where
         };
         nodes-limit = few-nodes lim ws ls (r .sizes .small);
         list-limit = list-short lim ws ls (r .sizes .small);
-        counts-limit = omega (arith, few-sum lim ws (nodeCount ws) (λ i h. r .clear i h .few));
+        counts-limit = omega (arith, counts-few (lim .counts) ws (nodeCount ws) (λ i h. r .clear i h .few));
         formed = λ i h. r .clear i h .formed;
         fits = λ i h. clear-fits lim ws ls i (r .clear i h);
         numbered = λ i h. clear-numbered lim ws ls i (r .clear i h);
@@ -317,7 +317,7 @@ module _ (lim : Limits) (ws ls : List ℕ) where
               formed = r .formed i h;
               lower = lower-clear lim ws ls i (λ a m. r .proper .tree .lower i a h m);
               fits = fits-clear lim ws ls i (r .fits i h);
-              few = sum-few lim ws i (nodeCount ws) h few;
+              few = sum-few (lim .counts) ws i (nodeCount ws) h few;
               good = good-clear lim ws ls i (r .numbered i h) (r .proper .apart i h);
             };
         once = λ i h. named-once i (r .proper .tree .once i h);

@@ -9,11 +9,11 @@ use lib.Dec.{eqb}
 use lib.ListN.{length, getD}
 use borrow.Author.Tests.{ne-eqb}
 use Rattle.lists.specs.Choice.{pick, clash}
-use Rattle.formula.specs.Node.{exists, for-all, Node, constant, variable, negation, operator, block, isBlock}
+use Rattle.formula.specs.Node.{Quantifier, exists, for-all, Node, constant, variable, negation, operator, block, isBlock}
 use Rattle.formula.specs.Truth.{digit}
-use Rattle.formula.specs.Words.{width, field, isBlockKind, range, wordsAt, nodeOf, wordsOf, wordList, nodeAt}
+use Rattle.formula.specs.Words.{width, field, isBlockKind, range, wordsAt, nodeOf, wordsOf, blockWords, wordList, nodeAt}
 use Rattle.formula.specs.declared.NodeWords.{NodeWords}
-use Rattle.formula.specs.Form.{quantifierOf}
+use Rattle.formula.specs.Form.{quantifierOf, kindOf}
 
 -- The words of a node, read back.
 
@@ -29,6 +29,16 @@ words-node ls (variable x) h = refl
 words-node ls (negation a) h = refl
 words-node ls (operator f a b) h = refl
 words-node ls (block q xs a) h = clash refl h
+
+pub block-words-node : (ls : List ℕ) (q : Quantifier) (first count body : ℕ) → nodeOf ls (blockWords (kindOf q) first count body) ≡ block q (range ls first count) body
+unfolding blockWords kindOf nodeOf pick
+block-words-node ls exists first count body = refl
+block-words-node ls for-all first count body = refl
+
+pub block-kind-of : (q : Quantifier) → isBlockKind (kindOf q) ≡ true
+unfolding kindOf isBlockKind
+block-kind-of exists = refl
+block-kind-of for-all = refl
 
 pub wordList-length : (w : NodeWords) → length (wordList w) ≡ width
 unfolding wordList

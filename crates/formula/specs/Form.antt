@@ -25,6 +25,10 @@ prefixWidth = 3
 unfoldable pub quantifierOf : ℕ → Quantifier
 quantifierOf kind = pick (eqb kind 5) exists for-all
 
+unfoldable pub kindOf : Quantifier → ℕ
+kindOf exists = 5
+kindOf for-all = 6
+
 -- Block j of a prefix.
 unfoldable pub blockAt : List ℕ → List ℕ → ℕ → Block
 blockAt ps xs j =

@@ -54,6 +54,10 @@ wordsOf (negation i) = record { kind = 3; a = i; b = 0; c = 0 }
 wordsOf (operator f i j) = record { kind = 4; a = f; b = i; c = j }
 wordsOf (block q xs i) = record { kind = 0; a = 0; b = 0; c = 0 }
 
+-- The words of a block, by its kind: "first list entry, count, body".
+unfoldable pub blockWords : ℕ → ℕ → ℕ → ℕ → NodeWords
+blockWords kind first count body = record { kind = kind; a = first; b = count; c = body }
+
 -- A node's words in the order in which they stand in a table.
 unfoldable pub wordList : NodeWords → List ℕ
 wordList w = w .kind ∷ w .a ∷ w .b ∷ w .c ∷ []

@@ -5,8 +5,8 @@ ghost use mathlib.Core.Path.{_≡_};
 ghost use Prim.Native.Nat.{_+_, _*_, _≤_};
 ghost use lib.ListN.{length};
 ghost use Rattle.lists.specs.Parts.{overwrite};
-ghost use Rattle.formula.specs.Node.{variable, operator};
-ghost use Rattle.formula.specs.Words.{width, isBlockKind, wordsAt, wordsOf, wordList};
+ghost use Rattle.formula.specs.Node.{constant, variable, negation, operator};
+ghost use Rattle.formula.specs.Words.{width, isBlockKind, wordsAt, wordsOf, blockWords, wordList};
 
 // The words of a node: a kind and three fields. Nothing else says how many there are.
 pub const WIDTH: usize = 4;
@@ -65,6 +65,18 @@ pub fn put_node(nodes: &mut [u32], at: usize, node: NodeWords)
     nodes[first + 3] = node.c;
 }
 
+// The words of a constant.
+pub fn constant_node(value: bool) -> NodeWords
+    ensures { λ r. ⌜ r ≡ wordsOf (constant value) ⌝ }
+{
+    NodeWords {
+        kind: CONSTANT,
+        a: value as u32,
+        b: 0,
+        c: 0,
+    }
+}
+
 // The words of a variable node.
 pub fn variable_node(x: u32) -> NodeWords
     ensures { λ r. ⌜ r ≡ wordsOf (variable x) ⌝ }
@@ -72,6 +84,18 @@ pub fn variable_node(x: u32) -> NodeWords
     NodeWords {
         kind: VARIABLE,
         a: x,
+        b: 0,
+        c: 0,
+    }
+}
+
+// The words of a not node.
+pub fn negation_node(operand: u32) -> NodeWords
+    ensures { λ r. ⌜ r ≡ wordsOf (negation operand) ⌝ }
+{
+    NodeWords {
+        kind: NEGATION,
+        a: operand,
         b: 0,
         c: 0,
     }
@@ -86,5 +110,17 @@ pub fn operator_node(table: u32, left: u32, right: u32) -> NodeWords
         a: table,
         b: left,
         c: right,
+    }
+}
+
+// The words of a block of this kind.
+pub fn block_node(kind: u32, first: u32, count: u32, body: u32) -> NodeWords
+    ensures { λ r. ⌜ r ≡ blockWords kind first count body ⌝ }
+{
+    NodeWords {
+        kind,
+        a: first,
+        b: count,
+        c: body,
     }
 }

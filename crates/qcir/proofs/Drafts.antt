@@ -11,14 +11,18 @@ use borrow.Author.Tests.{ltb-true, ltb-false, lt-ltb, le-ltb, le-leb, eqb-true, 
 use Rattle.lists.specs.Choice.{pick, pick-yes, pick-no, Is, is-true, is-false, look, clash, or-cases}
 use Rattle.lists.specs.Members.{mem, all, distinct, times}
 use Rattle.lists.proofs.Members.{mem-one}
-use Rattle.formula.specs.Node.{Quantifier, exists, for-all, block, Table, operands, bound}
-use Rattle.formula.specs.Words.{nodeCount, isBlockKind, nodeOf, tableOf}
+use Rattle.formula.specs.Node.{Quantifier, exists, for-all, constant, variable, negation, operator, block, Table, operands, bound, isBlock}
+use Rattle.formula.specs.Words.{nodeCount, isBlockKind, nodeOf, wordsOf, blockWords, tableOf}
+use Rattle.formula.specs.Form.{kindOf}
+use Rattle.formula.specs.declared.NodeWords.{NodeWords}
 use Rattle.formula.specs.Valuation.{Valuation, quant}
-use Rattle.formula.specs.Truth.{operatorValue}
+use Rattle.formula.specs.Truth.{digit, operatorValue}
 use Rattle.formula.specs.Tree.{timesNamed}
+use Rattle.formula.proofs.Nodes.{words-node, block-words-node}
+use Rattle.acceptance.specs.Limits.{tableLimits}
 use Rattle.acceptance.specs.Verdict.{isNumber, wellFormed}
 use Rattle.qcir.specs.Meaning.{Meaning}
-use Rattle.qcir.specs.Table.{Draft, Stored, store, storeBlock, blockKind}
+use Rattle.qcir.specs.Table.{Draft, Stored, store, storeBlock}
 use Rattle.qcir.proofs.StoredWords.{withNode, Extends, extends-same, extends-append, range-appended, count-with}
 use Rattle.qcir.proofs.StoredValues.{Kept, Stands, stands-kept, stands-constant, stands-variable, stands-negation, stands-operator, stands-block}
 use Rattle.qcir.proofs.StoredNodes.{Sound, Fresh, new, sound-more, kept-with, named-more}
@@ -82,42 +86,42 @@ pub record Stores (R : Type 0) (d : Draft) (hand uses : List ℕ) (m : Meaning) 
   pub gate : (x : ℕ) → s .draft .gate x ≡ d .gate x
 
 -- The draft d with one node more.
-abbrev nextDraft : Draft → List ℕ → ℕ → ℕ → ℕ → ℕ → Draft
-nextDraft d ls' kind a b c = record { words = withNode (d .words) kind a b c; entries = ls'; gate = d .gate }
+abbrev nextDraft : Draft → List ℕ → NodeWords → Draft
+nextDraft d ls' w = record { words = withNode (d .words) w; entries = ls'; gate = d .gate }
 
 module _ (R : Type 0) (d : Draft) (hand' hand uses : List ℕ) (m : Meaning) (holds : Holds R d hand' uses m)
-    (ls' : List ℕ) (kind a b c : ℕ) (ext : Extends (d .entries) ls') (fresh : Fresh R (d .words) (d .entries) ls' kind a b c)
-    (taken : (k : ℕ) → times k hand' ≡ times k (operands (nodeOf ls' kind a b c)) + times k hand) where
-  holds-more : Holds R (nextDraft d ls' kind a b c) (nodeCount (d .words) ∷ hand) uses m
+    (ls' : List ℕ) (w : NodeWords) (ext : Extends (d .entries) ls') (fresh : Fresh R (d .words) (d .entries) ls' w)
+    (taken : (k : ℕ) → times k hand' ≡ times k (operands (nodeOf ls' w)) + times k hand) where
+  holds-more : Holds R (nextDraft d ls' w) (nodeCount (d .words) ∷ hand) uses m
   holds-more =
       let sound = holds .sound in
       record {
-        sound = sound-more R (d .words) (d .entries) ls' kind a b c sound ext fresh;
+        sound = sound-more R (d .words) (d .entries) ls' w sound ext fresh;
         once = λ k.
             omega (
               arith,
               holds .once k,
               taken k,
               times-cons k (nodeCount (d .words)) hand,
-              named-more R (d .words) (d .entries) ls' kind a b c sound ext fresh k,
-              below-more k (nodeCount (d .words)) (nodeCount (withNode (d .words) kind a b c)) (count-with (d .words) (sound .whole) kind a b c),
+              named-more R (d .words) (d .entries) ls' w sound ext fresh k,
+              below-more k (nodeCount (d .words)) (nodeCount (withNode (d .words) w)) (count-with (d .words) (sound .whole) w),
             );
-        gates = λ x k e. stands-kept (kept-with R (d .words) (d .entries) ls' kind a b c sound ext fresh) (holds .gates x k e);
+        gates = λ x k e. stands-kept (kept-with R (d .words) (d .entries) ls' w sound ext fresh) (holds .gates x k e);
         variables = holds .variables;
       }
 
   stores-more : (g : Valuation → Bool)
-      → ((t : Table) → Kept (draftTable d) t → nodeCount (d .words) < t .size → t .node (nodeCount (d .words)) ≡ nodeOf ls' kind a b c → Stands t (nodeCount (d .words)) g)
-      → Stores R d hand uses m g (record { draft = nextDraft d ls' kind a b c; node = nodeCount (d .words) })
+      → ((t : Table) → Kept (draftTable d) t → nodeCount (d .words) < t .size → t .node (nodeCount (d .words)) ≡ nodeOf ls' w → Stands t (nodeCount (d .words)) g)
+      → Stores R d hand uses m g (record { draft = nextDraft d ls' w; node = nodeCount (d .words) })
   unfolding tableOf
   stores-more g h =
       let sound = holds .sound in
-      let kept = kept-with R (d .words) (d .entries) ls' kind a b c sound ext fresh in
+      let kept = kept-with R (d .words) (d .entries) ls' w sound ext fresh in
       record {
         holds = holds-more;
-        stands = h (tableOf (withNode (d .words) kind a b c) ls') kept
-            (omega (arith, count-with (d .words) (sound .whole) kind a b c))
-            (new R (d .words) (d .entries) ls' kind a b c sound ext fresh);
+        stands = h (tableOf (withNode (d .words) w) ls') kept
+            (omega (arith, count-with (d .words) (sound .whole) w))
+            (new R (d .words) (d .entries) ls' w sound ext fresh);
         kept = kept;
         gate = λ x. refl;
       }
@@ -134,31 +138,35 @@ unfolding mem
 mem-two x a b P p q h =
     or-cases (eqb x a) (eqb x b || false) h (λ e. subst P (sym (eqb-true x a e)) p) (λ e. subst P (sym (mem-just x b e)) q)
 
-block-node : (ls : List ℕ) (q : Quantifier) (xs : List ℕ) (a : ℕ) → nodeOf (ls ++ xs) (blockKind q) (length ls) (length xs) a ≡ block q xs a
-unfolding nodeOf pick blockKind
-block-node ls exists xs a = ap (λ ys. block exists ys a) (range-appended ls xs)
-block-node ls for-all xs a = ap (λ ys. block for-all ys a) (range-appended ls xs)
+block-node : (ls : List ℕ) (q : Quantifier) (xs : List ℕ) (a : ℕ) → nodeOf (ls ++ xs) (blockWords (kindOf q) (length ls) (length xs) a) ≡ block q xs a
+block-node ls q xs a =
+    block-words-node (ls ++ xs) q (length ls) (length xs) a ∙ ap (λ ys. block q ys a) (range-appended ls xs)
 
-block-formed : (q : Quantifier) (a b c : ℕ) → wellFormed (blockKind q) a b c ≡ true
-unfolding wellFormed blockKind isBlockKind
+block-formed : (q : Quantifier) (a b c : ℕ) → wellFormed tableLimits (blockWords (kindOf q) a b c) ≡ true
+unfolding wellFormed blockWords kindOf isBlockKind
 block-formed exists a b c = refl
 block-formed for-all a b c = refl
 
+digit-small : (b : Bool) → digit b ≤ 1
+unfolding digit
+digit-small true = omega arith
+digit-small false = omega arith
+
 -- Nodes to be stored, by their kinds.
 module _ (R : Type 0) (ws ls : List ℕ) where
-  constant-fresh : (b : ℕ) → b ≤ 1 → Fresh R ws ls ls 1 b 0 0
-  unfolding nodeOf pick operands bound isBlockKind wellFormed mem distinct all
-  constant-fresh b l =
+  constant-fresh : (b : Bool) → Fresh R ws ls ls (wordsOf (constant b))
+  unfolding nodeOf wordsOf pick operands bound isBlockKind wellFormed mem distinct all
+  constant-fresh b =
       record {
         fits = λ k. clash k refl;
         lower = λ x h. clash h refl;
         apart = refl;
-        formed = λ r. rw (le-leb b 1 l);
+        formed = λ r. rw (le-leb (digit b) 1 (digit-small b));
         numbered = λ r. refl;
       }
 
-  variable-fresh : (x : ℕ) → (R → isNumber x ≡ true) → Fresh R ws ls ls 2 x 0 0
-  unfolding nodeOf pick operands bound isBlockKind wellFormed mem distinct all
+  variable-fresh : (x : ℕ) → (R → isNumber x ≡ true) → Fresh R ws ls ls (wordsOf (variable x))
+  unfolding nodeOf wordsOf pick operands bound isBlockKind wellFormed mem distinct all
   variable-fresh x n =
       record {
         fits = λ k. clash k refl;
@@ -168,8 +176,8 @@ module _ (R : Type 0) (ws ls : List ℕ) where
         numbered = λ r. refl;
       }
 
-  negation-fresh : (a : ℕ) → a < nodeCount ws → Fresh R ws ls ls 3 a 0 0
-  unfolding nodeOf pick operands bound isBlockKind wellFormed distinct all
+  negation-fresh : (a : ℕ) → a < nodeCount ws → Fresh R ws ls ls (wordsOf (negation a))
+  unfolding nodeOf wordsOf pick operands bound isBlockKind wellFormed distinct all
   negation-fresh a l =
       record {
         fits = λ k. clash k refl;
@@ -179,8 +187,8 @@ module _ (R : Type 0) (ws ls : List ℕ) where
         numbered = λ r. refl;
       }
 
-  operator-fresh : (o a b : ℕ) → o ≤ 15 → a < nodeCount ws → b < nodeCount ws → Fresh R ws ls ls 4 o a b
-  unfolding nodeOf pick operands bound isBlockKind wellFormed distinct all
+  operator-fresh : (o a b : ℕ) → o ≤ 15 → a < nodeCount ws → b < nodeCount ws → Fresh R ws ls ls (wordsOf (operator o a b))
+  unfolding nodeOf wordsOf pick operands bound isBlockKind wellFormed distinct all
   operator-fresh o a b l p q =
       record {
         fits = λ k. clash k refl;
@@ -191,8 +199,8 @@ module _ (R : Type 0) (ws ls : List ℕ) where
       }
 
   block-fresh : (q : Quantifier) (xs : List ℕ) (a : ℕ) → a < nodeCount ws → distinct xs ≡ true → (R → all isNumber xs ≡ true)
-      → Fresh R ws ls (ls ++ xs) (blockKind q) (length ls) (length xs) a
-  unfolding operands bound
+      → Fresh R ws ls (ls ++ xs) (blockWords (kindOf q) (length ls) (length xs) a)
+  unfolding operands bound blockWords
   block-fresh q xs a l u n =
       let e = block-node ls q xs a in
       record {
@@ -205,33 +213,33 @@ module _ (R : Type 0) (ws ls : List ℕ) where
 
 -- One node more, by its kind.
 module _ (R : Type 0) (d : Draft) (hand uses : List ℕ) (m : Meaning) where
-  pub new-constant : Holds R d hand uses m → (b : ℕ) → b ≤ 1 → Stores R d hand uses m (λ v. eqb b 1) (store d 1 b 0 0)
-  unfolding store nodeOf pick operands
-  new-constant holds b l =
-      stores-more R d hand hand uses m holds (d .entries) 1 b 0 0 (extends-same (d .entries)) (constant-fresh R (d .words) (d .entries) b l)
-      (λ k. omega (arith, times-none k)) (λ v. eqb b 1)
-      (λ t k low e. stands-constant t _ low (eqb b 1) e)
+  pub new-constant : Holds R d hand uses m → (b : Bool) → Stores R d hand uses m (λ v. b) (store d (wordsOf (constant b)))
+  unfolding store nodeOf wordsOf pick operands isBlock
+  new-constant holds b =
+      stores-more R d hand hand uses m holds (d .entries) (wordsOf (constant b)) (extends-same (d .entries)) (constant-fresh R (d .words) (d .entries) b)
+      (λ k. omega (arith, times-none k)) (λ v. b)
+      (λ t k low e. stands-constant t _ low b (e ∙ words-node (d .entries) (constant b) refl))
 
-  pub new-variable : Holds R d hand uses m → (x : ℕ) → (R → isNumber x ≡ true) → Stores R d hand uses m (λ v. v x) (store d 2 x 0 0)
-  unfolding store nodeOf pick operands
+  pub new-variable : Holds R d hand uses m → (x : ℕ) → (R → isNumber x ≡ true) → Stores R d hand uses m (λ v. v x) (store d (wordsOf (variable x)))
+  unfolding store nodeOf wordsOf pick operands
   new-variable holds x r =
-      stores-more R d hand hand uses m holds (d .entries) 2 x 0 0 (extends-same (d .entries)) (variable-fresh R (d .words) (d .entries) x r)
+      stores-more R d hand hand uses m holds (d .entries) (wordsOf (variable x)) (extends-same (d .entries)) (variable-fresh R (d .words) (d .entries) x r)
       (λ k. omega (arith, times-none k)) (λ v. v x)
       (λ t k low e. stands-variable t _ low x e)
 
   pub new-negation : (a : ℕ) (g : Valuation → Bool) → Holds R d (a ∷ hand) uses m → Stands (draftTable d) a g
-      → Stores R d hand uses m (λ v. not (g v)) (store d 3 a 0 0)
-  unfolding store nodeOf pick operands tableOf
+      → Stores R d hand uses m (λ v. not (g v)) (store d (wordsOf (negation a)))
+  unfolding store nodeOf wordsOf pick operands tableOf
   new-negation a g holds p =
-      stores-more R d (a ∷ hand) hand uses m holds (d .entries) 3 a 0 0 (extends-same (d .entries)) (negation-fresh R (d .words) (d .entries) a (p .low))
+      stores-more R d (a ∷ hand) hand uses m holds (d .entries) (wordsOf (negation a)) (extends-same (d .entries)) (negation-fresh R (d .words) (d .entries) a (p .low))
       (λ k. times-cons k a hand) (λ v. not (g v))
       (λ t k low e. stands-negation t _ low a g e (p .low) (stands-kept k p))
 
   pub new-operator : (o a b : ℕ) (g h : Valuation → Bool) → o ≤ 15 → Holds R d (b ∷ a ∷ hand) uses m → Stands (draftTable d) a g → Stands (draftTable d) b h
-      → Stores R d hand uses m (λ v. operatorValue o (g v) (h v)) (store d 4 o a b)
-  unfolding store nodeOf pick operands tableOf
+      → Stores R d hand uses m (λ v. operatorValue o (g v) (h v)) (store d (wordsOf (operator o a b)))
+  unfolding store nodeOf wordsOf pick operands tableOf
   new-operator o a b g h l holds p q =
-      stores-more R d (b ∷ a ∷ hand) hand uses m holds (d .entries) 4 o a b (extends-same (d .entries))
+      stores-more R d (b ∷ a ∷ hand) hand uses m holds (d .entries) (wordsOf (operator o a b)) (extends-same (d .entries))
       (operator-fresh R (d .words) (d .entries) o a b l (p .low) (q .low))
       (λ k. omega (arith, times-cons k b (a ∷ hand), times-cons k a hand, times-cons k a (b ∷ [])))
       (λ v. operatorValue o (g v) (h v))
@@ -243,7 +251,7 @@ module _ (R : Type 0) (d : Draft) (hand uses : List ℕ) (m : Meaning) where
   unfolding storeBlock store operands tableOf
   new-block q xs a g u r holds p =
       let e = block-node (d .entries) q xs a in
-      stores-more R d (a ∷ hand) hand uses m holds (d .entries ++ xs) (blockKind q) (length (d .entries)) (length xs) a (extends-append (d .entries) xs)
+      stores-more R d (a ∷ hand) hand uses m holds (d .entries ++ xs) (blockWords (kindOf q) (length (d .entries)) (length xs) a) (extends-append (d .entries) xs)
       (block-fresh R (d .words) (d .entries) q xs a (p .low) u r)
       (λ k. rw e (times-cons k a hand)) (quant q xs g)
       (λ t k low n. stands-block t _ low q xs a g (n ∙ e) (p .low) (stands-kept k p))

@@ -11,7 +11,8 @@ use Rattle.lists.specs.Choice.{pick, pick-yes, pick-no, Is, is-true, is-false, 
 use Rattle.lists.specs.Members.{mem, all, distinct, times}
 use Rattle.lists.specs.Parts.{sum}
 use Rattle.lists.proofs.Members.{mem-head, mem-tail, mem-left, mem-right, all-intro}
-use Rattle.formula.specs.Words.{tableOf}
+use Rattle.formula.specs.Node.{variable, operator}
+use Rattle.formula.specs.Words.{wordsOf, tableOf}
 use Rattle.formula.specs.Valuation.{Valuation}
 use Rattle.formula.specs.Truth.{bit, digit, operatorValue}
 use Rattle.formula.specs.Tree.{timesNamed}
@@ -77,7 +78,7 @@ unfolding junctionTable junctionValue
 junction-folded m conjunction l ls v = and-folded m (literalValue m l) ls v
 junction-folded m disjunction l ls v = or-folded m (literalValue m l) ls v
 
-junction-empty : (m : Meaning) (j : Junction) (v : Valuation) → eqb (emptyValue j) 1 ≡ junctionValue m j [] v
+junction-empty : (m : Meaning) (j : Junction) (v : Valuation) → emptyValue j ≡ junctionValue m j [] v
 unfolding emptyValue junctionValue
 junction-empty m conjunction v = refl
 junction-empty m disjunction v = refl
@@ -86,11 +87,6 @@ table-small : (j : Junction) → junctionTable j ≤ 15
 unfolding junctionTable
 table-small conjunction = omega arith
 table-small disjunction = omega arith
-
-empty-small : (j : Junction) → emptyValue j ≤ 1
-unfolding emptyValue
-empty-small conjunction = omega arith
-empty-small disjunction = omega arith
 
 -- a node and its gate entry, which is one more
 times-shift : (k a : ℕ) → times (suc k) (suc a ∷ []) ≡ times k (a ∷ [])
@@ -210,7 +206,7 @@ module _ (R : Type 0) where
     unfolding storeName
     name-stores x r p = go (look (eqb (d .gate x) 0))
       where
-        go : Is (eqb (d .gate x) 0) → Stores R d hand uses m (m x) (pick (eqb (d .gate x) 0) (store d 2 x 0 0) (record { draft = d; node = d .gate x - 1 }))
+        go : Is (eqb (d .gate x) 0) → Stores R d hand uses m (m x) (pick (eqb (d .gate x) 0) (store d (wordsOf (variable x))) (record { draft = d; node = d .gate x - 1 }))
         go (is-true e) =
             let z : d .gate x ≡ 0 = eqb-true _ _ e in
             let q : Holds R d hand uses m =
@@ -265,7 +261,7 @@ module _ (R : Type 0) where
       let a = literal-stores (s .draft) (s .node ∷ hand) (numbersOf (namesOf ls) ++ uses) m l (λ h. r h _ (mem-head _ _)) p in
       let b = new-operator R (e .draft) hand (numbersOf (namesOf ls) ++ uses) m t (s .node) (e .node) g (literalValue m l) small (a .holds) (stands-kept (a .kept) q) (a .stands) in
       stores-after (kept-more (a .kept) (b .kept)) (λ x. b .gate x ∙ a .gate x)
-      (inputs-stores t small (store (e .draft) 4 t (s .node) (e .node)) hand uses m (λ v. operatorValue t (g v) (literalValue m l v)) ls
+      (inputs-stores t small (store (e .draft) (wordsOf (operator t (s .node) (e .node)))) hand uses m (λ v. operatorValue t (g v) (literalValue m l v)) ls
       (λ h x i. r h x (mem-tail x (l .name .number) (numbersOf (namesOf ls)) i)) (b .holds) (b .stands))
 
   -- a first input, and those that follow
@@ -283,7 +279,7 @@ module _ (R : Type 0) where
       → Holds R d hand (numbersOf (namesOf (gateInputs g)) ++ uses) m → Stores R d hand uses m (gateValue m g) (storeGate d g)
   unfolding gateInputs gateVariables storeGate storeInputs gateValue folded numbersOf namesOf
   gate-stores d hand uses m (junction-gate j g []) r u n p =
-      stores-as (junction-empty m j) (new-constant R d hand uses m p (emptyValue j) (empty-small j))
+      stores-as (junction-empty m j) (new-constant R d hand uses m p (emptyValue j))
   gate-stores d hand uses m (junction-gate j g (l ∷ ls)) r u n p =
       stores-as (junction-folded m j l ls) (gate-inputs (junctionTable j) (table-small j) d hand uses m l ls r p)
   gate-stores d hand uses m (xor-gate g l k) r u n p =

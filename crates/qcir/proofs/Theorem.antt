@@ -20,19 +20,18 @@ use Rattle.formula.specs.Truth.{truth}
 use Rattle.formula.specs.Tree.{timesNamed, Tree}
 use Rattle.refusals.specs.Verdict.{accepted}
 use Rattle.acceptance.specs.Limits.{limit}
-use Rattle.acceptance.specs.Verdict.{countAt, verdict}
+use Rattle.acceptance.specs.Verdict.{countAt, tooManyVariables, verdict}
 use Rattle.acceptance.specs.Accepted.{Accepted}
-use Rattle.acceptance.proofs.Accepted.{counts-below, holds-accepted}
+use Rattle.acceptance.proofs.Accepted.{counts-below, counts-few, holds-accepted}
 use Rattle.qcir.specs.File.{File}
 use Rattle.qcir.specs.Meaning.{Meaning, literalValue, meaning, prefixValue, fileTruth}
 use Rattle.qcir.specs.Refusals.{misplaced, notUsedOnce}
 use Rattle.qcir.specs.Table.{Stored, storeLiteral, storeGates, storePrefix, emptyDraft, fileDraft, tableWords, tableList}
-use Rattle.qcir.specs.Reading.{exceeds}
 use Rattle.qcir.proofs.Numbers.{Ranged}
 use Rattle.qcir.proofs.GateLines.{gate-lines, prefix-proper, output-ranged}
 use Rattle.qcir.proofs.StoredValues.{kept-same}
 use Rattle.qcir.proofs.StoredNodes.{Sound}
-use Rattle.qcir.proofs.StoredCounts.{file-counts, counts-few}
+use Rattle.qcir.proofs.StoredCounts.{file-counts}
 use Rattle.qcir.proofs.Drafts.{below, below-yes, times-other, Holds, Stores}
 use Rattle.qcir.proofs.StoredGates.{empty-holds, gates-hold, literal-stores, prefix-stores}
 
@@ -45,7 +44,7 @@ pub table-entries : (f : File) → sum (countAt (tableWords f)) (nodeCount (tabl
 table-entries f = file-counts f .counted
 
 -- .. and they are few where no block brings the sum of counts over the limit.
-pub table-few : (most : ℕ) (f : File) → ((i : ℕ) → i < nodeCount (tableWords f) → exceeds most (tableWords f) i ≡ false) → length (tableList f) ≤ most
+pub table-few : (most : ℕ) (f : File) → ((i : ℕ) → i < nodeCount (tableWords f) → tooManyVariables most (tableWords f) i ≡ false) → length (tableList f) ≤ most
 table-few most f h = omega (arith, table-entries f, counts-few most (tableWords f) (nodeCount (tableWords f)) h)
 
 -- What each name of a file stands for, and its nodes with the one that stands for the whole.
@@ -133,7 +132,7 @@ pub table-truth : (f : File) → misplaced f ≡ [] → notUsedOnce f ≡ [] →
 table-truth = value-root
 
 module _ (f : File) (ranged : Ranged f) (placed : misplaced f ≡ []) (used : notUsedOnce f ≡ []) (nodes : nodeCount (tableWords f) ≤ limit)
-    (counts : (i : ℕ) → i < nodeCount (tableWords f) → exceeds limit (tableWords f) i ≡ false) where
+    (counts : (i : ℕ) → i < nodeCount (tableWords f) → tooManyVariables limit (tableWords f) i ≡ false) where
   holds : Accepted (tableWords f) (tableList f)
   unfolding tableOf
   holds =
@@ -155,5 +154,5 @@ module _ (f : File) (ranged : Ranged f) (placed : misplaced f ≡ []) (used : no
 
 -- Within the limits the table checker accepts it.
 pub table-accepted : (f : File) → Ranged f → misplaced f ≡ [] → notUsedOnce f ≡ [] → nodeCount (tableWords f) ≤ limit
-    → ((i : ℕ) → i < nodeCount (tableWords f) → exceeds limit (tableWords f) i ≡ false) → verdict (tableWords f) (tableList f) ≡ accepted
+    → ((i : ℕ) → i < nodeCount (tableWords f) → tooManyVariables limit (tableWords f) i ≡ false) → verdict (tableWords f) (tableList f) ≡ accepted
 table-accepted = accepts

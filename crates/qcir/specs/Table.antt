@@ -2,13 +2,16 @@
 -- not, an operator right after its second operand; then the output's nodes, then the prefix lines as blocks, the last line lowest.
 -- Stretches follow one another in node order."
 -- Assumes nothing.
+use mathlib.Core.Bool.{Bool, true, false}
 use mathlib.Core.List.{List, [], _∷_, _++_}
 use Prim.Native.Nat.{ℕ, suc, _-_}
 use lib.Dec.{eqb}
 use lib.ListN.{length}
 use Rattle.lists.specs.Choice.{pick}
-use Rattle.formula.specs.Node.{Quantifier, exists, for-all}
-use Rattle.formula.specs.Words.{nodeCount}
+use Rattle.formula.specs.Node.{Quantifier, constant, variable, negation, operator}
+use Rattle.formula.specs.Words.{nodeCount, wordsOf, blockWords, wordList}
+use Rattle.formula.specs.Form.{kindOf}
+use Rattle.formula.specs.declared.NodeWords.{NodeWords}
 use Rattle.qcir.specs.File.{Literal, Junction, conjunction, disjunction, Gate, junction-gate, xor-gate, quantified-gate, gateName, Line, lineVariables, File, numbersOf}
 
 -- The nodes and list entries stored so far, and the gates' nodes: one more than the node that stands for a gate, 0 for a name that
@@ -23,23 +26,23 @@ pub record Stored : Type 0 where
   pub draft : Draft
   pub node : ℕ
 
--- One node more.
-unfoldable pub store : Draft → ℕ → ℕ → ℕ → ℕ → Stored
-store d kind a b c =
+-- One node more, by its words.
+unfoldable pub store : Draft → NodeWords → Stored
+store d w =
     record {
-      draft = record { words = d .words ++ (kind ∷ a ∷ b ∷ c ∷ []); entries = d .entries; gate = d .gate };
+      draft = record { words = d .words ++ wordList w; entries = d .entries; gate = d .gate };
       node = nodeCount (d .words);
     }
 
 -- A name: the gate's node where it is a gate's, else a variable node.
 unfoldable pub storeName : Draft → ℕ → Stored
-storeName d x = pick (eqb (d .gate x) 0) (store d 2 x 0 0) (record { draft = d; node = d .gate x - 1 })
+storeName d x = pick (eqb (d .gate x) 0) (store d (wordsOf (variable x))) (record { draft = d; node = d .gate x - 1 })
 
 -- "Each with its not": "a minus sign is a not node".
 unfoldable pub storeLiteral : Draft → Literal → Stored
 storeLiteral d l =
     let s = storeName d (l .name .number) in
-    pick (l .minus) (store (s .draft) 3 (s .node) 0 0) s
+    pick (l .minus) (store (s .draft) (wordsOf (negation (s .node)))) s
 
 -- "Gates with several inputs become operators from left to right": the operator with truth table t over what is stored and the
 -- inputs that follow.
@@ -47,17 +50,13 @@ unfoldable pub storeInputs : ℕ → Stored → List Literal → Stored
 storeInputs t s [] = s
 storeInputs t s (l ∷ ls) =
     let r = storeLiteral (s .draft) l in
-    storeInputs t (store (r .draft) 4 t (s .node) (r .node)) ls
-
-unfoldable pub blockKind : Quantifier → ℕ
-blockKind exists = 5
-blockKind for-all = 6
+    storeInputs t (store (r .draft) (wordsOf (operator t (s .node) (r .node)))) ls
 
 -- A block over what is stored, with its variables at the list's end.
 unfoldable pub storeBlock : Quantifier → List ℕ → Stored → Stored
 storeBlock q xs s =
     let d = s .draft in
-    store (record { words = d .words; entries = d .entries ++ xs; gate = d .gate }) (blockKind q) (length (d .entries)) (length xs) (s .node)
+    store (record { words = d .words; entries = d .entries ++ xs; gate = d .gate }) (blockWords (kindOf q) (length (d .entries)) (length xs) (s .node))
 
 -- and is 8, or is 14.
 unfoldable pub junctionTable : Junction → ℕ
@@ -65,13 +64,13 @@ junctionTable conjunction = 8
 junctionTable disjunction = 14
 
 -- "`and()` is constant 1, `or()` constant 0."
-unfoldable pub emptyValue : Junction → ℕ
-emptyValue conjunction = 1
-emptyValue disjunction = 0
+unfoldable pub emptyValue : Junction → Bool
+emptyValue conjunction = true
+emptyValue disjunction = false
 
 -- The nodes of a gate line. "One input stands for itself"; xor is 6.
 unfoldable pub storeGate : Draft → Gate → Stored
-storeGate d (junction-gate j g []) = store d 1 (emptyValue j) 0 0
+storeGate d (junction-gate j g []) = store d (wordsOf (constant (emptyValue j)))
 storeGate d (junction-gate j g (l ∷ ls)) = storeInputs (junctionTable j) (storeLiteral d l) ls
 storeGate d (xor-gate g l r) = storeInputs 6 (storeLiteral d l) (r ∷ [])
 storeGate d (quantified-gate q g x xs l) = storeBlock q (numbersOf (x ∷ xs)) (storeLiteral d l)
