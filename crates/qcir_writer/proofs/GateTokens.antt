@@ -8,9 +8,11 @@ use native.Mathlib.Omega.{arith}
 use lib.Dec.{eqb, leb}
 use lib.ListN.{length}
 use Rattle.lists.specs.Choice.{pick, pick-yes, pick-no}
-use Rattle.formula.specs.Node.{Quantifier, exists, for-all}
+use Rattle.formula.specs.Node.{Quantifier, exists, for-all, constant, variable, negation}
+use Rattle.formula.specs.Words.{wordsOf, blockWords}
+use Rattle.formula.specs.Form.{kindOf}
 use Rattle.qcir.specs.File.{Name, Literal, Junction, conjunction, disjunction, Gate, junction-gate, xor-gate, quantified-gate, gateName, numbersOf}
-use Rattle.qcir.specs.Table.{Draft, Stored, store, storeLiteral, storeInputs, blockKind, storeBlock, junctionTable, emptyValue, storeGate, storeGates}
+use Rattle.qcir.specs.Table.{Draft, Stored, store, storeLiteral, storeInputs, storeBlock, junctionTable, emptyValue, storeGate, storeGates}
 use Rattle.qcir_tokens.specs.Tokens.{
   Token,
   token,
@@ -167,8 +169,8 @@ ready-by false p a b e f = f
 literal-ready : (p : Progress) (g x : ℕ) (minus : Bool) → addLiteral p g x minus .progress .ready ≡ p .ready
 unfolding addLiteral addName addMinus andThen
 literal-ready p g x minus =
-    let q = pick (eqb g 0) (addNode p 2 x 0 0) (record { words = []; progress = moved p (p .next) (g - 1) }) .progress in
-    ready-by minus q (addNode q 3 (q .node) 0 0) (addNone q) refl refl ∙ ready-by (eqb g 0) p (addNode p 2 x 0 0) (record { words = []; progress = moved p (p .next) (g - 1) }) refl refl
+    let q = pick (eqb g 0) (addNode p (wordsOf (variable x))) (record { words = []; progress = moved p (p .next) (g - 1) }) .progress in
+    ready-by minus q (addNode q (wordsOf (negation (q .node)))) (addNone q) refl refl ∙ ready-by (eqb g 0) p (addNode p (wordsOf (variable x))) (record { words = []; progress = moved p (p .next) (g - 1) }) refl refl
 
 join-ready : (t : Bool) (left : ℕ) (p : Progress) → p .ready ≡ t → addJoin t left p .progress .ready ≡ true
 unfolding addJoin pick
@@ -275,7 +277,7 @@ bound-law x (y ∷ ys) w =
 
 -- A quantified gate's only input, with the block over it.
 module _ (d : Draft) (q : Quantifier) (ns : List ℕ) (l : Literal) (p : Progress) (aligned : Aligned d p) (listed : length (d .entries) ≡ p .first)
-    (count : p .listed - p .first ≡ length ns) (ready : p .ready ≡ false) (kind : leb 16 (p .kind) ≡ true) (block : gateBlockKind (p .kind) ≡ blockKind q) where
+    (count : p .listed - p .first ≡ length ns) (ready : p .ready ≡ false) (kind : leb 16 (p .kind) ≡ true) (block : gateBlockKind (p .kind) ≡ kindOf q) where
   abbrev x' : ℕ
   x' = l .name .number
 
@@ -299,13 +301,13 @@ module _ (d : Draft) (q : Quantifier) (ns : List ℕ) (l : Literal) (p : Progres
       let r = input .progress in
       let e = aligned-after (withEntries d ns) p input aligned f in
       let k : leb 16 (r .kind) ≡ true = ap (leb 16) (f .kind-kept) ∙ kind in
-      let b : gateBlockKind (r .kind) ≡ blockKind q = ap gateBlockKind (f .kind-kept) ∙ block in
+      let b : gateBlockKind (r .kind) ≡ kindOf q = ap gateBlockKind (f .kind-kept) ∙ block in
       let first : r .first ≡ length (d .entries) = f .first-kept ∙ sym listed in
       let n : r .listed - r .first ≡ length ns = omega (arith, f .first-kept, f .listed-kept) in
       with-then (withEntries d ns) input addBlock
-      ∙ ap (withAdded (withAdded (withEntries d ns) input .draft)) (pick-yes (leb 16 (r .kind)) (addNode r (gateBlockKind (r .kind)) (r .first) (r .listed - r .first) (r .node)) (addNone r) k)
-      ∙ with-node (withAdded (withEntries d ns) input .draft) r (gateBlockKind (r .kind)) (r .first) (r .listed - r .first) (r .node) e
-      ∙ rw (n, b, first) (ap (λ s. store (s .draft) (blockKind q) (length (d .entries)) (length ns) (s .node)) input-is
+      ∙ ap (withAdded (withAdded (withEntries d ns) input .draft)) (pick-yes (leb 16 (r .kind)) (addNode r (blockWords (gateBlockKind (r .kind)) (r .first) (r .listed - r .first) (r .node))) (addNone r) k)
+      ∙ with-node (withAdded (withEntries d ns) input .draft) r (blockWords (gateBlockKind (r .kind)) (r .first) (r .listed - r .first) (r .node)) e
+      ∙ rw (n, b, first) (ap (λ s. store (s .draft) (blockWords (kindOf q) (length (d .entries)) (length ns) (s .node))) input-is
       ∙ ap (storeBlock q ns) (with-literal d p l aligned))
 
 -- The state after a gate's definition.
@@ -316,12 +318,12 @@ counted-defined : (w : Writing) (role g : ℕ) → isDefinition role ≡ true �
 counted-defined w role g t k = record { words-counted = k .words-counted; entries-counted = k .entries-counted; first-in = omega arith }
 
 junction-kind : (j : Junction) → (leb 16 (junctionRole j) ≡ false) × (joinTable (junctionRole j) ≡ junctionTable j) × (emptyConstant (junctionRole j) ≡ emptyValue j)
-unfolding junctionRole joinTable junctionTable emptyConstant emptyValue pick
+unfolding junctionRole joinTable junctionTable emptyValue pick
 junction-kind conjunction = (refl, refl, refl)
 junction-kind disjunction = (refl, refl, refl)
 
-quantifier-kind : (q : Quantifier) → (isDefinition (quantifierRole q) ≡ true) × (leb 16 (quantifierRole q) ≡ true) × (gateBlockKind (quantifierRole q) ≡ blockKind q)
-unfolding quantifierRole isDefinition gateBlockKind blockKind pick
+quantifier-kind : (q : Quantifier) → (isDefinition (quantifierRole q) ≡ true) × (leb 16 (quantifierRole q) ≡ true) × (gateBlockKind (quantifierRole q) ≡ kindOf q)
+unfolding quantifierRole isDefinition gateBlockKind kindOf pick
 quantifier-kind exists = (refl, refl, refl)
 quantifier-kind for-all = (refl, refl, refl)
 
@@ -331,16 +333,16 @@ xor-table = refl
 
 -- a gate without inputs
 empty-law : (j : Junction) (g : Name) (w : Writing) → Counted w
-    → writeToken (defined w (junctionRole j) (g .number)) emptyRole (g .number) .draft ≡ closed (store (w .draft) 1 (emptyValue j) 0 0) (g .number)
+    → writeToken (defined w (junctionRole j) (g .number)) emptyRole (g .number) .draft ≡ closed (store (w .draft) (wordsOf (constant (emptyValue j)))) (g .number)
 unfolding addUse addOperand addEnd isLast isDefinition isBound pick
 empty-law j g w k =
     let v = defined w (junctionRole j) (g .number) in
     let c = junction-kind j in
-    let a = addNode (v .progress) 1 (emptyConstant (junctionRole j)) 0 0 in
-    last-token v emptyRole (g .number) (store (w .draft) 1 (emptyValue j) 0 0) refl refl refl
+    let a = addNode (v .progress) (wordsOf (constant (emptyConstant (junctionRole j)))) in
+    last-token v emptyRole (g .number) (store (w .draft) (wordsOf (constant (emptyValue j)))) refl refl refl
     (with-end (w .draft) a addBlock (no-block (a .progress) (c .0))
-    ∙ with-node (w .draft) (v .progress) 1 (emptyConstant (junctionRole j)) 0 0 (k .words-counted)
-    ∙ ap (λ z. store (w .draft) 1 z 0 0) (c .2))
+    ∙ with-node (w .draft) (v .progress) (wordsOf (constant (emptyConstant (junctionRole j)))) (k .words-counted)
+    ∙ ap (λ z. store (w .draft) (wordsOf (constant z))) (c .2))
 
 -- a gate whose inputs are joined
 joined-law : (role t : ℕ) (g : Name) (l : Literal) (ls : List Literal) (w : Writing) → Counted w → isDefinition role ≡ true → leb 16 role ≡ false → joinTable role ≡ t

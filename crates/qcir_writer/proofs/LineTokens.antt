@@ -7,10 +7,12 @@ use Prim.Native.Nat.{ℕ, _+_, _*_}
 use native.Mathlib.Omega.{arith}
 use lib.ListN.{length, length-append}
 use Rattle.lists.specs.Choice.{pick, pick-yes, pick-no}
-use Rattle.formula.specs.Words.{width}
 use Rattle.formula.specs.Node.{Quantifier, exists, for-all}
+use Rattle.formula.specs.Words.{width, blockWords, wordList}
+use Rattle.formula.specs.Form.{kindOf}
+use Rattle.formula.proofs.Nodes.{wordList-length}
 use Rattle.qcir.specs.File.{Name, Line, lineVariables, numbersOf}
-use Rattle.qcir.specs.Table.{Draft, Stored, store, blockKind, storeBlock, storePrefix}
+use Rattle.qcir.specs.Table.{Draft, Stored, store, storeBlock, storePrefix}
 use Rattle.qcir_tokens.specs.Tokens.{Token, token, freeRole, lineRole, laterRole, listTokens, freeTokens, prefixTokens}
 use Rattle.qcir_writer.specs.declared.Progress.{Progress}
 use Rattle.qcir_writer.specs.Nodes.{moved, lengthened, addNone}
@@ -74,8 +76,8 @@ unfolding laterRole
 later-starts true = refl
 later-starts false = refl
 
-line-starts : (q : Quantifier) (last : Bool) → (startsLine (lineRole q last) ≡ true) × (lineBlockKind (lineRole q last) ≡ blockKind q)
-unfolding lineRole lineBlockKind blockKind pick
+line-starts : (q : Quantifier) (last : Bool) → (startsLine (lineRole q last) ≡ true) × (lineBlockKind (lineRole q last) ≡ kindOf q)
+unfolding lineRole lineBlockKind kindOf pick
 line-starts exists true = (refl, refl)
 line-starts exists false = (refl, refl)
 line-starts for-all true = (refl, refl)
@@ -93,7 +95,7 @@ free-law (x ∷ xs) s =
 abbrev withLine : Lines → Quantifier → List ℕ → Lines
 withLine s q ns =
     record {
-      words = s .words ++ (blockKind q ∷ s .progress .listed ∷ length ns ∷ s .progress .node ∷ []);
+      words = s .words ++ wordList (blockWords (kindOf q) (s .progress .listed) (length ns) (s .progress .node));
       entries = s .entries ++ ns;
       progress = lengthened (moved (s .progress) (s .progress .next + 1) (s .progress .next)) (length ns);
       pending = [];
@@ -148,6 +150,6 @@ prefix-law (l ∷ ls) d p a b =
     (record {
       none-waits = refl;
       stored-is = ap (storeBlock q ns) (r .stored-is) ∙ block-law d s q ns (r .words-counted) (r .entries-counted);
-      words-counted = simp length-append (omega arith);
+      words-counted = simp length-append (omega (arith, wordList-length (blockWords (kindOf q) (s .progress .listed) (length ns) (s .progress .node))));
       entries-counted = simp length-append (omega arith);
     })

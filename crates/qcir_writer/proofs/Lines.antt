@@ -10,7 +10,9 @@ use lib.Seq.{slice, slice-empty, slice-cons, length-slice}
 use Rattle.lists.specs.Choice.{pick}
 use Rattle.lists.specs.Parts.{overwrite}
 use Rattle.lists.proofs.Overwrite.{overwrite-nil}
-use Rattle.formula.specs.Words.{width}
+use Rattle.formula.specs.Words.{width, blockWords, wordList}
+use Rattle.formula.specs.declared.NodeWords.{NodeWords}
+use Rattle.formula.proofs.Nodes.{wordList-length}
 use Rattle.acceptance.specs.Limits.{limit}
 use Rattle.qcir_writer.specs.declared.Progress.{Progress}
 use Rattle.qcir_writer.specs.Nodes.{Added, addNone, addNode, Room, Wrote}
@@ -24,7 +26,7 @@ pub record LineAdds (p : Progress) (a : Added) (es : List ℕ) : Type 0 where
 
 adds-by : (t : Bool) (p : Progress) (role : ℕ) (xs : List ℕ) → LineAdds p (pick t (addLine p role (length xs)) (addNone p)) (pick t xs [])
 unfolding pick
-adds-by true p role xs = record { words-counted = omega arith; entries-counted = refl }
+adds-by true p role xs = record { words-counted = omega (arith, wordList-length (blockWords (lineBlockKind role) (p .listed) (length xs) (p .node))); entries-counted = refl }
 adds-by false p role xs = record { words-counted = omega arith; entries-counted = omega arith }
 
 pub line-adds : (p : Progress) (role : ℕ) (xs : List ℕ) → LineAdds p (addIfLine p role (length xs)) (pick (startsLine role) xs [])
@@ -211,11 +213,11 @@ module _ (roles numbers : List ℕ) (start : Progress) where
           }
 
 -- A line's block, written as a node, with its entries counted.
-pub line-wrote : {o m : List ℕ} {p q : Progress} (role kind count : ℕ) → kind ≡ lineBlockKind role → Wrote o p (addNode p kind (p .listed) count (p .node)) m q
+pub line-wrote : {o m : List ℕ} {p q : Progress} (role count : ℕ) (node : NodeWords) → node ≡ blockWords (lineBlockKind role) (p .listed) count (p .node) → Wrote o p (addNode p node) m q
     → Wrote o p (addLine p role count) m (record { next = q .next; listed = p .listed + count; node = q .node; kind = q .kind; gate = q .gate; ready = q .ready; first = q .first })
-line-wrote {o} {m} {p} {q} role kind count e w =
+line-wrote {o} {m} {p} {q} role count node e w =
     record {
-      words-are = w .words-are ∙ ap (λ k. overwrite o (width * p .next) (k ∷ p .listed ∷ count ∷ p .node ∷ [])) e;
+      words-are = w .words-are ∙ ap (λ n. overwrite o (width * p .next) (wordList n)) e;
       progress-is = ap (counted-line count) (w .progress-is);
     }
   where

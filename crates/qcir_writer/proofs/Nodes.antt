@@ -10,7 +10,10 @@ use lib.Dec.{eqb, leb}
 use lib.ListN.{length, length-append}
 use Rattle.lists.specs.Choice.{pick, pick-yes, pick-no}
 use Rattle.lists.proofs.Overwrite.{overwrite-nil}
-use Rattle.formula.specs.Words.{width}
+use Rattle.formula.specs.Node.{constant, variable, negation}
+use Rattle.formula.specs.Words.{width, wordsOf}
+use Rattle.formula.specs.declared.NodeWords.{NodeWords}
+use Rattle.formula.proofs.Nodes.{wordList-length}
 use Rattle.acceptance.specs.Limits.{limit}
 use Rattle.qcir_tokens.specs.Tokens.{isMinus, isLast, emptyRole}
 use Rattle.qcir_writer.specs.declared.Progress.{Progress}
@@ -44,9 +47,9 @@ pub record Follows (p : Progress) (a : Added) : Type 0 where
   pub gate-kept : a .progress .gate ≡ p .gate
   pub first-kept : a .progress .first ≡ p .first
 
-pub follows-node : (p : Progress) (kind a b c : ℕ) → Follows p (addNode p kind a b c)
-follows-node p kind a b c =
-    record { counted = omega arith; listed-kept = refl; kind-kept = refl; gate-kept = refl; first-kept = refl }
+pub follows-node : (p : Progress) (w : NodeWords) → Follows p (addNode p w)
+follows-node p w =
+    record { counted = omega (arith, wordList-length w); listed-kept = refl; kind-kept = refl; gate-kept = refl; first-kept = refl }
 
 pub follows-none : (p : Progress) → Follows p (addNone p)
 follows-none p = record { counted = omega arith; listed-kept = refl; kind-kept = refl; gate-kept = refl; first-kept = refl }
@@ -76,11 +79,11 @@ follows-then {p} {a} {f} u v =
 
 pub follows-name : (p : Progress) (g x : ℕ) → Follows p (addName p g x)
 unfolding addName
-follows-name p g x = follows-pick (eqb g 0) (follows-node p 2 x 0 0) (follows-moved p (g - 1))
+follows-name p g x = follows-pick (eqb g 0) (follows-node p (wordsOf (variable x))) (follows-moved p (g - 1))
 
 pub follows-minus : (minus : Bool) (p : Progress) → Follows p (addMinus minus p)
 unfolding addMinus
-follows-minus minus p = follows-pick minus (follows-node p 3 (p .node) 0 0) (follows-none p)
+follows-minus minus p = follows-pick minus (follows-node p (wordsOf (negation (p .node)))) (follows-none p)
 
 pub follows-literal : (p : Progress) (g x : ℕ) (minus : Bool) → Follows p (addLiteral p g x minus)
 unfolding addLiteral
@@ -88,7 +91,7 @@ follows-literal p g x minus = follows-then (follows-name p g x) (follows-minus m
 
 pub follows-join : (ready : Bool) (left : ℕ) (p : Progress) → Follows p (addJoin ready left p)
 unfolding addJoin
-follows-join ready left p = follows-pick ready (follows-node p 4 _ left (p .node)) (follows-ready p)
+follows-join ready left p = follows-pick ready (follows-node p _) (follows-ready p)
 
 pub follows-input : (p : Progress) (g x : ℕ) (minus : Bool) → Follows p (addInput p g x minus)
 unfolding addInput
@@ -96,11 +99,11 @@ follows-input p g x minus = follows-then (follows-literal p g x minus) (follows-
 
 pub follows-operand : (p : Progress) (g role x : ℕ) → Follows p (addOperand p g role x)
 unfolding addOperand
-follows-operand p g role x = follows-pick (eqb role emptyRole) (follows-node p 1 _ 0 0) (follows-input p g x (isMinus role))
+follows-operand p g role x = follows-pick (eqb role emptyRole) (follows-node p _) (follows-input p g x (isMinus role))
 
 pub follows-block : (p : Progress) → Follows p (addBlock p)
 unfolding addBlock
-follows-block p = follows-pick (leb 16 (p .kind)) (follows-node p _ (p .first) (p .listed - p .first) (p .node)) (follows-none p)
+follows-block p = follows-pick (leb 16 (p .kind)) (follows-node p _) (follows-none p)
 
 pub follows-end : (role : ℕ) (p : Progress) → Follows p (addEnd role p)
 unfolding addEnd
@@ -197,7 +200,7 @@ module _ (p : Progress) (g x : ℕ) (low : g < 65536) where
 
   pub small-operand : (role : ℕ) → p .next ≤ limit → addOperand p g role x .progress .next ≤ limit → addOperand p g role x .progress .node < 65535
   unfolding addOperand
-  small-operand role m n = small-operand-of (addNode p 1 (emptyConstant (p .kind)) 0 0) (eqb role emptyRole) role (omega arith) n
+  small-operand role m n = small-operand-of (addNode p (wordsOf (constant (emptyConstant (p .kind))))) (eqb role emptyRole) role (omega arith) n
 
 -- The gate's list starts no later than what is listed so far, still so after a writer.
 pub first-le : {o m : List ℕ} {p q : Progress} {a : Added} → Wrote o p a m q → Follows p a → p .first ≤ p .listed → q .first ≤ q .listed

@@ -8,7 +8,9 @@ use native.Mathlib.Omega.{arith}
 use lib.Dec.{eqb}
 use lib.ListN.{length, length-append}
 use Rattle.lists.specs.Choice.{pick}
-use Rattle.formula.specs.Words.{width, nodeCount}
+use Rattle.formula.specs.Node.{variable, negation, operator}
+use Rattle.formula.specs.Words.{width, nodeCount, wordsOf}
+use Rattle.formula.specs.declared.NodeWords.{NodeWords}
 use Rattle.qcir.specs.File.{Literal}
 use Rattle.qcir.specs.Table.{Draft, Stored, store, storeName, storeLiteral}
 use Rattle.qcir_writer.specs.declared.Progress.{Progress}
@@ -29,9 +31,9 @@ Aligned d p = length (d .words) ≡ width * p .next
 pub aligned-after : (d : Draft) (p : Progress) (a : Added) → Aligned d p → Follows p a → Aligned (withAdded d a .draft) (a .progress)
 aligned-after d p a h f = simp length-append (omega (arith, f .counted))
 
-pub with-node : (d : Draft) (p : Progress) (kind a b c : ℕ) → Aligned d p → withAdded d (addNode p kind a b c) ≡ store d kind a b c
+pub with-node : (d : Draft) (p : Progress) (w : NodeWords) → Aligned d p → withAdded d (addNode p w) ≡ store d w
 unfolding store
-with-node d p kind a b c h = rw (node-count (d .words) (p .next) h)
+with-node d p w h = rw (node-count (d .words) (p .next) h)
 
 pub with-none : (d : Draft) (p : Progress) → withAdded d (record { words = []; progress = p }) ≡ record { draft = d; node = p .node }
 with-none d p = rw append-nil
@@ -47,11 +49,11 @@ with-then d a f = rw append-assoc
 
 pub with-name : (d : Draft) (p : Progress) (x : ℕ) → Aligned d p → withAdded d (addName p (d .gate x) x) ≡ storeName d x
 unfolding addName storeName
-with-name d p x h = with-pick (eqb (d .gate x) 0) d _ _ _ _ (with-node d p 2 x 0 0 h) (with-none d (moved p (p .next) (d .gate x - 1)))
+with-name d p x h = with-pick (eqb (d .gate x) 0) d _ _ _ _ (with-node d p (wordsOf (variable x)) h) (with-none d (moved p (p .next) (d .gate x - 1)))
 
-with-minus : (d : Draft) (p : Progress) (minus : Bool) → Aligned d p → withAdded d (addMinus minus p) ≡ pick minus (store d 3 (p .node) 0 0) (record { draft = d; node = p .node })
+with-minus : (d : Draft) (p : Progress) (minus : Bool) → Aligned d p → withAdded d (addMinus minus p) ≡ pick minus (store d (wordsOf (negation (p .node)))) (record { draft = d; node = p .node })
 unfolding addMinus
-with-minus d p minus h = with-pick minus d _ _ _ _ (with-node d p 3 (p .node) 0 0 h) (with-none d p)
+with-minus d p minus h = with-pick minus d _ _ _ _ (with-node d p (wordsOf (negation (p .node))) h) (with-none d p)
 
 pub with-literal : (d : Draft) (p : Progress) (l : Literal) → Aligned d p
     → withAdded d (addLiteral p (d .gate (l .name .number)) (l .name .number) (l .minus)) ≡ storeLiteral d l
@@ -61,18 +63,18 @@ with-literal d p l h =
     let a = addName p (d .gate x) x in
     with-then d a (addMinus (l .minus))
     ∙ with-minus (withAdded d a .draft) (a .progress) (l .minus) (aligned-after d p a h (follows-name p (d .gate x) x))
-    ∙ ap (λ s. pick (l .minus) (store (s .draft) 3 (s .node) 0 0) s) (with-name d p x h)
+    ∙ ap (λ s. pick (l .minus) (store (s .draft) (wordsOf (negation (s .node)))) s) (with-name d p x h)
 
 -- The operator of truth table t over what is stored and the input that follows; the input alone where it is the first.
 unfoldable pub storeJoined : Bool → ℕ → Stored → Literal → Stored
 storeJoined ready t s l =
     let r = storeLiteral (s .draft) l in
-    pick ready (store (r .draft) 4 t (s .node) (r .node)) r
+    pick ready (store (r .draft) (wordsOf (operator t (s .node) (r .node)))) r
 
 with-join : (d : Draft) (p : Progress) (ready : Bool) (left : ℕ) → Aligned d p
-    → withAdded d (addJoin ready left p) ≡ pick ready (store d 4 (joinTable (p .kind)) left (p .node)) (record { draft = d; node = p .node })
+    → withAdded d (addJoin ready left p) ≡ pick ready (store d (wordsOf (operator (joinTable (p .kind)) left (p .node)))) (record { draft = d; node = p .node })
 unfolding addJoin
-with-join d p ready left h = with-pick ready d _ _ _ _ (with-node d p 4 (joinTable (p .kind)) left (p .node) h) (with-none d (readied p))
+with-join d p ready left h = with-pick ready d _ _ _ _ (with-node d p (wordsOf (operator (joinTable (p .kind)) left (p .node))) h) (with-none d (readied p))
 
 pub with-input : (d : Draft) (p : Progress) (l : Literal) → Aligned d p
     → withAdded d (addInput p (d .gate (l .name .number)) (l .name .number) (l .minus))
@@ -84,5 +86,5 @@ with-input d p l h =
     let f = follows-literal p (d .gate x) x (l .minus) in
     with-then d a (addJoin (p .ready) (p .node))
     ∙ with-join (withAdded d a .draft) (a .progress) (p .ready) (p .node) (aligned-after d p a h f)
-    ∙ ap (λ k. pick (p .ready) (store (withAdded d a .draft) 4 (joinTable k) (p .node) (a .progress .node)) (withAdded d a)) (f .kind-kept)
-    ∙ ap (λ s. pick (p .ready) (store (s .draft) 4 (joinTable (p .kind)) (p .node) (s .node)) s) (with-literal d p l h)
+    ∙ ap (λ k. pick (p .ready) (store (withAdded d a .draft) (wordsOf (operator (joinTable k) (p .node) (a .progress .node)))) (withAdded d a)) (f .kind-kept)
+    ∙ ap (λ s. pick (p .ready) (store (s .draft) (wordsOf (operator (joinTable (p .kind)) (p .node) (s .node)))) s) (with-literal d p l h)

@@ -1,6 +1,6 @@
 -- What each token of a gate line adds to the table, given how far the writing has come.
 -- Assumes nothing.
-use mathlib.Core.Bool.{Bool, true, false}
+use mathlib.Core.Bool.{Bool, true, false, not}
 use mathlib.Core.List.{List, [], _∷_, _++_}
 use mathlib.Core.Path.{_≡_}
 use Prim.Native.Nat.{ℕ, _+_, _-_, _*_, _≤_}
@@ -8,7 +8,9 @@ use lib.Dec.{eqb, leb}
 use lib.ListN.{length}
 use Rattle.lists.specs.Choice.{pick}
 use Rattle.lists.specs.Parts.{overwrite}
-use Rattle.formula.specs.Words.{width}
+use Rattle.formula.specs.Node.{constant, variable, negation, operator}
+use Rattle.formula.specs.Words.{width, wordsOf, blockWords, wordList}
+use Rattle.formula.specs.declared.NodeWords.{NodeWords}
 use Rattle.acceptance.specs.Limits.{limit}
 use Rattle.qcir_tokens.specs.Tokens.{isDefinition, isBound, isMinus, isLast, emptyRole}
 use Rattle.qcir_writer.specs.declared.Progress.{Progress}
@@ -42,8 +44,8 @@ abbrev pub addNone : Progress → Added
 addNone p = record { words = []; progress = p }
 
 -- One node.
-abbrev pub addNode : Progress → ℕ → ℕ → ℕ → ℕ → Added
-addNode p kind a b c = record { words = kind ∷ a ∷ b ∷ c ∷ []; progress = moved p (p .next + 1) (p .next) }
+abbrev pub addNode : Progress → NodeWords → Added
+addNode p w = record { words = wordList w; progress = moved p (p .next + 1) (p .next) }
 
 -- What is added after what was added.
 unfoldable pub andThen : Added → (Progress → Added) → Added
@@ -51,11 +53,11 @@ andThen a f = let b = f (a .progress) in record { words = a .words ++ b .words; 
 
 -- A name x that stands for node g - 1, or, where g is 0, for a variable.
 unfoldable pub addName : Progress → ℕ → ℕ → Added
-addName p g x = pick (eqb g 0) (addNode p 2 x 0 0) (record { words = []; progress = moved p (p .next) (g - 1) })
+addName p g x = pick (eqb g 0) (addNode p (wordsOf (variable x))) (record { words = []; progress = moved p (p .next) (g - 1) })
 
 -- The not of a name with a minus sign.
 unfoldable pub addMinus : Bool → Progress → Added
-addMinus minus p = pick minus (addNode p 3 (p .node) 0 0) (addNone p)
+addMinus minus p = pick minus (addNode p (wordsOf (negation (p .node)))) (addNone p)
 
 unfoldable pub addLiteral : Progress → ℕ → ℕ → Bool → Added
 addLiteral p g x minus = andThen (addName p g x) (addMinus minus)
@@ -67,18 +69,18 @@ joinTable kind = pick (eqb kind 13) 8 (pick (eqb kind 14) 14 6)
 -- The operator over the inputs so far, of node `left`, and the one stored last; nothing at the first input.
 unfoldable pub addJoin : Bool → ℕ → Progress → Added
 addJoin ready left p =
-    pick ready (addNode p 4 (joinTable (p .kind)) left (p .node)) (record { words = []; progress = readied p })
+    pick ready (addNode p (wordsOf (operator (joinTable (p .kind)) left (p .node)))) (record { words = []; progress = readied p })
 
 unfoldable pub addInput : Progress → ℕ → ℕ → Bool → Added
 addInput p g x minus = andThen (addLiteral p g x minus) (addJoin (p .ready) (p .node))
 
 -- The constant that a gate without inputs is, by the role of its definition.
-unfoldable pub emptyConstant : ℕ → ℕ
-emptyConstant kind = pick (eqb kind 14) 0 1
+abbrev pub emptyConstant : ℕ → Bool
+emptyConstant kind = not (eqb kind 14)
 
 -- What an input, or the end of a gate without inputs, adds, before the gate is closed.
 unfoldable pub addOperand : Progress → ℕ → ℕ → ℕ → Added
-addOperand p g role x = pick (eqb role emptyRole) (addNode p 1 (emptyConstant (p .kind)) 0 0) (addInput p g x (isMinus role))
+addOperand p g role x = pick (eqb role emptyRole) (addNode p (wordsOf (constant (emptyConstant (p .kind))))) (addInput p g x (isMinus role))
 
 -- The kind of a quantified gate's block, by the role of the gate's definition.
 unfoldable pub gateBlockKind : ℕ → ℕ
@@ -87,7 +89,7 @@ gateBlockKind kind = pick (eqb kind 16) 5 6
 -- The block of a quantified gate.
 unfoldable pub addBlock : Progress → Added
 addBlock p =
-    pick (leb 16 (p .kind)) (addNode p (gateBlockKind (p .kind)) (p .first) (p .listed - p .first) (p .node)) (addNone p)
+    pick (leb 16 (p .kind)) (addNode p (blockWords (gateBlockKind (p .kind)) (p .first) (p .listed - p .first) (p .node))) (addNone p)
 
 -- The gate's block at the last token of its line.
 unfoldable pub addEnd : ℕ → Progress → Added

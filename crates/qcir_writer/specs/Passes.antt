@@ -8,6 +8,7 @@ use lib.Dec.{eqb, leb}
 use lib.ListN.{length, getD}
 use Rattle.lists.specs.Choice.{pick}
 use Rattle.lists.specs.Search.{lowest}
+use Rattle.formula.specs.Words.{blockWords, wordList}
 use Rattle.qcir.specs.Table.{Draft, emptyDraft}
 use Rattle.qcir_tokens.specs.Tokens.{isOuter, isLast}
 use Rattle.qcir_tokens.specs.Held.{numberCount}
@@ -57,7 +58,7 @@ lineBlockKind role = pick (leb role 6) 5 6
 abbrev pub addLine : Progress → ℕ → ℕ → Added
 addLine p role count =
     record {
-      words = lineBlockKind role ∷ p .listed ∷ count ∷ p .node ∷ [];
+      words = wordList (blockWords (lineBlockKind role) (p .listed) count (p .node));
       progress = lengthened (moved p (p .next + 1) (p .next)) count;
     }
 

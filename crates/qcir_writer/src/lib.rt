@@ -42,13 +42,15 @@ ghost use Rattle.qcir_writer.specs.Passes.{
   NodesOf,
 };
 ghost use Rattle.qcir_writer.specs.Writable.{Writable};
-use formula::CONSTANT;
 use formula::EXISTS_BLOCK;
 use formula::FOR_ALL_BLOCK;
-use formula::NEGATION;
-use formula::OPERATOR;
-use formula::VARIABLE;
+use formula::NodeWords;
+use formula::block_node;
+use formula::constant_node;
+use formula::negation_node;
+use formula::operator_node;
 use formula::put_node;
+use formula::variable_node;
 use qcir_tokens::AND_GATE;
 use qcir_tokens::EMPTY;
 use qcir_tokens::EXISTS_GATE;
@@ -89,11 +91,11 @@ struct Progress {
 }
 
 // Writes one node.
-fn write_node(words: &mut [u32], p: Progress, kind: u32, a: u32, b: u32, c: u32) -> Progress
-    requires { ⌜ Room (now words) (addNode p kind a b c) ⌝ }
-    ensures { λ r. ⌜ Wrote (now (words .entry)) p (addNode p kind a b c) (now (words .exit)) r ⌝ }
+fn write_node(words: &mut [u32], p: Progress, node: NodeWords) -> Progress
+    requires { ⌜ Room (now words) (addNode p node) ⌝ }
+    ensures { λ r. ⌜ Wrote (now (words .entry)) p (addNode p node) (now (words .exit)) r ⌝ }
 {
-    put_node(words, p.next as usize, kind, a, b, c);
+    put_node(words, p.next as usize, node);
     let mut q = p;
     q.next = p.next + 1;
     q.node = p.next;
@@ -106,7 +108,7 @@ fn write_name(words: &mut [u32], p: Progress, gate: u32, x: u32) -> Progress
     ensures { λ r. ⌜ Wrote (now (words .entry)) p (addName p gate x) (now (words .exit)) r ⌝ }
 {
     if gate == 0 {
-        return write_node(words, p, VARIABLE, x, 0, 0);
+        return write_node(words, p, variable_node(x));
     }
     let mut q = p;
     q.node = gate - 1;
@@ -121,7 +123,7 @@ fn write_minus(words: &mut [u32], p: Progress, minus: bool) -> Progress
     if !minus {
         return p;
     }
-    write_node(words, p, NEGATION, p.node, 0, 0)
+    write_node(words, p, negation_node(p.node))
 }
 
 // Writes an input or the output: its name, and its not.
@@ -152,7 +154,7 @@ fn write_join(words: &mut [u32], p: Progress, ready: bool, left: u32) -> Progres
     ensures { λ r. ⌜ Wrote (now (words .entry)) p (addJoin ready left p) (now (words .exit)) r ⌝ }
 {
     if ready {
-        return write_node(words, p, OPERATOR, join_table(p.kind), left, p.node);
+        return write_node(words, p, operator_node(join_table(p.kind), left, p.node));
     }
     let mut q = p;
     q.ready = true;
@@ -169,13 +171,10 @@ fn write_input(words: &mut [u32], p: Progress, gate: u32, x: u32, minus: bool) -
 }
 
 // The constant that a gate without inputs is.
-fn empty_constant(kind: u8) -> u32
+fn empty_constant(kind: u8) -> bool
     ensures { λ r. ⌜ r ≡ emptyConstant kind ⌝ }
 {
-    if kind == OR_GATE {
-        return 0;
-    }
-    1
+    kind != OR_GATE
 }
 
 // Writes an input, or the constant of a gate without inputs.
@@ -184,7 +183,7 @@ fn write_operand(words: &mut [u32], p: Progress, gate: u32, role: u8, x: u32) ->
     ensures { λ r. ⌜ Wrote (now (words .entry)) p (addOperand p gate role x) (now (words .exit)) r ⌝ }
 {
     if role == EMPTY {
-        return write_node(words, p, CONSTANT, empty_constant(p.kind), 0, 0);
+        return write_node(words, p, constant_node(empty_constant(p.kind)));
     }
     write_input(words, p, gate, x, is_minus(role))
 }
@@ -209,10 +208,7 @@ fn write_block(words: &mut [u32], p: Progress) -> Progress
         return write_node(
             words,
             p,
-            gate_block_kind(p.kind),
-            p.first,
-            p.listed - p.first,
-            p.node,
+            block_node(gate_block_kind(p.kind), p.first, p.listed - p.first, p.node),
         );
     }
     p
@@ -366,7 +362,8 @@ fn write_line(
 {
     let count = (end - i) as u32;
     copy_numbers(list, p.listed as usize, numbers, i, end);
-    let mut q = write_node(words, p, line_block_kind(role), p.listed, count, p.node);
+    let block = block_node(line_block_kind(role), p.listed, count, p.node);
+    let mut q = write_node(words, p, block);
     q.listed = p.listed + count;
     q
 }

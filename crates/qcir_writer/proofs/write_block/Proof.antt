@@ -10,13 +10,16 @@ use Rattle.qcir_writer.proofs.write_block.Tie as tie
 gate-block-kind-requires : tie.Need-gate-block-kind-requires
 gate-block-kind-requires c κs = search needs
 
-sub-write-node : tie.Need-sub-write-node
-sub-write-node c = search needs
+sub-block-node : tie.Need-sub-block-node
+sub-block-node c = search needs
+
+block-node-requires : tie.Need-block-node-requires
+block-node-requires c κs = search needs
 
 write-node-requires : tie.Need-write-node-requires
 unfolding addBlock
 write-node-requires c κs =
-    let r = room-yes _ _ _ _ (le-leb _ _ (c .before .before .before .if1 .taken)) (c .before .before .before .before .before .before .pre .1) in
+    let r = room-yes _ _ _ _ (le-leb _ _ (c .before .before .before .before .if1 .taken)) (c .before .before .before .before .before .before .before .pre .1) in
     record { fits = r .fits; small = r .small }
 
 same-length : tie.Need-same-length
@@ -24,7 +27,7 @@ same-length c = search needs
 
 returns : tie.Need-returns
 unfolding addBlock
-returns c = wrote-yes _ _ _ _ _ _ _ (le-leb _ _ (c .before .before .before .before .before .before .if1 .taken)) (rw (c .before .before .before .before .gate-block-kind .ensures) at (c .before .before .write-node .ensures))
+returns c = wrote-yes _ _ _ _ _ _ _ (le-leb _ _ (c .before .before .before .before .before .before .before .if1 .taken)) (rw (c .before .before .before .block-node .ensures, c .before .before .before .before .before .gate-block-kind .ensures) at (c .before .before .write-node .ensures))
 
 returns-2 : tie.Need-returns-2
 unfolding addBlock
@@ -35,7 +38,8 @@ write-block-spec =
     tie.close
     (tie.spec
     gate-block-kind-requires
-    sub-write-node
+    sub-block-node
+    block-node-requires
     write-node-requires
     same-length
     returns

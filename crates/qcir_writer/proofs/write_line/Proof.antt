@@ -20,11 +20,14 @@ copy-numbers-requires c κs = search needs
 line-block-kind-requires : tie.Need-line-block-kind-requires
 line-block-kind-requires c κs = search needs
 
+block-node-requires : tie.Need-block-node-requires
+block-node-requires c κs = search needs
+
 write-node-requires : tie.Need-write-node-requires
 write-node-requires c κs = search needs
 
 add-q : tie.Need-add-q
-add-q c = search needs
+add-q c = let h = c .before .before .before .before .before .before .before .before .before .before .before .before .before .before .before .pre .0 in search needs
 
 same-length : tie.Need-same-length
 same-length c = search needs
@@ -33,7 +36,7 @@ same-length-2 : tie.Need-same-length-2
 same-length-2 c = search needs
 
 returns : tie.Need-returns
-returns c = (line-wrote _ _ _ (c .before .before .before .before .line-block-kind .ensures) (c .before .before .before .write-node .ensures), c .before .before .before .before .before .before .before .before .copy-numbers .ensures)
+returns c = (line-wrote _ _ _ (rw (c .before .before .before .before .before .before .line-block-kind .ensures) at (c .before .before .before .before .before .block-node .ensures)) (c .before .before .before .write-node .ensures), c .before .before .before .before .before .before .before .before .before .copy-numbers .ensures)
 
 pub write-line-spec : {M : Type 1} → statement M
 write-line-spec =
@@ -44,6 +47,7 @@ write-line-spec =
     cast-copy-numbers
     copy-numbers-requires
     line-block-kind-requires
+    block-node-requires
     write-node-requires
     add-q
     same-length

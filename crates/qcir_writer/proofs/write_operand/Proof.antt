@@ -10,10 +10,13 @@ use Rattle.qcir_writer.proofs.write_operand.Tie as tie
 empty-constant-requires : tie.Need-empty-constant-requires
 empty-constant-requires c κs = search needs
 
+constant-node-requires : tie.Need-constant-node-requires
+constant-node-requires c κs = search needs
+
 write-node-requires : tie.Need-write-node-requires
 unfolding addOperand
 write-node-requires c κs =
-    let r = room-yes _ _ _ _ (eq-eqb _ _ (c .before .before .if1 .taken)) (c .before .before .before .before .pre) in
+    let r = room-yes _ _ _ _ (eq-eqb _ _ (c .before .before .before .if1 .taken)) (c .before .before .before .before .before .pre) in
     record { fits = r .fits; small = r .small }
 
 same-length : tie.Need-same-length
@@ -21,7 +24,7 @@ same-length c = search needs
 
 returns : tie.Need-returns
 unfolding addOperand
-returns c = wrote-yes _ _ _ _ _ _ _ (eq-eqb _ _ (c .before .before .before .before .before .if1 .taken)) (rw (c .before .before .before .empty-constant .ensures) at (c .before .before .write-node .ensures))
+returns c = wrote-yes _ _ _ _ _ _ _ (eq-eqb _ _ (c .before .before .before .before .before .before .if1 .taken)) (rw (c .before .before .before .constant-node .ensures, c .before .before .before .before .empty-constant .ensures) at (c .before .before .write-node .ensures))
 
 is-minus-requires : tie.Need-is-minus-requires
 is-minus-requires c κs = search needs
@@ -42,6 +45,7 @@ write-operand-spec =
     tie.close
     (tie.spec
     empty-constant-requires
+    constant-node-requires
     write-node-requires
     same-length
     returns
