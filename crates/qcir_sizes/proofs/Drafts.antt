@@ -1,80 +1,76 @@
--- Laws of drafts: what one node more changes in the number of nodes, in the sum of counts and in the lowest exceeds block.
+-- Laws of drafts: what one node more changes in the number of nodes, in the sum of counts and in the lowest block that brings the sum
+-- over the limit.
 -- Assumes nothing.
 use mathlib.Core.Bool.{Bool, true, false, _&&_}
-use mathlib.Core.List.{List, [], _∷_, _++_}
+use mathlib.Core.List.{List, _++_}
 use mathlib.Core.Path.{_≡_, refl, sym, _∙_, ap}
 use Prim.Native.Nat.{ℕ, suc, _+_, _*_, _≤_, _<_}
 use native.Mathlib.Omega.{arith}
 use lib.Dec.{ltb}
-use lib.ListN.{length, getD, length-append, List·getD-append}
-use lib.Seq.{getD-append-add}
+use lib.ListN.{length, length-append}
 use borrow.Author.Tests.{ltb-true, lt-ltb, le-ltb}
 use Rattle.lists.specs.Choice.{pick, pick-yes, pick-no, Is, is-true, is-false, look, and-off-left}
 use Rattle.lists.specs.Search.{lowest}
 use Rattle.lists.specs.Parts.{sum}
 use Rattle.lists.proofs.Search.{lowest-cong}
 use Rattle.lists.proofs.Parts.{sum-cong}
-use Rattle.formula.specs.Words.{nodeCount, field, isBlockKind}
+use Rattle.formula.specs.Words.{width, nodeCount, isBlockKind, wordsAt, wordList}
+use Rattle.formula.specs.declared.NodeWords.{NodeWords}
+use Rattle.formula.proofs.Nodes.{wordList-length}
 use Rattle.acceptance.specs.Limits.{limit}
-use Rattle.acceptance.specs.Verdict.{countAt}
-use Rattle.qcir.specs.Reading.{exceeds}
+use Rattle.acceptance.specs.Verdict.{countAt, tooManyVariables}
 use Rattle.qcir.specs.Table.{Draft, store, emptyDraft}
+use Rattle.qcir.proofs.StoredWords.{withNode, words-kept, words-new}
+
+-- the count of a node with these words, and whether it brings the sum over `most`
+abbrev countOf : NodeWords → ℕ
+countOf w = pick (isBlockKind (w .kind)) (w .b) 0
+
+abbrev overWith : ℕ → NodeWords → ℕ → Bool
+overWith most w s = isBlockKind (w .kind) && ltb most (s + w .b)
 
 -- Words of n whole nodes.
-module _ (ws : List ℕ) (n : ℕ) (whole : length ws ≡ 4 * n) where
+module _ (ws : List ℕ) (n : ℕ) (whole : length ws ≡ width * n) where
   pub node-count : nodeCount ws ≡ n
   node-count = omega arith
 
-  -- the nodes before others keep their fields
-  pub field-before : (us : List ℕ) (i f : ℕ) → i < n → f < 4 → field (ws ++ us) i f ≡ field ws i f
-  unfolding field
-  field-before us i f h l = List·getD-append ws us 0 (4 * i + f) (omega arith)
+  nodes-whole : length ws ≡ width * nodeCount ws
+  nodes-whole = omega arith
 
-  -- those of the node after them
-  pub field-after : (us : List ℕ) (f : ℕ) → field (ws ++ us) n f ≡ getD us f 0
-  unfolding field
-  field-after us f =
-      let e : 4 * n + f ≡ length ws + f = omega arith in ap (λ (k : ℕ). getD (ws ++ us) k 0) e ∙ getD-append-add ws us f 0
+  module _ (w : NodeWords) where
+    -- the nodes before another keep their words
+    before-kept : (i : ℕ) → i < n → wordsAt (withNode ws w) i ≡ wordsAt ws i
+    before-kept i h = words-kept ws nodes-whole w i (omega arith)
 
-  count-before : (us : List ℕ) (i : ℕ) → i < n → countAt (ws ++ us) i ≡ countAt ws i
-  unfolding countAt
-  count-before us i h =
-      let a : field (ws ++ us) i 0 ≡ field ws i 0 = field-before us i 0 h (omega arith) in
-      let b : field (ws ++ us) i 2 ≡ field ws i 2 = field-before us i 2 h (omega arith) in
-      ap (λ (x : ℕ). pick (isBlockKind x) (field (ws ++ us) i 2) 0) a ∙ ap (λ (y : ℕ). pick (isBlockKind (field ws i 0)) y 0) b
+    -- and it has its own
+    after-is : wordsAt (withNode ws w) n ≡ w
+    after-is = ap (wordsAt (withNode ws w)) (sym node-count) ∙ words-new ws nodes-whole w
 
-  sum-before : (us : List ℕ) (i : ℕ) → i ≤ n → sum (countAt (ws ++ us)) i ≡ sum (countAt ws) i
-  sum-before us i h = sum-cong (countAt (ws ++ us)) (countAt ws) i (λ j l. count-before us j (omega arith))
+    sum-before : (i : ℕ) → i ≤ n → sum (countAt (withNode ws w)) i ≡ sum (countAt ws) i
+    unfolding countAt
+    sum-before i h = sum-cong (countAt (withNode ws w)) (countAt ws) i (λ j l. ap countOf (before-kept j (omega arith)))
 
-  exceeds-before : (most : ℕ) (us : List ℕ) (i : ℕ) → i < n → exceeds most (ws ++ us) i ≡ exceeds most ws i
-  unfolding exceeds
-  exceeds-before most us i h =
-      let a : field (ws ++ us) i 0 ≡ field ws i 0 = field-before us i 0 h (omega arith) in
-      let b : field (ws ++ us) i 2 ≡ field ws i 2 = field-before us i 2 h (omega arith) in
-      let c : sum (countAt (ws ++ us)) i ≡ sum (countAt ws) i = sum-before us i (omega arith) in
-      ap (λ (x : ℕ). isBlockKind x && ltb most (sum (countAt (ws ++ us)) i + field (ws ++ us) i 2)) a
-      ∙ ap (λ (y : ℕ). isBlockKind (field ws i 0) && ltb most (sum (countAt (ws ++ us)) i + y)) b
-      ∙ ap (λ (z : ℕ). isBlockKind (field ws i 0) && ltb most (z + field ws i 2)) c
+    over-before : (most i : ℕ) → i < n → tooManyVariables most (withNode ws w) i ≡ tooManyVariables most ws i
+    unfolding tooManyVariables
+    over-before most i h =
+        ap (λ (u : NodeWords). overWith most u (sum (countAt (withNode ws w)) i)) (before-kept i h)
+        ∙ ap (overWith most (wordsAt ws i)) (sum-before i (omega arith))
 
-  pub lowest-before : (most : ℕ) (us : List ℕ) → lowest (exceeds most (ws ++ us)) n ≡ lowest (exceeds most ws) n
-  lowest-before most us = lowest-cong (exceeds most (ws ++ us)) (exceeds most ws) n (exceeds-before most us)
+    pub lowest-before : (most : ℕ) → lowest (tooManyVariables most (withNode ws w)) n ≡ lowest (tooManyVariables most ws) n
+    lowest-before most = lowest-cong (tooManyVariables most (withNode ws w)) (tooManyVariables most ws) n (over-before most)
 
-  -- the sum with one node more, and whether that node is exceeds
-  pub sum-after : (kind a b c : ℕ) → sum (countAt (ws ++ (kind ∷ a ∷ b ∷ c ∷ []))) (suc n) ≡ sum (countAt ws) n + pick (isBlockKind kind) b 0
-  unfolding sum countAt
-  sum-after kind a b c =
-      let us : List ℕ = kind ∷ a ∷ b ∷ c ∷ [] in
-      ap (λ (x : ℕ). x + countAt (ws ++ us) n) (sum-before us n (omega arith))
-      ∙ ap (λ (x : ℕ). sum (countAt ws) n + pick (isBlockKind x) (field (ws ++ us) n 2) 0) (field-after us 0)
-      ∙ ap (λ (y : ℕ). sum (countAt ws) n + pick (isBlockKind kind) y 0) (field-after us 2)
+    -- the sum with one node more, and whether that node brings it over
+    pub sum-after : sum (countAt (withNode ws w)) (suc n) ≡ sum (countAt ws) n + countOf w
+    unfolding sum countAt
+    sum-after =
+        ap (λ (x : ℕ). x + countAt (withNode ws w) n) (sum-before n (omega arith))
+        ∙ ap (λ (u : NodeWords). sum (countAt ws) n + countOf u) after-is
 
-  pub exceeds-after : (most kind a b c : ℕ) → exceeds most (ws ++ (kind ∷ a ∷ b ∷ c ∷ [])) n ≡ (isBlockKind kind && ltb most (sum (countAt ws) n + b))
-  unfolding exceeds
-  exceeds-after most kind a b c =
-      let us : List ℕ = kind ∷ a ∷ b ∷ c ∷ [] in
-      ap (λ (x : ℕ). isBlockKind x && ltb most (sum (countAt (ws ++ us)) n + field (ws ++ us) n 2)) (field-after us 0)
-      ∙ ap (λ (y : ℕ). isBlockKind kind && ltb most (sum (countAt (ws ++ us)) n + y)) (field-after us 2)
-      ∙ ap (λ (z : ℕ). isBlockKind kind && ltb most (z + b)) (sum-before us n (omega arith))
+    pub over-after : (most : ℕ) → tooManyVariables most (withNode ws w) n ≡ overWith most w (sum (countAt ws) n)
+    unfolding tooManyVariables
+    over-after most =
+        ap (λ (u : NodeWords). overWith most u (sum (countAt (withNode ws w)) n)) after-is
+        ∙ ap (overWith most w) (sum-before n (omega arith))
 
 lowest-suc : (p : ℕ → Bool) (n : ℕ) → lowest p (suc n) ≡ pick (ltb (lowest p n) n) (lowest p n) (pick (p n) n (suc n))
 unfolding lowest
@@ -83,19 +79,19 @@ lowest-suc p n = refl
 -- A draft with n nodes and e entries; where the sum of the counts, which is e, passes the limit, it does so first at node k.
 pub record Measured (gate : ℕ → ℕ) (d : Draft) (n e k : ℕ) : Type 0 where
   pub gate-is : d .gate ≡ gate
-  pub whole : length (d .words) ≡ 4 * n
+  pub whole : length (d .words) ≡ width * n
   pub listed : length (d .entries) ≡ e
   pub counted : sum (countAt (d .words)) n ≡ e
   pub low : limit < e → k < n
-  pub lowest-is : lowest (exceeds limit (d .words)) n ≡ pick (ltb limit e) k n
+  pub lowest-is : lowest (tooManyVariables limit (d .words)) n ≡ pick (ltb limit e) k n
 
 pub measured-empty : Measured (λ x. 0) emptyDraft 0 0 0
 unfolding emptyDraft sum lowest pick
-measured-empty = record { gate-is = refl; whole = refl; listed = refl; counted = refl; low = λ h. absurd (omega arith); lowest-is = refl }
+measured-empty = record { gate-is = refl; whole = omega arith; listed = refl; counted = refl; low = λ h. absurd (omega arith); lowest-is = refl }
 
 -- The lowest so far, by whether the limit is passed.
 module _ (p : ℕ → Bool) (n e k m : ℕ) (low : limit < e → k < n) (is : lowest p n ≡ pick (ltb limit e) k n) where
-  -- one node more that is not exceeds
+  -- one node more that does not pass the test
   lowest-plain : p n ≡ false → lowest p (suc n) ≡ pick (ltb limit e) k (suc n)
   lowest-plain h = lowest-suc p n ∙ go (look (ltb limit e))
     where
@@ -108,7 +104,7 @@ module _ (p : ℕ → Bool) (n e k m : ℕ) (low : limit < e → k < n) (is : lo
           let a : lowest p n ≡ n = is ∙ pick-no _ _ _ t in
           pick-no _ _ _ (le-ltb (lowest p n) n (omega arith)) ∙ pick-no _ _ _ h ∙ sym (pick-no _ _ _ t)
 
-  -- one that is if the sum with it passes the limit
+  -- one that does if the sum with it passes the limit
   lowest-block : p n ≡ ltb limit (e + m) → lowest p (suc n) ≡ pick (ltb limit (e + m)) (pick (ltb limit e) k n) (suc n)
   lowest-block h = lowest-suc p n ∙ go (look (ltb limit e)) (look (ltb limit (e + m)))
     where
@@ -142,41 +138,41 @@ module _ (p : ℕ → Bool) (n e k m : ℕ) (low : limit < e → k < n) (is : lo
 
 -- One node more.
 module _ (gate : ℕ → ℕ) (d : Draft) (n e k : ℕ) (m : Measured gate d n e k) where
-  four : (kind a b c : ℕ) → length (d .words ++ (kind ∷ a ∷ b ∷ c ∷ [])) ≡ 4 * suc n
-  four kind a b c = length-append (d .words) (kind ∷ a ∷ b ∷ c ∷ []) ∙ omega (arith, m .whole)
+  whole-with : (w : NodeWords) → length (withNode (d .words) w) ≡ width * suc n
+  whole-with w = length-append (d .words) (wordList w) ∙ omega (arith, m .whole, wordList-length w)
 
-  pub measured-node : (kind a b c : ℕ) → isBlockKind kind ≡ false → Measured gate (store d kind a b c .draft) (suc n) e k
+  pub measured-node : (w : NodeWords) → isBlockKind (w .kind) ≡ false → Measured gate (store d w .draft) (suc n) e k
   unfolding store
-  measured-node kind a b c h =
-      let us : List ℕ = kind ∷ a ∷ b ∷ c ∷ [] in
-      let z = pick-no (isBlockKind kind) b 0 h in
+  measured-node w h =
+      let z = pick-no (isBlockKind (w .kind)) (w .b) 0 h in
       record {
         gate-is = m .gate-is;
-        whole = four kind a b c;
+        whole = whole-with w;
         listed = m .listed;
-        counted = sum-after (d .words) n (m .whole) kind a b c ∙ omega (arith, m .counted);
+        counted = sum-after (d .words) n (m .whole) w ∙ omega (arith, m .counted);
         low = λ l. let x = m .low l in omega arith;
         lowest-is =
-            lowest-plain (exceeds limit (d .words ++ us)) n e k 0 (m .low) (lowest-before (d .words) n (m .whole) limit us ∙ m .lowest-is)
-            (exceeds-after (d .words) n (m .whole) limit kind a b c ∙ and-off-left (isBlockKind kind) _ h);
+            lowest-plain (tooManyVariables limit (withNode (d .words) w)) n e k 0 (m .low) (lowest-before (d .words) n (m .whole) w limit ∙ m .lowest-is)
+            (over-after (d .words) n (m .whole) w limit ∙ and-off-left (isBlockKind (w .kind)) _ h);
       }
 
-  pub measured-block : (kind a c : ℕ) (xs : List ℕ) → isBlockKind kind ≡ true → Measured gate (store (record { words = d .words; entries = d .entries ++ xs; gate = d .gate }) kind a (length xs) c .draft) (suc n) (e + length xs) (pick (ltb limit e) k n)
+  pub measured-block : (w : NodeWords) (xs : List ℕ) → isBlockKind (w .kind) ≡ true → w .b ≡ length xs
+      → Measured gate (store (record { words = d .words; entries = d .entries ++ xs; gate = d .gate }) w .draft) (suc n) (e + length xs) (pick (ltb limit e) k n)
   unfolding store
-  measured-block kind a c xs h =
+  measured-block w xs h l =
       let b : ℕ = length xs in
-      let us : List ℕ = kind ∷ a ∷ b ∷ c ∷ [] in
-      let z = pick-yes (isBlockKind kind) b 0 h in
-      let is : lowest (exceeds limit (d .words ++ us)) n ≡ pick (ltb limit e) k n = lowest-before (d .words) n (m .whole) limit us ∙ m .lowest-is in
+      let z = pick-yes (isBlockKind (w .kind)) (w .b) 0 h in
+      let is : lowest (tooManyVariables limit (withNode (d .words) w)) n ≡ pick (ltb limit e) k n = lowest-before (d .words) n (m .whole) w limit ∙ m .lowest-is in
       record {
         gate-is = m .gate-is;
-        whole = four kind a b c;
+        whole = whole-with w;
         listed = length-append (d .entries) xs ∙ ap (λ (x : ℕ). x + length xs) (m .listed);
-        counted = sum-after (d .words) n (m .whole) kind a b c ∙ omega (arith, m .counted);
-        low = low-block (exceeds limit (d .words ++ us)) n e k b (m .low) is;
+        counted = sum-after (d .words) n (m .whole) w ∙ omega (arith, m .counted);
+        low = low-block (tooManyVariables limit (withNode (d .words) w)) n e k b (m .low) is;
         lowest-is =
-            lowest-block (exceeds limit (d .words ++ us)) n e k b (m .low) is
-            (exceeds-after (d .words) n (m .whole) limit kind a b c
-            ∙ ap (λ (t : Bool). t && ltb limit (sum (countAt (d .words)) n + b)) h
+            lowest-block (tooManyVariables limit (withNode (d .words) w)) n e k b (m .low) is
+            (over-after (d .words) n (m .whole) w limit
+            ∙ ap (λ (t : Bool). t && ltb limit (sum (countAt (d .words)) n + w .b)) h
+            ∙ ap (λ (x : ℕ). ltb limit (sum (countAt (d .words)) n + x)) l
             ∙ ap (λ (x : ℕ). ltb limit (x + b)) (m .counted));
       }

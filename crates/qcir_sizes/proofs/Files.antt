@@ -12,13 +12,14 @@ use borrow.Author.Tests.{not-false, eq-eqb, ne-eqb, le-leb, lt-leb}
 use Rattle.lists.specs.Choice.{pick, pick-yes, pick-no, Is, is-true, is-false, look, and-both, and-off-left, and-off-right}
 use Rattle.lists.proofs.Members.{eqb-swap}
 use Rattle.lists.specs.Search.{lowest}
-use Rattle.formula.specs.Node.{Quantifier, exists, for-all}
-use Rattle.formula.specs.Words.{nodeCount, isBlockKind}
+use Rattle.formula.specs.Node.{Quantifier, exists, for-all, Node, constant, variable, negation, operator, block}
+use Rattle.formula.specs.Words.{nodeCount, isBlockKind, wordsOf, blockWords}
+use Rattle.formula.specs.Form.{kindOf}
+use Rattle.formula.proofs.Nodes.{block-kind-of}
 use Rattle.acceptance.specs.Limits.{limit}
+use Rattle.acceptance.specs.Verdict.{tooManyVariables}
 use Rattle.qcir.specs.File.{Name, Literal, Junction, Gate, junction-gate, xor-gate, quantified-gate, gateName, Line, lineVariables, File, numbersOf}
-use Rattle.qcir.specs.Table.{Draft, Stored, store, storeName, storeLiteral, storeInputs, blockKind, storeBlock, junctionTable, emptyValue, storeGate, storeGates, storePrefix, emptyDraft, fileDraft, tableWords, tableList}
-use Rattle.qcir.specs.Reading.{exceeds}
-use Rattle.qcir.proofs.StoredCounts.{block-kind}
+use Rattle.qcir.specs.Table.{Draft, Stored, store, storeName, storeLiteral, storeInputs, storeBlock, junctionTable, emptyValue, storeGate, storeGates, storePrefix, emptyDraft, fileDraft, tableWords, tableList}
 use Rattle.qcir_tokens.specs.Tokens.{Token, token, lineRole, laterRole, outputRole, junctionRole, xorRole, quantifierRole, boundRole, inputRole, emptyRole, isOuter, isFree, isDefinition, isBound, isInput, isMinus, listTokens, freeTokens, prefixTokens, outputToken, inputsTokens, anyInputsTokens, gateTokens, gatesTokens, fileTokens, definitionFrom}
 use Rattle.qcir_tokens.specs.Held.{Definitions}
 use Rattle.qcir_tokens.proofs.Roles.{free-all, line-all, later-all, output-all, bound-all, input-all, output-minus, input-minus, output-no-definition, bound-no-definition, input-no-definition, junction-defines, xor-defines, quantifier-defines, Quiet, none, more, quiet-free, quiet-front, front-no-definition, gate-tokens}
@@ -33,21 +34,14 @@ use Rattle.qcir_sizes.proofs.Drafts.{node-count, Measured, measured-emp
 abbrev Counts : (ℕ → ℕ) → Draft → Pass → Type 0
 Counts gate d s = Measured gate d (s .nodes) (s .entries) (s .excess)
 
-variable-plain : isBlockKind 2 ≡ false
-unfolding isBlockKind
-variable-plain = refl
-
-negation-plain : isBlockKind 3 ≡ false
-unfolding isBlockKind
-negation-plain = refl
-
-operator-plain : isBlockKind 4 ≡ false
-unfolding isBlockKind
-operator-plain = refl
-
-constant-plain : isBlockKind 1 ≡ false
-unfolding isBlockKind
-constant-plain = refl
+-- the words of a node are no block's
+plain : (nd : Node) → isBlockKind (wordsOf nd .kind) ≡ false
+unfolding wordsOf isBlockKind
+plain (constant b) = refl
+plain (variable x) = refl
+plain (negation i) = refl
+plain (operator t i j) = refl
+plain (block q xs i) = refl
 
 -- A name and a literal add what their tests say.
 module _ (gate : ℕ → ℕ) (d : Draft) (n e k : ℕ) (m : Measured gate d n e k) where
@@ -58,27 +52,27 @@ module _ (gate : ℕ → ℕ) (d : Draft) (n e k : ℕ) (m : Measured gate d n e
       same : eqb (d .gate x) 0 ≡ eqb (gate x) 0
       same = ap (λ (g : ℕ → ℕ). eqb (g x) 0) (m .gate-is)
 
-      go : Is (eqb (gate x) 0) → Measured gate (pick (eqb (d .gate x) 0) (store d 2 x 0 0) (record { draft = d; node = d .gate x - 1 }) .draft) (n + pick (eqb (gate x) 0) 1 0) e k
+      go : Is (eqb (gate x) 0) → Measured gate (pick (eqb (d .gate x) 0) (store d (wordsOf (variable x))) (record { draft = d; node = d .gate x - 1 }) .draft) (n + pick (eqb (gate x) 0) 1 0) e k
       go (is-true t) =
           let a : n + pick (eqb (gate x) 0) 1 0 ≡ suc n = omega (arith, pick-yes {A = ℕ} (eqb (gate x) 0) 1 0 t) in
-          rw (pick-yes (eqb (d .gate x) 0) (store d 2 x 0 0) (record { draft = d; node = d .gate x - 1 }) (same ∙ t), a)
-          (measured-node gate d n e k m 2 x 0 0 variable-plain)
+          rw (pick-yes (eqb (d .gate x) 0) (store d (wordsOf (variable x))) (record { draft = d; node = d .gate x - 1 }) (same ∙ t), a)
+          (measured-node gate d n e k m (wordsOf (variable x)) (plain (variable x)))
       go (is-false t) =
           let a : n + pick (eqb (gate x) 0) 1 0 ≡ n = omega (arith, pick-no {A = ℕ} (eqb (gate x) 0) 1 0 t) in
-          rw (pick-no (eqb (d .gate x) 0) (store d 2 x 0 0) (record { draft = d; node = d .gate x - 1 }) (same ∙ t), a) m
+          rw (pick-no (eqb (d .gate x) 0) (store d (wordsOf (variable x))) (record { draft = d; node = d .gate x - 1 }) (same ∙ t), a) m
 
 module _ (gate : ℕ → ℕ) (d : Draft) (n e k : ℕ) (m : Measured gate d n e k) where
   measured-literal : (l : Literal) → Measured gate (storeLiteral d l .draft) (n + pick (eqb (gate (l .name .number)) 0) 1 0 + pick (l .minus) 1 0) e k
   unfolding storeLiteral
   measured-literal l = go (l .minus) _ (storeName d (l .name .number)) (measured-name gate d n e k m (l .name .number))
     where
-      go : (b : Bool) (j : ℕ) (s : Stored) → Measured gate (s .draft) j e k → Measured gate (pick b (store (s .draft) 3 (s .node) 0 0) s .draft) (j + pick b 1 0) e k
+      go : (b : Bool) (j : ℕ) (s : Stored) → Measured gate (s .draft) j e k → Measured gate (pick b (store (s .draft) (wordsOf (negation (s .node)))) s .draft) (j + pick b 1 0) e k
       go true j s r =
           let a : j + pick true 1 0 ≡ suc j = omega (arith, pick-yes {A = ℕ} true 1 0 refl) in
-          rw (pick-yes true (store (s .draft) 3 (s .node) 0 0) s refl, a) (measured-node gate (s .draft) j e k r 3 (s .node) 0 0 negation-plain)
+          rw (pick-yes true (store (s .draft) (wordsOf (negation (s .node)))) s refl, a) (measured-node gate (s .draft) j e k r (wordsOf (negation (s .node))) (plain (negation (s .node))))
       go false j s r =
           let a : j + pick false 1 0 ≡ j = omega (arith, pick-no {A = ℕ} false 1 0 refl) in
-          rw (pick-no false (store (s .draft) 3 (s .node) 0 0) s refl, a) r
+          rw (pick-no false (store (s .draft) (wordsOf (negation (s .node)))) s refl, a) r
 
 -- What a token's role says.
 input-no-bound : (a b : Bool) → isBound (inputRole a b) ≡ false
@@ -184,8 +178,8 @@ module _ (gates : List ℕ) (gate : ℕ → ℕ) where
   Known line = (x : ℕ) → eqb (gate x) 0 ≡ not (isEarlier (getD gates x 0) line)
 
   -- one node more
-  counts-node : (d : Draft) (n e k : ℕ) → Measured gate d n e k → (kind a b c : ℕ) → isBlockKind kind ≡ false → Measured gate (store d kind a b c .draft) (n + 1) e k
-  counts-node d n e k m kind a b c h = rw (add-one n) (measured-node gate d n e k m kind a b c h)
+  counts-node : (d : Draft) (n e k : ℕ) → Measured gate d n e k → (nd : Node) → Measured gate (store d (wordsOf nd) .draft) (n + 1) e k
+  counts-node d n e k m nd = rw (add-one n) (measured-node gate d n e k m (wordsOf nd) (plain nd))
 
   operand-first : (d : Draft) (s : Pass) → Counts gate d s → s .first ≡ true → Known (s .line) → (l : Literal) (b : Bool) → Counts gate (storeLiteral d l .draft) (operandAdded (inputRole (l .minus) b) (getD gates (l .name .number) 0) s)
   unfolding operandAdded
@@ -197,7 +191,7 @@ module _ (gates : List ℕ) (gate : ℕ → ℕ) where
       let e : s .nodes + pick (eqb (gate x) 0) 1 0 + pick (l .minus) 1 0 ≡ s .nodes + pick (not (isEarlier (getD gates x 0) (s .line))) 1 0 + pick (isMinus (inputRole (l .minus) b)) 1 0 + pick (not (s .first)) 1 0 = omega arith in
       subst (λ (j : ℕ). Measured gate (storeLiteral d l .draft) j (s .entries) (s .excess)) e (measured-literal gate d (s .nodes) (s .entries) (s .excess) m l)
 
-  operand-later : (d : Draft) (s : Pass) → Counts gate d s → s .first ≡ false → Known (s .line) → (l : Literal) (b : Bool) (t u v : ℕ) → Counts gate (store (storeLiteral d l .draft) 4 t u v .draft) (operandAdded (inputRole (l .minus) b) (getD gates (l .name .number) 0) s)
+  operand-later : (d : Draft) (s : Pass) → Counts gate d s → s .first ≡ false → Known (s .line) → (l : Literal) (b : Bool) (t u v : ℕ) → Counts gate (store (storeLiteral d l .draft) (wordsOf (operator t u v)) .draft) (operandAdded (inputRole (l .minus) b) (getD gates (l .name .number) 0) s)
   unfolding operandAdded
   operand-later d s m f known l b t u v =
       let x : ℕ = l .name .number in
@@ -205,9 +199,9 @@ module _ (gates : List ℕ) (gate : ℕ → ℕ) where
       let q = ap (λ (t : Bool). pick {A = ℕ} t 1 0) (input-minus (l .minus) b) in
       let r = ap (λ (t : Bool). pick {A = ℕ} (not t) 1 0) f ∙ pick-yes _ _ _ refl in
       let e : s .nodes + pick (eqb (gate x) 0) 1 0 + pick (l .minus) 1 0 + 1 ≡ s .nodes + pick (not (isEarlier (getD gates x 0) (s .line))) 1 0 + pick (isMinus (inputRole (l .minus) b)) 1 0 + pick (not (s .first)) 1 0 = omega arith in
-      subst (λ (j : ℕ). Measured gate (store (storeLiteral d l .draft) 4 t u v .draft) j (s .entries) (s .excess)) e
+      subst (λ (j : ℕ). Measured gate (store (storeLiteral d l .draft) (wordsOf (operator t u v)) .draft) j (s .entries) (s .excess)) e
       (counts-node (storeLiteral d l .draft) (s .nodes + pick (eqb (gate x) 0) 1 0 + pick (l .minus) 1 0) (s .entries) (s .excess)
-      (measured-literal gate d (s .nodes) (s .entries) (s .excess) m l) 4 t u v operator-plain)
+      (measured-literal gate d (s .nodes) (s .entries) (s .excess) m l) (operator t u v))
 
   -- inputs after the first, each with its operator
   later-inputs : (t : ℕ) (l : Literal) (ls : List Literal) (i : ℕ) (s : Pass) (st : Stored) → Counts gate (st .draft) s → s .first ≡ false → s .bound ≡ 0 → Known (s .line) → Counts gate (storeInputs t st (l ∷ ls) .draft) (gatesPass gates i (inputsTokens l ls) s)
@@ -219,7 +213,7 @@ module _ (gates : List ℕ) (gate : ℕ → ℕ) where
       let g : ℕ = getD gates (l .name .number) 0 in
       let r : Stored = storeLiteral (st .draft) l in
       subst (λ (p : Pass). Counts gate (storeInputs t st (l ∷ h ∷ hs) .draft) (gatesPass gates (suc i) (inputsTokens h hs) p)) (sym (step-operand g i s (l .minus) false z))
-      (later-inputs t h hs (suc i) (operandAdded (inputRole (l .minus) false) g s) (store (r .draft) 4 t (st .node) (r .node))
+      (later-inputs t h hs (suc i) (operandAdded (inputRole (l .minus) false) g s) (store (r .draft) (wordsOf (operator t (st .node) (r .node))))
       (operand-later (st .draft) s m f known l false t (st .node) (r .node)) refl z known)
 
   -- all inputs of a gate that is not quantified
@@ -235,10 +229,10 @@ module _ (gates : List ℕ) (gate : ℕ → ℕ) where
 
   -- a block over what a draft ends with
   counts-block : (q : Quantifier) (xs : List ℕ) (st : Stored) (s : Pass) → Counts gate (st .draft) s → s .bound ≡ length xs → Counts gate (storeBlock q xs st .draft) (blockAdded s)
-  unfolding storeBlock blockAdded
+  unfolding storeBlock blockAdded blockWords
   counts-block q xs st s m e =
       rw (add-one (s .nodes), e)
-      (measured-block gate (st .draft) (s .nodes) (s .entries) (s .excess) m (blockKind q) (length (st .draft .entries)) (st .node) xs (block-kind q))
+      (measured-block gate (st .draft) (s .nodes) (s .entries) (s .excess) m (blockWords (kindOf q) (length (st .draft .entries)) (length xs) (st .node)) xs (block-kind-of q) refl)
 
   -- the input of a quantified gate, and its block
   quantified-input : (q : Quantifier) (xs : List ℕ) (l : Literal) (i : ℕ) (s : Pass) (d : Draft) → Counts gate d s → s .first ≡ true → s .bound ≡ length xs → 0 < length xs → Known (s .line) → Counts gate (storeBlock q xs (storeLiteral d l) .draft) (gatesPass gates i (inputsTokens l []) s)
@@ -255,11 +249,11 @@ module _ (gates : List ℕ) (gate : ℕ → ℕ) where
       subst (λ (p : Pass). Counts gate d (gatesPass gates (suc i) ts p)) (sym (step-definition (getD gates (x .number) 0) i s role h)) m
 
   -- a gate without inputs
-  empty-counts : (j : Junction) (x : Name) (i : ℕ) (s : Pass) (d : Draft) → Counts gate d s → Counts gate (store d 1 (emptyValue j) 0 0 .draft) (gatesPass gates (suc i) (token emptyRole x ∷ []) (lineBegun i s))
+  empty-counts : (j : Junction) (x : Name) (i : ℕ) (s : Pass) (d : Draft) → Counts gate d s → Counts gate (store d (wordsOf (constant (emptyValue j))) .draft) (gatesPass gates (suc i) (token emptyRole x ∷ []) (lineBegun i s))
   unfolding gatesPass token lineBegun constantAdded
   empty-counts j x i s d m =
-      subst (λ (p : Pass). Counts gate (store d 1 (emptyValue j) 0 0 .draft) p) (sym (step-empty (getD gates (x .number) 0) (suc i) (lineBegun i s)))
-      (counts-node d (s .nodes) (s .entries) (s .excess) m 1 (emptyValue j) 0 0 constant-plain)
+      subst (λ (p : Pass). Counts gate (store d (wordsOf (constant (emptyValue j))) .draft) p) (sym (step-empty (getD gates (x .number) 0) (suc i) (lineBegun i s)))
+      (counts-node d (s .nodes) (s .entries) (s .excess) m (constant (emptyValue j)))
 
   quantified-counts : (q : Quantifier) (y : Name) (ys : List Name) (l : Literal) (i : ℕ) (s : Pass) (d : Draft) → Counts gate d s → Known i → Counts gate (storeBlock q (numbersOf (y ∷ ys)) (storeLiteral d l) .draft) (gatesPass gates (suc i) (listTokens boundRole boundRole y ys ++ inputsTokens l []) (lineBegun i s))
   unfolding lineBegun variablesAdded numbersOf
@@ -492,7 +486,7 @@ whole-counts f gates h =
     (b .counts)
 
 -- The sizes are those of the file's table.
-pub sizes-of-file : (f : File) (gates : List ℕ) → Definitions gates (fileTokens f) → (r : TableSizes) → r ≡ sizesOf (filePass gates 0 (fileTokens f)) → (r .nodes ≡ nodeCount (tableWords f)) × (r .entries ≡ length (tableList f)) × (r .excess ≡ lowest (exceeds limit (tableWords f)) (nodeCount (tableWords f)))
+pub sizes-of-file : (f : File) (gates : List ℕ) → Definitions gates (fileTokens f) → (r : TableSizes) → r ≡ sizesOf (filePass gates 0 (fileTokens f)) → (r .nodes ≡ nodeCount (tableWords f)) × (r .entries ≡ length (tableList f)) × (r .excess ≡ lowest (tooManyVariables limit (tableWords f)) (nodeCount (tableWords f)))
 unfolding sizesOf tableWords tableList
 sizes-of-file f gates h r e =
     let m = whole-counts f gates h in
@@ -500,5 +494,5 @@ sizes-of-file f gates h r e =
     let n : nodeCount (fileDraft f .words) ≡ s .nodes = node-count (fileDraft f .words) (s .nodes) (m .whole) in (
       ap (λ (t : TableSizes). t .nodes) e ∙ sym n,
       ap (λ (t : TableSizes). t .entries) e ∙ sym (m .listed),
-      ap (λ (t : TableSizes). t .excess) e ∙ sym (m .lowest-is) ∙ ap (lowest (exceeds limit (fileDraft f .words))) (sym n),
+      ap (λ (t : TableSizes). t .excess) e ∙ sym (m .lowest-is) ∙ ap (lowest (tooManyVariables limit (fileDraft f .words))) (sym n),
     )

@@ -9,9 +9,9 @@ ghost use Rattle.lists.specs.Choice.{pick};
 ghost use Rattle.lists.specs.Search.{lowest};
 ghost use Rattle.formula.specs.Words.{nodeCount};
 ghost use Rattle.acceptance.specs.Limits.{limit};
+ghost use Rattle.acceptance.specs.Verdict.{tooManyVariables};
 ghost use Rattle.qcir.specs.File.{File};
 ghost use Rattle.qcir.specs.Table.{tableWords, tableList};
-ghost use Rattle.qcir.specs.Reading.{exceeds};
 ghost use Rattle.qcir_tokens.specs.Tokens.{isOuter, fileTokens};
 ghost use Rattle.qcir_tokens.specs.Held.{tokensFrom, numberCount, Definitions, tokenLimit};
 ghost use Rattle.qcir_sizes.specs.Pass.{
@@ -57,7 +57,7 @@ pub struct Pass {
 pub fn table_sizes(roles: &[u8], numbers: &[u16], count: usize, gates: &[u16]) -> TableSizes
     requires { ⌜ (count ≤ length (now roles)) × (count ≤ length (now numbers)) × (count ≤ tokenLimit) ⌝ }
     requires { ⌜ ((ps : List ℕ) → Definitions (now gates) (tokensFrom (now roles) (now numbers) ps 0 count)) ⌝ }
-    ensures { λ r. ⌜ ((f : File) (ps : List ℕ) → tokensFrom (now (roles .entry)) (now (numbers .entry)) ps 0 count ≡ fileTokens f → (r .nodes ≡ nodeCount (tableWords f)) × (r .entries ≡ length (tableList f)) × (r .excess ≡ lowest (exceeds limit (tableWords f)) (nodeCount (tableWords f)))) ⌝ }
+    ensures { λ r. ⌜ ((f : File) (ps : List ℕ) → tokensFrom (now (roles .entry)) (now (numbers .entry)) ps 0 count ≡ fileTokens f → (r .nodes ≡ nodeCount (tableWords f)) × (r .entries ≡ length (tableList f)) × (r .excess ≡ lowest (tooManyVariables limit (tableWords f)) (nodeCount (tableWords f)))) ⌝ }
 {
     let end = outer_end(roles, count);
     let inner = inner_pass(roles, numbers, count, gates, end);
