@@ -30,10 +30,20 @@ words-node ls (negation a) h = refl
 words-node ls (operator f a b) h = refl
 words-node ls (block q xs a) h = clash refl h
 
+-- The words of a block.
 pub block-words-node : (ls : List ℕ) (q : Quantifier) (first count body : ℕ) → nodeOf ls (blockWords (kindOf q) first count body) ≡ block q (range ls first count) body
 unfolding blockWords kindOf nodeOf pick
 block-words-node ls exists first count body = refl
 block-words-node ls for-all first count body = refl
+
+-- No other node has the kind of a block.
+pub words-plain : (nd : Node) → isBlockKind (wordsOf nd .kind) ≡ false
+unfolding wordsOf isBlockKind
+words-plain (constant b) = refl
+words-plain (variable x) = refl
+words-plain (negation a) = refl
+words-plain (operator f a b) = refl
+words-plain (block q xs a) = refl
 
 pub block-kind-of : (q : Quantifier) → isBlockKind (kindOf q) ≡ true
 unfolding kindOf isBlockKind

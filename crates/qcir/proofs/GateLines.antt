@@ -13,7 +13,7 @@ use Rattle.lists.specs.Members.{mem, times, distinct}
 use Rattle.lists.proofs.Members.{mem-head, mem-left, mem-right, mem-tail, times-zero, times-append}
 use Rattle.acceptance.specs.Verdict.{isNumber}
 use Rattle.qcir.specs.File.{Name, Gate, gateName, gateVariables, gateInputs, Line, lineVariables, prefixVariables, File, numbersOf, namesOf}
-use Rattle.qcir.specs.Refusals.{keep, gateNames, outerNames, quantifiedNames, repeated, repeatedInGates, gatesListed, namingGates, without, earlyUses, misplaced, inputNumbers, usedNumbers, notUsedOnce}
+use Rattle.qcir.specs.Refusals.{gateNames, outerNames, quantifiedNames, repeated, repeatedInGates, gatesListed, namingGates, without, earlyUses, misplaced, inputNumbers, usedNumbers, notUsedOnce}
 use Rattle.qcir.proofs.Keep.{keep-none}
 use Rattle.qcir.proofs.Numbers.{lineNames, linesNames, allNumbers, Ranged}
 

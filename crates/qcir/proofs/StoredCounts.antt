@@ -10,11 +10,11 @@ use lib.ListN.{length, length-append}
 use Rattle.lists.specs.Choice.{pick, pick-yes, pick-no}
 use Rattle.lists.specs.Parts.{sum}
 use Rattle.lists.proofs.Parts.{sum-cong}
-use Rattle.formula.specs.Node.{Quantifier, constant, variable, negation, operator}
+use Rattle.formula.specs.Node.{Quantifier, Node, constant, variable, negation, operator}
 use Rattle.formula.specs.Words.{width, nodeCount, isBlockKind, wordsOf, blockWords}
 use Rattle.formula.specs.Form.{kindOf}
 use Rattle.formula.specs.declared.NodeWords.{NodeWords}
-use Rattle.formula.proofs.Nodes.{block-kind-of}
+use Rattle.formula.proofs.Nodes.{words-plain, block-kind-of}
 use Rattle.acceptance.specs.Verdict.{countAt}
 use Rattle.qcir.specs.File.{Literal, Gate, junction-gate, xor-gate, quantified-gate, Line, lineVariables, File, numbersOf}
 use Rattle.qcir.specs.Table.{Draft, Stored, store, storeName, storeLiteral, storeInputs, storeBlock, junctionTable, emptyValue, storeGate, storeGates, storePrefix, emptyDraft, fileDraft, tableWords, tableList}
@@ -54,11 +54,11 @@ abbrev Whole : Draft → Type 0
 Whole d = Counts (d .words) (length (d .entries))
 
 -- a node that is no block
-whole-store : (d : Draft) (w : NodeWords) → isBlockKind (w .kind) ≡ false → Whole d → Whole (store d w .draft)
+whole-store : (d : Draft) (nd : Node) → Whole d → Whole (store d (wordsOf nd) .draft)
 unfolding store
-whole-store d w k p =
-    let e : length (d .entries) + countOf w ≡ length (d .entries) = rw (pick-no _ _ _ k) (omega arith) in
-    subst (Counts (withNode (d .words) w)) e (counts-more (d .words) (length (d .entries)) w p)
+whole-store d nd p =
+    let e : length (d .entries) + countOf (wordsOf nd) ≡ length (d .entries) = rw (pick-no _ _ _ (words-plain nd)) (omega arith) in
+    subst (Counts (withNode (d .words) (wordsOf nd))) e (counts-more (d .words) (length (d .entries)) (wordsOf nd) p)
 
 whole-block : (q : Quantifier) (xs : List ℕ) (s : Stored) → Whole (s .draft) → Whole (storeBlock q xs s .draft)
 unfolding storeBlock store blockWords
@@ -70,27 +70,27 @@ whole-block q xs s p =
     subst (Counts (withNode (d .words) w)) e (counts-more (d .words) (length (d .entries)) w p)
 
 whole-name : (d : Draft) (x : ℕ) → Whole d → Whole (storeName d x .draft)
-unfolding storeName isBlockKind wordsOf
-whole-name d x p = either (λ s. Whole (s .draft)) (eqb (d .gate x) 0) _ _ (whole-store d (wordsOf (variable x)) refl p) p
+unfolding storeName
+whole-name d x p = either (λ s. Whole (s .draft)) (eqb (d .gate x) 0) _ _ (whole-store d (variable x) p) p
 
 whole-literal : (d : Draft) (l : Literal) → Whole d → Whole (storeLiteral d l .draft)
-unfolding storeLiteral isBlockKind wordsOf
+unfolding storeLiteral
 whole-literal d l p =
     let s = storeName d (l .name .number) in
     let q = whole-name d (l .name .number) p in
-    either (λ s. Whole (s .draft)) (l .minus) _ _ (whole-store (s .draft) (wordsOf (negation (s .node))) refl q) q
+    either (λ s. Whole (s .draft)) (l .minus) _ _ (whole-store (s .draft) (negation (s .node)) q) q
 
 whole-inputs : (t : ℕ) (s : Stored) (ls : List Literal) → Whole (s .draft) → Whole (storeInputs t s ls .draft)
-unfolding storeInputs isBlockKind wordsOf
+unfolding storeInputs
 whole-inputs t s [] p = p
 whole-inputs t s (l ∷ ls) p =
     let r = storeLiteral (s .draft) l in
-    let w = wordsOf (operator t (s .node) (r .node)) in
-    whole-inputs t (store (r .draft) w) ls (whole-store (r .draft) w refl (whole-literal (s .draft) l p))
+    let nd = operator t (s .node) (r .node) in
+    whole-inputs t (store (r .draft) (wordsOf nd)) ls (whole-store (r .draft) nd (whole-literal (s .draft) l p))
 
 whole-gate : (d : Draft) (g : Gate) → Whole d → Whole (storeGate d g .draft)
-unfolding storeGate isBlockKind wordsOf
-whole-gate d (junction-gate j g []) p = whole-store d (wordsOf (constant (emptyValue j))) refl p
+unfolding storeGate
+whole-gate d (junction-gate j g []) p = whole-store d (constant (emptyValue j)) p
 whole-gate d (junction-gate j g (l ∷ ls)) p = whole-inputs (junctionTable j) (storeLiteral d l) ls (whole-literal d l p)
 whole-gate d (xor-gate g l r) p = whole-inputs 6 (storeLiteral d l) (r ∷ []) (whole-literal d l p)
 whole-gate d (quantified-gate q g x xs l) p = whole-block q (numbersOf (x ∷ xs)) (storeLiteral d l) (whole-literal d l p)

@@ -1,7 +1,7 @@
 -- What is stored for names, inputs, gate lines and prefix lines has their values.
 -- Assumes nothing.
 use mathlib.Core.Path.{_≡_, refl, sym, _∙_, ap, subst}
-use mathlib.Core.Bool.{Bool, true, false, not, _&&_, _||_, and-true, and-assoc, or-false, or-assoc}
+use mathlib.Core.Bool.{Bool, true, false, _&&_, _||_, and-true, and-assoc, or-false, or-assoc}
 use mathlib.Core.List.{List, [], _∷_, _++_, map, append-assoc}
 use Prim.Native.Nat.{ℕ, suc, _+_, _-_, _≤_}
 use native.Mathlib.Omega.{arith}
@@ -14,8 +14,9 @@ use Rattle.lists.proofs.Members.{mem-head, mem-tail, mem-left, mem-right, all-i
 use Rattle.formula.specs.Node.{variable, operator}
 use Rattle.formula.specs.Words.{wordsOf, tableOf}
 use Rattle.formula.specs.Valuation.{Valuation}
-use Rattle.formula.specs.Truth.{bit, digit, operatorValue}
+use Rattle.formula.specs.Truth.{operatorValue}
 use Rattle.formula.specs.Tree.{timesNamed}
+use Rattle.formula.proofs.Meaning.{operator-names}
 use Rattle.acceptance.specs.Verdict.{isNumber}
 use Rattle.qcir.specs.File.{Name, Literal, Junction, conjunction, disjunction, Gate, junction-gate, xor-gate, quantified-gate, gateName, gateVariables, gateInputs, Line, lineVariables, numbersOf, namesOf}
 use Rattle.qcir.specs.Meaning.{Meaning, literalValue, junctionValue, gateValue, meaning, prefixValue}
@@ -26,28 +27,6 @@ use Rattle.qcir.proofs.GateLines.{numbers-append, Lines, no-line, line,
 use Rattle.qcir.proofs.StoredValues.{Kept, kept-same, kept-more, Stands, stands-kept, stands-as}
 use Rattle.qcir.proofs.StoredNodes.{Sound}
 use Rattle.qcir.proofs.Drafts.{draftTable, below-no, times-one, times-other, times-cons, Holds, Stores, new-constant, new-variable, new-negation, new-operator, new-block}
-
--- the operators of gates
-and-value : (a b : Bool) → operatorValue 8 a b ≡ (a && b)
-unfolding operatorValue bit digit
-and-value true true = refl
-and-value true false = refl
-and-value false true = refl
-and-value false false = refl
-
-or-value : (a b : Bool) → operatorValue 14 a b ≡ (a || b)
-unfolding operatorValue bit digit
-or-value true true = refl
-or-value true false = refl
-or-value false true = refl
-or-value false false = refl
-
-xor-value : (a b : Bool) → operatorValue 6 a b ≡ pick a (not b) b
-unfolding operatorValue bit digit pick
-xor-value true true = refl
-xor-value true false = refl
-xor-value false true = refl
-xor-value false false = refl
 
 -- the operator with truth table t from left to right, over a first value and inputs
 folded : ℕ → Meaning → (Valuation → Bool) → List Literal → Valuation → Bool
@@ -60,7 +39,7 @@ unfolding folded junctionValue
 and-folded m g [] v = sym (and-true (g v))
 and-folded m g (l ∷ ls) v =
     and-folded m (λ v. operatorValue 8 (g v) (literalValue m l v)) ls v
-    ∙ ap (λ b. b && junctionValue m conjunction ls v) (and-value (g v) (literalValue m l v))
+    ∙ ap (λ b. b && junctionValue m conjunction ls v) (operator-names .and-8 (g v) (literalValue m l v))
     ∙ and-assoc (g v) (literalValue m l v) (junctionValue m conjunction ls v)
 
 or-folded : (m : Meaning) (g : Valuation → Bool) (ls : List Literal) (v : Valuation)
@@ -69,7 +48,7 @@ unfolding folded junctionValue
 or-folded m g [] v = sym (or-false (g v))
 or-folded m g (l ∷ ls) v =
     or-folded m (λ v. operatorValue 14 (g v) (literalValue m l v)) ls v
-    ∙ ap (λ b. b || junctionValue m disjunction ls v) (or-value (g v) (literalValue m l v))
+    ∙ ap (λ b. b || junctionValue m disjunction ls v) (operator-names .or-14 (g v) (literalValue m l v))
     ∙ or-assoc (g v) (literalValue m l v) (junctionValue m disjunction ls v)
 
 junction-folded : (m : Meaning) (j : Junction) (l : Literal) (ls : List Literal) (v : Valuation)
@@ -283,7 +262,7 @@ module _ (R : Type 0) where
   gate-stores d hand uses m (junction-gate j g (l ∷ ls)) r u n p =
       stores-as (junction-folded m j l ls) (gate-inputs (junctionTable j) (table-small j) d hand uses m l ls r p)
   gate-stores d hand uses m (xor-gate g l k) r u n p =
-      stores-as (λ v. xor-value (literalValue m l v) (literalValue m k v)) (gate-inputs 6 (omega arith) d hand uses m l (k ∷ []) r p)
+      stores-as (λ v. operator-names .xor-6 (literalValue m l v) (literalValue m k v)) (gate-inputs 6 (omega arith) d hand uses m l (k ∷ []) r p)
   gate-stores d hand uses m (quantified-gate q g x xs l) r u n p =
       let e = storeLiteral d l in
       let a = literal-stores d hand uses m l (λ h. r h _ (mem-head _ _)) p in

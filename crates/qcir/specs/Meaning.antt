@@ -1,6 +1,6 @@
 -- The truth value of a QCIR file, on what the file says.
 -- Assumes nothing.
-use mathlib.Core.Bool.{Bool, true, false, not, _&&_, _||_}
+use mathlib.Core.Bool.{Bool, true, false, not, _&&_, _||_, xor}
 use mathlib.Core.List.{List, [], _∷_}
 use Prim.Native.Nat.{ℕ}
 use lib.Dec.{eqb}
@@ -27,7 +27,7 @@ junctionValue m disjunction (l ∷ ls) v = literalValue m l v || junctionValue m
 -- the valuations that the quantifier makes, whatever stands below it.
 unfoldable pub gateValue : Meaning → Gate → Valuation → Bool
 gateValue m (junction-gate j g ls) v = junctionValue m j ls v
-gateValue m (xor-gate g l r) v = pick (literalValue m l v) (not (literalValue m r v)) (literalValue m r v)
+gateValue m (xor-gate g l r) v = xor (literalValue m l v) (literalValue m r v)
 gateValue m (quantified-gate q g x xs l) v = quant q (numbersOf (x ∷ xs)) (literalValue m l) v
 
 -- The values of all names, given those before the gate lines: a gate line gives its name the gate's value.

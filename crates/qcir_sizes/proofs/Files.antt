@@ -12,10 +12,10 @@ use borrow.Author.Tests.{not-false, eq-eqb, ne-eqb, le-leb, lt-leb}
 use Rattle.lists.specs.Choice.{pick, pick-yes, pick-no, Is, is-true, is-false, look, and-both, and-off-left, and-off-right}
 use Rattle.lists.proofs.Members.{eqb-swap}
 use Rattle.lists.specs.Search.{lowest}
-use Rattle.formula.specs.Node.{Quantifier, exists, for-all, Node, constant, variable, negation, operator, block}
-use Rattle.formula.specs.Words.{nodeCount, isBlockKind, wordsOf, blockWords}
+use Rattle.formula.specs.Node.{Quantifier, Node, constant, variable, negation, operator}
+use Rattle.formula.specs.Words.{nodeCount, wordsOf, blockWords}
 use Rattle.formula.specs.Form.{kindOf}
-use Rattle.formula.proofs.Nodes.{block-kind-of}
+use Rattle.formula.proofs.Nodes.{words-plain, block-kind-of}
 use Rattle.acceptance.specs.Limits.{limit}
 use Rattle.acceptance.specs.Verdict.{tooManyVariables}
 use Rattle.qcir.specs.File.{Name, Literal, Junction, Gate, junction-gate, xor-gate, quantified-gate, gateName, Line, lineVariables, File, numbersOf}
@@ -34,15 +34,6 @@ use Rattle.qcir_sizes.proofs.Drafts.{node-count, Measured, measured-emp
 abbrev Counts : (ℕ → ℕ) → Draft → Pass → Type 0
 Counts gate d s = Measured gate d (s .nodes) (s .entries) (s .excess)
 
--- the words of a node are no block's
-plain : (nd : Node) → isBlockKind (wordsOf nd .kind) ≡ false
-unfolding wordsOf isBlockKind
-plain (constant b) = refl
-plain (variable x) = refl
-plain (negation i) = refl
-plain (operator t i j) = refl
-plain (block q xs i) = refl
-
 -- A name and a literal add what their tests say.
 module _ (gate : ℕ → ℕ) (d : Draft) (n e k : ℕ) (m : Measured gate d n e k) where
   measured-name : (x : ℕ) → Measured gate (storeName d x .draft) (n + pick (eqb (gate x) 0) 1 0) e k
@@ -56,7 +47,7 @@ module _ (gate : ℕ → ℕ) (d : Draft) (n e k : ℕ) (m : Measured gate d n e
       go (is-true t) =
           let a : n + pick (eqb (gate x) 0) 1 0 ≡ suc n = omega (arith, pick-yes {A = ℕ} (eqb (gate x) 0) 1 0 t) in
           rw (pick-yes (eqb (d .gate x) 0) (store d (wordsOf (variable x))) (record { draft = d; node = d .gate x - 1 }) (same ∙ t), a)
-          (measured-node gate d n e k m (wordsOf (variable x)) (plain (variable x)))
+          (measured-node gate d n e k m (wordsOf (variable x)) (words-plain (variable x)))
       go (is-false t) =
           let a : n + pick (eqb (gate x) 0) 1 0 ≡ n = omega (arith, pick-no {A = ℕ} (eqb (gate x) 0) 1 0 t) in
           rw (pick-no (eqb (d .gate x) 0) (store d (wordsOf (variable x))) (record { draft = d; node = d .gate x - 1 }) (same ∙ t), a) m
@@ -69,7 +60,7 @@ module _ (gate : ℕ → ℕ) (d : Draft) (n e k : ℕ) (m : Measured gate d n e
       go : (b : Bool) (j : ℕ) (s : Stored) → Measured gate (s .draft) j e k → Measured gate (pick b (store (s .draft) (wordsOf (negation (s .node)))) s .draft) (j + pick b 1 0) e k
       go true j s r =
           let a : j + pick true 1 0 ≡ suc j = omega (arith, pick-yes {A = ℕ} true 1 0 refl) in
-          rw (pick-yes true (store (s .draft) (wordsOf (negation (s .node)))) s refl, a) (measured-node gate (s .draft) j e k r (wordsOf (negation (s .node))) (plain (negation (s .node))))
+          rw (pick-yes true (store (s .draft) (wordsOf (negation (s .node)))) s refl, a) (measured-node gate (s .draft) j e k r (wordsOf (negation (s .node))) (words-plain (negation (s .node))))
       go false j s r =
           let a : j + pick false 1 0 ≡ j = omega (arith, pick-no {A = ℕ} false 1 0 refl) in
           rw (pick-no false (store (s .draft) (wordsOf (negation (s .node)))) s refl, a) r
@@ -179,7 +170,7 @@ module _ (gates : List ℕ) (gate : ℕ → ℕ) where
 
   -- one node more
   counts-node : (d : Draft) (n e k : ℕ) → Measured gate d n e k → (nd : Node) → Measured gate (store d (wordsOf nd) .draft) (n + 1) e k
-  counts-node d n e k m nd = rw (add-one n) (measured-node gate d n e k m (wordsOf nd) (plain nd))
+  counts-node d n e k m nd = rw (add-one n) (measured-node gate d n e k m (wordsOf nd) (words-plain nd))
 
   operand-first : (d : Draft) (s : Pass) → Counts gate d s → s .first ≡ true → Known (s .line) → (l : Literal) (b : Bool) → Counts gate (storeLiteral d l .draft) (operandAdded (inputRole (l .minus) b) (getD gates (l .name .number) 0) s)
   unfolding operandAdded

@@ -1,10 +1,11 @@
 -- Which way a call goes, by its verdict and the room in its buffers.
 -- Assumes nothing.
-use mathlib.Core.Path.{_≡_, refl, _∙_}
+use mathlib.Core.Path.{_≡_, refl, sym, _∙_, ap}
 use mathlib.Core.Bool.{Bool, true, false}
 use native.Mathlib.Omega.{arith}
-use borrow.Author.Tests.{eq-eqb, ne-eqb}
-use Rattle.lists.specs.Choice.{pick, pick-yes, pick-no}
+use lib.Dec.{eqb}
+use borrow.Author.Tests.{eqb-true, eqb-false, eq-eqb, ne-eqb}
+use Rattle.lists.specs.Choice.{pick, pick-yes, pick-no, Is, is-true, is-false, look}
 use Rattle.refusals.specs.Verdict.{refusal, accepted}
 use Rattle.refusals.specs.Outcome.{AnswerWith, Outcome, refused, answerUnlessRefused, unlessRefused, unlessShort}
 use Rattle.refusals.specs.declared.Verdict.{Verdict}
@@ -34,3 +35,17 @@ module _ {Sizes Buffers : Type 0} (none : Sizes) (before : Buffers) (next : Outc
   pub call-short : (short : Bool) → short ≡ true → unlessShort short none before next ≡ record { answer = refused (refusal 9 0) none; buffers = before }
   unfolding unlessShort refusal pick
   call-short short e = rw e (call-refused (refusal 9 0) (λ z. omega arith))
+
+  -- A call that is done met no refusal on its way.
+  pub call-passed : (v : Verdict) → unlessRefused v none before next .answer .verdict .number ≡ 0 → v .number ≡ 0
+  unfolding refused
+  call-passed v h = go (look (eqb (v .number) 0))
+    where
+      go : Is (eqb (v .number) 0) → v .number ≡ 0
+      go (is-true t) = eqb-true _ _ t
+      go (is-false t) = sym (ap (λ (o : Outcome Sizes Buffers). o .answer .verdict .number) (call-refused v (eqb-false _ _ t))) ∙ h
+
+  pub call-fits : (short : Bool) → unlessShort short none before next .answer .verdict .number ≡ 0 → short ≡ false
+  unfolding unlessShort pick refusal
+  call-fits true h = absurd (omega (arith, call-passed (refusal 9 0) h))
+  call-fits false h = refl
