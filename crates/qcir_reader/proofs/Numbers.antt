@@ -1,14 +1,14 @@
 -- The numbers of a file's names, from those of its tokens.
 -- Assumes nothing.
-use mathlib.Core.Bool.{Bool, true, false, _&&_, _||_}
+use mathlib.Core.Bool.{Bool, true, false, _&&_}
 use mathlib.Core.List.{List, [], _∷_, _++_, map}
 use mathlib.Core.Path.{_≡_, refl, sym, _∙_, ap, subst}
 use Prim.Native.Nat.{ℕ}
 use lib.Dec.{leb}
-use Rattle.lists.specs.Choice.{and-left, and-right, and-both, or-cases, clash}
+use Rattle.lists.specs.Choice.{and-left, and-right, and-both, or-cases}
 use Rattle.lists.specs.Members.{mem, all}
-use Rattle.lists.proofs.Members.{mem-left, mem-right, mem-append, mem-tail, all-mem}
-use Rattle.acceptance.specs.Verdict.{isNumber}
+use Rattle.lists.proofs.Members.{mem-left, mem-right, mem-append, all-mem}
+use Rattle.acceptance.specs.Verdict.{isNumber, isNumberTo}
 use Rattle.qcir.specs.File.{Name, Literal, Gate, junction-gate, xor-gate, quantified-gate, gateName, gateVariables, gateInputs, Line, lineVariables, prefixVariables, File, numbersOf, namesOf}
 use Rattle.qcir.specs.Refusals.{outerNames}
 use Rattle.qcir.proofs.Numbers.{lineNames, linesNames, allNumbers, Ranged}

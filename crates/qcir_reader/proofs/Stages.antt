@@ -1,29 +1,33 @@
 -- The outcome of a file, stage by stage: what each refusal and each passed test makes of it.
 -- Assumes nothing.
-use mathlib.Core.Bool.{Bool, true, false, not, _||_, true≢false}
+use mathlib.Core.Bool.{true, false, not, _||_}
 use mathlib.Core.List.{List, [], _∷_}
 use mathlib.Core.Path.{_≡_, refl, sym, _∙_, ap, subst}
-use Prim.Native.Nat.{ℕ, suc, _*_, _<_, _≤_}
+use Prim.Native.Nat.{ℕ, _*_, _<_, _≤_}
 use native.Mathlib.Omega.{arith}
-use lib.Dec.{eqb, ltb, eqb·suc-zero}
-use borrow.Author.Tests.{lt-ltb, le-ltb, ltb-true, ltb-false}
+use lib.Dec.{ltb, eqb·suc-zero}
+use borrow.Author.Tests.{lt-ltb, le-ltb}
 use lib.ListN.{length}
-use Rattle.lists.specs.Choice.{pick, pick-yes, pick-no, clash, or-left, or-right, or-neither}
+use Rattle.lists.specs.Choice.{pick-yes, pick-no, clash, or-left, or-right, or-neither}
 use Rattle.lists.specs.Parts.{overwrite}
 use Rattle.lists.specs.Search.{lowest}
-use Rattle.formula.specs.Words.{width, nodeCount}
-use Rattle.acceptance.specs.Limits.{limit}
-use Rattle.qcir.specs.File.{File}
-use Rattle.qcir.specs.Refusals.{least, misplaced, notUsedOnce, unbound}
-use Rattle.qcir.specs.Table.{tableWords, tableList}
-use Rattle.qcir.specs.Reading.{limits, Outcome, refused, read, unlessAny, exceeds, outcome, stored}
-use Rattle.qcir.proofs.Theorem.{table-whole, table-few}
 use Rattle.lists.proofs.Search.{lowest-before}
+use Rattle.formula.specs.Words.{width, nodeCount}
+use Rattle.refusals.specs.Verdict.{refusal, accepted}
+use Rattle.refusals.specs.Outcome.{AnswerWith, refused, done}
+use Rattle.refusals.specs.declared.Verdict.{Verdict}
+use Rattle.refusals.proofs.Outcome.{call-next, call-refused, call-room, call-short}
+use Rattle.acceptance.specs.Limits.{limit}
+use Rattle.acceptance.specs.Verdict.{tooManyVariables}
+use Rattle.qcir.specs.File.{File}
+use Rattle.qcir.specs.Refusals.{misplaced, notUsedOnce, unbound}
+use Rattle.qcir.specs.Table.{tableWords, tableList}
+use Rattle.qcir.specs.Reading.{limits, Written, Buffers, noneWritten, refusedWith, written, unlessAny, nameVerdict, sizeVerdict, stored, outcome}
+use Rattle.qcir.proofs.Theorem.{table-whole, table-few}
 use Rattle.qcir_tokens.specs.declared.Found.{Found}
 use Rattle.qcir_tokens.specs.Held.{foundOf}
 use Rattle.qcir_reader.specs.declared.Answer.{Answer}
-use Rattle.qcir_reader.specs.Reads.{after}
-use Rattle.qcir_reader.specs.Stages.{refusal}
+use Rattle.qcir_reader.specs.Reads.{answerOf, buffers, after}
 
 -- Nothing was found among no numbers only.
 pub nothing-found : (r : Found) (xs : List ℕ) → r ≡ foundOf xs → r .found ≡ false → xs ≡ []
@@ -32,71 +36,101 @@ nothing-found r [] e h = refl
 nothing-found r (x ∷ xs) e h = clash (ap (λ (z : Found). z .found) e ∙ ap not (eqb·suc-zero (length xs))) h
 
 -- What was found is the refusal's position.
-found-refuses : (r : Found) (xs : List ℕ) (g : ℕ → Outcome) (next : Outcome) → r ≡ foundOf xs → r .found ≡ true → unlessAny xs g next ≡ g (r .lowest)
+found-refuses : (r : Found) (xs : List ℕ) (number : ℕ) (next : Verdict) → r ≡ foundOf xs → r .found ≡ true → unlessAny xs number next ≡ refusal number (r .lowest)
 unfolding foundOf unlessAny
-found-refuses r [] g next e h = clash h (ap (λ (z : Found). z .found) e)
-found-refuses r (x ∷ xs) g next e h = pick-no _ _ _ (eqb·suc-zero (length xs)) ∙ ap g (sym (ap (λ (z : Found). z .lowest) e))
+found-refuses r [] number next e h = clash h (ap (λ (z : Found). z .found) e)
+found-refuses r (x ∷ xs) number next e h =
+    pick-no _ _ _ (eqb·suc-zero (length xs)) ∙ ap (refusal number) (sym (ap (λ (z : Found). z .lowest) e))
 
-none-passes : (xs : List ℕ) (g : ℕ → Outcome) (next : Outcome) → xs ≡ [] → unlessAny xs g next ≡ next
+none-passes : (xs : List ℕ) (number : ℕ) (next : Verdict) → xs ≡ [] → unlessAny xs number next ≡ next
 unfolding unlessAny
-none-passes xs g next e = subst (λ (ys : List ℕ). unlessAny ys g next ≡ next) (sym e) (pick-yes _ _ _ refl)
+none-passes xs number next e = subst (λ (ys : List ℕ). unlessAny ys number next ≡ next) (sym e) (pick-yes _ _ _ refl)
 
--- An answer that refuses leaves the buffers.
-pub refusal-after : (r : Answer) (number position : ℕ) (words list : List ℕ) → r ≡ refusal number position → after r words list ≡ refused number position words list
-unfolding after refused refusal
-refusal-after r number position words list e = ap (λ (z : Answer). after z words list) e
+-- An answer that refuses.
+abbrev pub Refuses : Answer → ℕ → ℕ → Type 0
+Refuses r number position = answerOf r ≡ refused (refusal number position) noneWritten
+
+-- It leaves the buffers.
+pub refusal-after : (r : Answer) (number position : ℕ) (words list : List ℕ) → Refuses r number position → after r words list ≡ refusedWith (refusal number position) (buffers words list)
+unfolding after refusedWith
+refusal-after r number position words list e = ap (λ (a : AnswerWith Written). record { answer = a; buffers = buffers words list }) e
 
 module _ (f : File) (words list : List ℕ) where
-  pub misplaced-refuses : (found : Found) (r : Answer) → found ≡ foundOf (misplaced f) → found .found ≡ true → r ≡ refusal 11 (found .lowest) → after r words list ≡ outcome limits f words list
-  unfolding outcome
-  misplaced-refuses found r e h a = refusal-after r 11 (found .lowest) words list a ∙ sym (found-refuses found (misplaced f) _ _ e h)
+  abbrev before : Buffers
+  before = buffers words list
 
-  pub misused-refuses : (found : Found) (r : Answer) → misplaced f ≡ [] → found ≡ foundOf (notUsedOnce f) → found .found ≡ true → r ≡ refusal 13 (found .lowest) → after r words list ≡ outcome limits f words list
-  unfolding outcome
-  misused-refuses found r m e h a =
-      refusal-after r 13 (found .lowest) words list a ∙ sym (none-passes (misplaced f) _ _ m ∙ found-refuses found (notUsedOnce f) _ _ e h)
+  name-refuses : (r : Answer) (number position : ℕ) → 0 < number → nameVerdict f ≡ refusal number position → Refuses r number position → after r words list ≡ outcome limits f before
+  unfolding outcome refusedWith refusal
+  name-refuses r number position n e a =
+      refusal-after r number position words list a ∙ sym (rw e (call-refused noneWritten before (stored limits f before) (refusal number position) (λ z. omega arith)))
 
-  pub unbound-refuses : (found : Found) (r : Answer) → misplaced f ≡ [] → notUsedOnce f ≡ [] → found ≡ foundOf (unbound f) → found .found ≡ true → r ≡ refusal 12 (found .lowest) → after r words list ≡ outcome limits f words list
-  unfolding outcome
-  unbound-refuses found r m u e h a =
-      refusal-after r 12 (found .lowest) words list a ∙ sym (none-passes (misplaced f) _ _ m ∙ (none-passes (notUsedOnce f) _ _ u ∙ found-refuses found (unbound f) _ _ e h))
+  pub misplaced-refuses : (found : Found) (r : Answer) → found ≡ foundOf (misplaced f) → found .found ≡ true → Refuses r 11 (found .lowest) → after r words list ≡ outcome limits f before
+  unfolding nameVerdict
+  misplaced-refuses found r e h = name-refuses r 11 (found .lowest) (omega arith) (found-refuses found (misplaced f) 11 _ e h)
 
-  pub names-pass : misplaced f ≡ [] → notUsedOnce f ≡ [] → unbound f ≡ [] → stored limits f words list ≡ outcome limits f words list
-  unfolding outcome stored
-  names-pass m u b = sym (none-passes (misplaced f) _ _ m ∙ (none-passes (notUsedOnce f) _ _ u ∙ none-passes (unbound f) _ _ b))
+  pub misused-refuses : (found : Found) (r : Answer) → misplaced f ≡ [] → found ≡ foundOf (notUsedOnce f) → found .found ≡ true → Refuses r 13 (found .lowest) → after r words list ≡ outcome limits f before
+  unfolding nameVerdict
+  misused-refuses found r m e h =
+      name-refuses r 13 (found .lowest) (omega arith) (none-passes (misplaced f) 11 _ m ∙ found-refuses found (notUsedOnce f) 13 _ e h)
 
-  pub many-nodes : (r : Answer) → limit < nodeCount (tableWords f) → r ≡ refusal 2 0 → after r words list ≡ stored limits f words list
-  unfolding stored limits
-  many-nodes r h a = refusal-after r 2 0 words list a ∙ sym (pick-yes _ _ _ (lt-ltb _ _ h))
+  pub unbound-refuses : (found : Found) (r : Answer) → misplaced f ≡ [] → notUsedOnce f ≡ [] → found ≡ foundOf (unbound f) → found .found ≡ true → Refuses r 12 (found .lowest) → after r words list ≡ outcome limits f before
+  unfolding nameVerdict
+  unbound-refuses found r m u e h =
+      name-refuses r 12 (found .lowest) (omega arith)
+      (none-passes (misplaced f) 11 _ m ∙ (none-passes (notUsedOnce f) 13 _ u ∙ found-refuses found (unbound f) 12 _ e h))
 
-  pub many-variables : (r : Answer) (i : ℕ) → nodeCount (tableWords f) ≤ limit → i ≡ lowest (exceeds limit (tableWords f)) (nodeCount (tableWords f)) → i < nodeCount (tableWords f) → r ≡ refusal 6 i → after r words list ≡ stored limits f words list
-  unfolding stored limits
-  many-variables r i n e h a =
-      refusal-after r 6 i words list a ∙ (ap (λ (k : ℕ). refused 6 k words list) e ∙ sym (pick-no _ _ _ (le-ltb _ _ n) ∙ pick-yes _ _ _ (lt-ltb _ _ (subst (λ (k : ℕ). k < nodeCount (tableWords f)) e h))))
+  pub names-pass : misplaced f ≡ [] → notUsedOnce f ≡ [] → unbound f ≡ [] → stored limits f before ≡ outcome limits f before
+  unfolding outcome nameVerdict accepted
+  names-pass m u b =
+      let e : nameVerdict f ≡ accepted = none-passes (misplaced f) 11 _ m ∙ (none-passes (notUsedOnce f) 13 _ u ∙ none-passes (unbound f) 12 _ b) in
+      sym (call-next noneWritten before (stored limits f before) (nameVerdict f) (ap (λ (v : Verdict). v .number) e))
+
+  size-refuses : (r : Answer) (number position : ℕ) → 0 < number → sizeVerdict limits (tableWords f) ≡ refusal number position → Refuses r number position → after r words list ≡ stored limits f before
+  unfolding stored refusedWith refusal
+  size-refuses r number position n e a =
+      refusal-after r number position words list a ∙ sym (rw e (call-refused noneWritten before _ (refusal number position) (λ z. omega arith)))
+
+  pub many-nodes : (r : Answer) → limit < nodeCount (tableWords f) → Refuses r 2 0 → after r words list ≡ stored limits f before
+  unfolding sizeVerdict limits
+  many-nodes r h = size-refuses r 2 0 (omega arith) (pick-yes _ _ _ (lt-ltb _ _ h))
+
+  pub many-variables : (r : Answer) (i : ℕ) → nodeCount (tableWords f) ≤ limit → i ≡ lowest (tooManyVariables limit (tableWords f)) (nodeCount (tableWords f)) → i < nodeCount (tableWords f) → Refuses r 6 i → after r words list ≡ stored limits f before
+  unfolding sizeVerdict limits
+  many-variables r i n e h =
+      size-refuses r 6 i (omega arith)
+      (pick-no _ _ _ (le-ltb _ _ n) ∙ (pick-yes _ _ _ (lt-ltb _ _ (subst (λ (k : ℕ). k < nodeCount (tableWords f)) e h)) ∙ ap (refusal 6) (sym e)))
 
   -- Neither refusal 2 nor 6 applies.
   pub record Within : Type 0 where
     pub nodes-within : nodeCount (tableWords f) ≤ limit
-    pub none-exceeding : nodeCount (tableWords f) ≤ lowest (exceeds limit (tableWords f)) (nodeCount (tableWords f))
+    pub none-exceeding : nodeCount (tableWords f) ≤ lowest (tooManyVariables limit (tableWords f)) (nodeCount (tableWords f))
 
   -- The list is within the limit too.
   pub few-listed : Within → length (tableList f) ≤ limit
-  few-listed w = table-few limit f (λ i h. lowest-before (exceeds limit (tableWords f)) (nodeCount (tableWords f)) i (omega (arith, h, w .none-exceeding)))
+  few-listed w = table-few limit f (λ i h. lowest-before (tooManyVariables limit (tableWords f)) (nodeCount (tableWords f)) i (omega (arith, h, w .none-exceeding)))
 
-  pub short-words : (r : Answer) → Within → length words < length (tableWords f) → r ≡ refusal 9 0 → after r words list ≡ stored limits f words list
-  unfolding stored limits
-  short-words r w h a =
+  within-passes : Within → sizeVerdict limits (tableWords f) .number ≡ 0
+  unfolding sizeVerdict limits accepted
+  within-passes w =
+      ap (λ (v : Verdict). v .number) (pick-no _ _ _ (le-ltb _ _ (w .nodes-within)) ∙ pick-no _ _ _ (le-ltb _ _ (w .none-exceeding)))
+
+  short-refuses : (r : Answer) → Within → (ltb (length words) (length (tableWords f)) || ltb (length list) (length (tableList f))) ≡ true → Refuses r 9 0 → after r words list ≡ stored limits f before
+  unfolding stored refusedWith
+  short-refuses r w h a =
       refusal-after r 9 0 words list a
-      ∙ sym (pick-no _ _ _ (le-ltb _ _ (w .nodes-within)) ∙ (pick-no _ _ _ (le-ltb _ _ (w .none-exceeding)) ∙ pick-yes _ _ _ (or-left _ _ (lt-ltb _ _ h))))
+      ∙ sym (call-next noneWritten before _ (sizeVerdict limits (tableWords f)) (within-passes w) ∙ call-short noneWritten before _ _ h)
 
-  pub short-list : (r : Answer) → Within → length list < length (tableList f) → r ≡ refusal 9 0 → after r words list ≡ stored limits f words list
-  unfolding stored limits
-  short-list r w h a =
-      refusal-after r 9 0 words list a
-      ∙ sym (pick-no _ _ _ (le-ltb _ _ (w .nodes-within)) ∙ (pick-no _ _ _ (le-ltb _ _ (w .none-exceeding)) ∙ pick-yes _ _ _ (or-right (ltb (length words) (length (tableWords f))) _ (lt-ltb _ _ h))))
+  pub short-words : (r : Answer) → Within → length words < length (tableWords f) → Refuses r 9 0 → after r words list ≡ stored limits f before
+  short-words r w h = short-refuses r w (or-left _ _ (lt-ltb _ _ h))
 
-  pub stored-done : (n e : ℕ) (words′ list′ : List ℕ) → Within → length (tableWords f) ≤ length words → length (tableList f) ≤ length list → n ≡ nodeCount (tableWords f) → e ≡ length (tableList f) → words′ ≡ overwrite words 0 (tableWords f) → list′ ≡ overwrite list 0 (tableList f) → after (record { number = 0; position = 0; words = width * n; entries = e }) words′ list′ ≡ stored limits f words list
-  unfolding stored limits after read
-  stored-done n e words′ list′ w hw hl en ee ew el =
-      (λ i. record { number = 0; position = 0; written = (ap (λ (k : ℕ). width * k) en ∙ sym (table-whole f)) i; listed = ee i; words = ew i; list = el i })
-      ∙ sym (pick-no _ _ _ (le-ltb _ _ (w .nodes-within)) ∙ (pick-no _ _ _ (le-ltb _ _ (w .none-exceeding)) ∙ pick-no _ _ _ (or-neither _ _ (le-ltb _ _ hw) (le-ltb _ _ hl))))
+  pub short-list : (r : Answer) → Within → length list < length (tableList f) → Refuses r 9 0 → after r words list ≡ stored limits f before
+  short-list r w h = short-refuses r w (or-right (ltb (length words) (length (tableWords f))) _ (lt-ltb _ _ h))
+
+  pub stored-done : (v : Verdict) (n e : ℕ) (words′ list′ : List ℕ) → Within → length (tableWords f) ≤ length words → length (tableList f) ≤ length list → v ≡ accepted → n ≡ nodeCount (tableWords f) → e ≡ length (tableList f) → words′ ≡ overwrite words 0 (tableWords f) → list′ ≡ overwrite list 0 (tableList f) → after (record { verdict = v; words = width * n; entries = e }) words′ list′ ≡ stored limits f before
+  unfolding stored after answerOf written done
+  stored-done v n e words′ list′ w hw hl ev en ee ew el =
+      (λ i. record {
+        answer = record { verdict = ev i; sizes = record { words = (ap (λ (k : ℕ). width * k) en ∙ sym (table-whole f)) i; entries = ee i } };
+        buffers = record { words = ew i; list = el i };
+      })
+      ∙ sym (call-next noneWritten before _ (sizeVerdict limits (tableWords f)) (within-passes w) ∙ call-room noneWritten before _ _ (or-neither _ _ (le-ltb _ _ hw) (le-ltb _ _ hl)))

@@ -5,88 +5,91 @@ use mathlib.Core.List.{List, [], _∷_}
 use mathlib.Core.Path.{_≡_, refl, sym, _∙_, ap, subst}
 use Prim.Native.Nat.{ℕ, _+_, _-_, _≤_, _<_, min}
 use native.Mathlib.Omega.{arith}
-use lib.Dec.{eqb, ltb, eqb·suc-zero, lit<, lit≤}
+use lib.Dec.{ltb, eqb·suc-zero, lit<, lit≤}
 use lib.ListN.{length, take, drop, length-drop, drop-of-length-le}
 use lib.Seq.{take-all}
 use borrow.Author.Tests.{ltb-true, ltb-false}
-use Rattle.lists.specs.Choice.{pick, pick-yes, pick-no, Is, is-true, is-false, look, or-neither-left, or-neither-right}
+use Rattle.lists.specs.Choice.{pick, pick-no, Is, is-true, is-false, look, or-neither-left, or-neither-right}
 use Rattle.lists.specs.Search.{lowest}
 use Rattle.lists.specs.Parts.{overwrite}
 use Rattle.lists.proofs.Search.{lowest-before}
 use Rattle.lists.proofs.Overwrite.{take-overwrite}
 use Rattle.formula.specs.Words.{nodeCount, tableOf}
-use Rattle.formula.specs.Valuation.{Valuation}
 use Rattle.formula.specs.Truth.{truth}
+use Rattle.refusals.specs.Verdict.{refusal}
+use Rattle.refusals.specs.Outcome.{AnswerWith, Outcome, refused, done, unlessShort}
+use Rattle.refusals.specs.declared.Verdict.{Verdict}
+use Rattle.refusals.proofs.Outcome.{call-next, call-room, call-passed, call-fits}
 use Rattle.acceptance.specs.Limits.{limit}
+use Rattle.acceptance.specs.Verdict.{tooManyVariables}
 use Rattle.qcir.specs.File.{File}
 use Rattle.qcir.specs.Spelling.{Spells, SpellingFault}
 use Rattle.qcir.specs.Meaning.{fileTruth}
-use Rattle.qcir.specs.Refusals.{misplaced, notUsedOnce, unbound}
+use Rattle.qcir.specs.Refusals.{least, misplaced, notUsedOnce}
 use Rattle.qcir.specs.Table.{tableWords, tableList}
-use Rattle.qcir.specs.Reading.{limits, Outcome, refused, read, unlessAny, exceeds, stored, outcome, Reading, too-long, misspelled, spelled, TableOf}
+use Rattle.qcir.specs.Reading.{limits, Written, Buffers, noneWritten, refusedWith, written, unlessAny, nameVerdict, sizeVerdict, stored, outcome, Reading, too-long, misspelled, spelled, TableOf}
 use Rattle.qcir.proofs.Theorem.{table-truth, table-accepted}
-use Rattle.qcir_tokens.specs.Tokens.{fileTokens, ascending}
 use Rattle.qcir_tokens.specs.Held.{tokensFrom, Room, tokenLimit}
 use Rattle.qcir_text.specs.Machine.{accepts, alive, start, tokensOf}
 use Rattle.qcir_reader.specs.declared.Answer.{Answer}
-use Rattle.qcir_reader.specs.Reads.{after, Reads}
-use Rattle.qcir_reader.specs.Stages.{refusal, HoldsFile}
+use Rattle.qcir_reader.specs.Reads.{answerOf, buffers, after, Reads}
+use Rattle.qcir_reader.specs.Stages.{HoldsFile}
 use Rattle.qcir_text.proofs.Spelling.{complete, sound, refused as misspelt, unique, ordered, ranged}
 use Rattle.qcir_reader.proofs.Numbers.{numbers-ranged}
-use Rattle.qcir_reader.proofs.Stages.{refusal-after}
+use Rattle.qcir_reader.proofs.Stages.{Refuses, refusal-after}
 
--- Of an outcome that is done: no number is at fault, and what comes next is done.
-passed-any : (xs : List ℕ) (g : ℕ → Outcome) (next : Outcome) → ((x : ℕ) → g x .number ≡ 0 → ⊥) → unlessAny xs g next .number ≡ 0 → (xs ≡ []) × (unlessAny xs g next ≡ next)
-unfolding unlessAny
-passed-any [] g next never h = (refl, pick-yes _ _ _ refl)
-passed-any (x ∷ xs) g next never h = absurd (never _ (sym (ap (λ (o : Outcome). o .number) (pick-no _ _ _ (eqb·suc-zero (length xs)))) ∙ h))
+-- Of a verdict that accepts: no number is at fault, and what comes next accepts.
+passed-any : (xs : List ℕ) (number : ℕ) (next : Verdict) → 0 < number → unlessAny xs number next .number ≡ 0 → (xs ≡ []) × (next .number ≡ 0)
+unfolding unlessAny refusal pick
+passed-any [] number next h z = (refl, z)
+passed-any (x ∷ xs) number next h z = absurd (omega (arith, sym (ap (λ (v : Verdict). v .number) (pick-no _ next (refusal number (least (x ∷ xs))) (eqb·suc-zero (length xs)))) ∙ z))
 
-passed-test : (t : Bool) (a b : Outcome) → (a .number ≡ 0 → ⊥) → pick t a b .number ≡ 0 → (t ≡ false) × (pick t a b ≡ b)
-unfolding pick
-passed-test true a b never h = absurd (never h)
-passed-test false a b never h = (refl, refl)
+passed-test : (t : Bool) (number position : ℕ) (next : Verdict) → 0 < number → pick t (refusal number position) next .number ≡ 0 → (t ≡ false) × (next .number ≡ 0)
+unfolding pick refusal
+passed-test true number position next h z = absurd (omega arith)
+passed-test false number position next h z = (refl, z)
 
 -- What is left of an outcome that is done.
-pub record Done (f : File) (words list : List ℕ) (o : Outcome) : Type 0 where
+pub record Done (f : File) (words list : List ℕ) (o : Outcome Written Buffers) : Type 0 where
   pub placed : misplaced f ≡ []
   pub used-once : notUsedOnce f ≡ []
   pub few-nodes : nodeCount (tableWords f) ≤ limit
-  pub none-exceeding : (i : ℕ) → i < nodeCount (tableWords f) → exceeds limit (tableWords f) i ≡ false
+  pub none-exceeding : (i : ℕ) → i < nodeCount (tableWords f) → tooManyVariables limit (tableWords f) i ≡ false
   pub room : length (tableWords f) ≤ length words
   pub list-room : length (tableList f) ≤ length list
-  pub is-read : o ≡ read (tableWords f) (tableList f) words list
+  pub is-written : o ≡ written (tableWords f) (tableList f) (buffers words list)
 
--- A refusal is not done.
-refused-not-done : (k position : ℕ) (words list : List ℕ) → 0 < k → refused k position words list .number ≡ 0 → ⊥
-unfolding refused
-refused-not-done k position words list h e = absurd (omega (arith, h, e))
+abbrev number : Outcome Written Buffers → ℕ
+number o = o .answer .verdict .number
 
-number : Outcome → ℕ
-number o = o .number
-
-pub outcome-done : (f : File) (words list : List ℕ) → outcome limits f words list .number ≡ 0 → Done f words list (outcome limits f words list)
-unfolding outcome stored limits number
+pub outcome-done : (f : File) (words list : List ℕ) → number (outcome limits f (buffers words list)) ≡ 0 → Done f words list (outcome limits f (buffers words list))
+unfolding outcome stored nameVerdict sizeVerdict limits
 outcome-done f words list h =
-    let a = passed-any (misplaced f) _ _ (λ x. refused-not-done 11 x words list (lit< tt)) h in
-    let ha = sym (ap number (a .1)) ∙ h in
-    let b = passed-any (notUsedOnce f) _ _ (λ x. refused-not-done 13 x words list (lit< tt)) ha in
-    let hb = sym (ap number (b .1)) ∙ ha in
-    let c = passed-any (unbound f) _ _ (λ x. refused-not-done 12 x words list (lit< tt)) hb in
-    let hc = sym (ap number (c .1)) ∙ hb in
-    let d = passed-test _ _ _ (refused-not-done 2 0 words list (lit< tt)) hc in
-    let hd = sym (ap number (d .1)) ∙ hc in
-    let e = passed-test _ _ _ (refused-not-done 6 _ words list (lit< tt)) hd in
-    let he = sym (ap number (e .1)) ∙ hd in
-    let g = passed-test _ _ _ (refused-not-done 9 0 words list (lit< tt)) he in
-    let n = nodeCount (tableWords f) in
+    let ws = tableWords f in
+    let ls = tableList f in
+    let n = nodeCount ws in
+    let before = buffers words list in
+    let short = ltb (length words) (length ws) || ltb (length list) (length ls) in
+    let a = call-passed noneWritten before (stored limits f before) (nameVerdict f) h in
+    let named = call-next noneWritten before (stored limits f before) (nameVerdict f) a in
+    let roomy = unlessShort short noneWritten before (written ws ls before) in
+    let hb = sym (ap number named) ∙ h in
+    let b = call-passed noneWritten before roomy (sizeVerdict limits ws) hb in
+    let sized = call-next noneWritten before roomy (sizeVerdict limits ws) b in
+    let hc = sym (ap number sized) ∙ hb in
+    let c = call-fits noneWritten before (written ws ls before) short hc in
+    let placed = passed-any (misplaced f) 11 _ (lit< tt) a in
+    let used = passed-any (notUsedOnce f) 13 _ (lit< tt) (placed .1) in
+    let nodes = passed-test (ltb limit n) 2 0 _ (lit< tt) b in
+    let counts = passed-test (ltb (lowest (tooManyVariables limit ws) n) n) 6 _ _ (lit< tt) (nodes .1) in
     record {
-      placed = a .0;
-      used-once = b .0;
-      few-nodes = ltb-false _ _ (d .0);
-      none-exceeding = λ i k. lowest-before (exceeds limit (tableWords f)) n i (let l : n ≤ lowest (exceeds limit (tableWords f)) n = ltb-false _ _ (e .0) in omega (arith, l, k));
-      room = ltb-false _ _ (or-neither-left _ _ (g .0));
-      list-room = ltb-false _ _ (or-neither-right (ltb (length words) (length (tableWords f))) _ (g .0));
-      is-read = a .1 ∙ (b .1 ∙ (c .1 ∙ (d .1 ∙ (e .1 ∙ g .1))));
+      placed = placed .0;
+      used-once = used .0;
+      few-nodes = ltb-false _ _ (nodes .0);
+      none-exceeding = λ i k. lowest-before (tooManyVariables limit ws) n i (let l : n ≤ lowest (tooManyVariables limit ws) n = ltb-false _ _ (counts .0) in omega (arith, l, k));
+      room = ltb-false _ _ (or-neither-left _ _ c);
+      list-room = ltb-false _ _ (or-neither-right (ltb (length words) (length ws)) _ c);
+      is-written = named ∙ (sized ∙ call-room noneWritten before (written ws ls before) short c);
     }
 
 -- The start of a buffer that was written over holds what was written.
@@ -95,10 +98,14 @@ start-written out ws h =
     let e : length ws ≡ 0 + length ws = omega arith in
     ap (λ (k : ℕ). take k (overwrite out 0 ws)) e ∙ take-overwrite out 0 ws (omega (arith, h))
 
+-- The table that an outcome leaves at the buffers' starts.
+abbrev TableLeft : List ℕ → Outcome Written Buffers → Type 0
+TableLeft text o = TableOf 65535 text (take (o .answer .sizes .words) (o .buffers .words)) (take (o .answer .sizes .entries) (o .buffers .list))
+
 -- What was written, if done, is the file's table.
-pub done-table : (text : List ℕ) (f : File) (words list : List ℕ) → Spells 65535 text f → outcome limits f words list .number ≡ 0
-    → TableOf 65535 text (take (outcome limits f words list .written) (outcome limits f words list .words)) (take (outcome limits f words list .listed) (outcome limits f words list .list))
-unfolding read
+pub done-table : (text : List ℕ) (f : File) (words list : List ℕ) → Spells 65535 text f → number (outcome limits f (buffers words list)) ≡ 0
+    → TableLeft text (outcome limits f (buffers words list))
+unfolding written done
 done-table text f words list s h =
     let d = outcome-done f words list h in
     let ok = table-accepted f (numbers-ranged f (ranged s)) (d .placed) (d .used-once) (d .few-nodes) (d .none-exceeding) in
@@ -107,35 +114,35 @@ done-table text f words list s h =
       accepts = ok;
       truth-kept = λ g r v. subst (λ (z : File). truth (tableOf (tableWords f) (tableList f)) v ≡ fileTruth z v) (unique s r) (table-truth f (d .placed) (d .used-once) v);
     } in
-    subst (λ (o : Outcome). TableOf 65535 text (take (o .written) (o .words)) (take (o .listed) (o .list))) (sym (d .is-read))
+    subst (TableLeft text) (sym (d .is-written))
     (subst (λ (ws : List ℕ). TableOf 65535 text ws (take (length (tableList f)) (overwrite list 0 (tableList f)))) (sym (start-written words (tableWords f) (d .room)))
     (subst (λ (ls : List ℕ). TableOf 65535 text (tableWords f) ls) (sym (start-written list (tableList f) (d .list-room))) t))
 
 -- Refusal 10.
-refused-reads : (text words list : List ℕ) (r : Answer) (p : ℕ) → Reading limits text words list (refused 10 p words list) → r ≡ refusal 10 p → Reads text 0 words list words list r
-unfolding refusal
+refused-reads : (text words list : List ℕ) (r : Answer) (p : ℕ) → Reading limits text (buffers words list) (refusedWith (refusal 10 p) (buffers words list)) → Refuses r 10 p → Reads text 0 words list words list r
+unfolding answerOf refused refusal
 refused-reads text words list r p h e =
-    let ten : r .number ≡ 10 = ap (λ (a : Answer). a .number) e in
+    let ten : r .verdict .number ≡ 10 = ap (λ (a : AnswerWith Written). a .verdict .number) e in
     record {
-      reading = subst (λ (o : Outcome). Reading limits text words list o) (sym (refusal-after r 10 p words list e)) h;
+      reading = subst (Reading limits text (buffers words list)) (sym (refusal-after r 10 p words list e)) h;
       table = λ z. absurd (omega (arith, z, ten));
     }
 
-pub long-reads : (text words list : List ℕ) (r : Answer) → 65536 < length text → r ≡ refusal 10 0 → Reads text 0 words list words list r
+pub long-reads : (text words list : List ℕ) (r : Answer) → 65536 < length text → Refuses r 10 0 → Reads text 0 words list words list r
 unfolding limits
 long-reads text words list r h e = refused-reads text words list r 0 (too-long h) e
 
-pub misspelled-reads : (text words list : List ℕ) (r : Answer) (p : ℕ) → length text ≤ 65536 → accepts 65535 text ≡ false → p ≡ alive 65535 start text → r ≡ refusal 10 p → Reads text 0 words list words list r
+pub misspelled-reads : (text words list : List ℕ) (r : Answer) (p : ℕ) → length text ≤ 65536 → accepts 65535 text ≡ false → p ≡ alive 65535 start text → Refuses r 10 p → Reads text 0 words list words list r
 unfolding limits
 misspelled-reads text words list r p h no-file at e =
     refused-reads text words list r p (misspelled h p (subst (λ (k : ℕ). SpellingFault 65535 text k) (sym at) (misspelt 65535 text (lit≤ tt) no-file))) e
 
-pub spelled-reads : (text words list words′ list′ : List ℕ) (r : Answer) (f : File) → length text ≤ 65536 → Spells 65535 text f → after r words′ list′ ≡ outcome limits f words list → Reads text 0 words list words′ list′ r
-unfolding limits after number
+pub spelled-reads : (text words list words′ list′ : List ℕ) (r : Answer) (f : File) → length text ≤ 65536 → Spells 65535 text f → after r words′ list′ ≡ outcome limits f (buffers words list) → Reads text 0 words list words′ list′ r
+unfolding limits after answerOf
 spelled-reads text words list words′ list′ r f h s e =
     record {
-      reading = subst (λ (o : Outcome). Reading limits text words list o) (sym e) (spelled h f s);
-      table = λ z. subst (λ (o : Outcome). TableOf 65535 text (take (o .written) (o .words)) (take (o .listed) (o .list))) (sym e) (done-table text f words list s (sym (ap number e) ∙ z));
+      reading = subst (Reading limits text (buffers words list)) (sym e) (spelled h f s);
+      table = λ z. subst (TableLeft text) (sym e) (done-table text f words list s (sym (ap number e) ∙ z));
     }
 
 -- The tokens of a text that is a file.

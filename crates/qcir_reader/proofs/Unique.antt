@@ -9,9 +9,11 @@ use borrow.Author.Tests.{ltb-true, ltb-false}
 use lib.ListN.{length, take, drop, take-append-drop}
 use lib.Seq.{take-take, take-length}
 use Rattle.lists.specs.Choice.{Is, is-true, is-false, look}
+use Rattle.refusals.specs.Verdict.{refusal}
+use Rattle.refusals.specs.Outcome.{Outcome}
 use Rattle.qcir.specs.File.{File}
 use Rattle.qcir.specs.Spelling.{Spells, Viable, SpellingFault, at-byte, at-end}
-use Rattle.qcir.specs.Reading.{Limits, Outcome, outcome, refused, Reading, too-long, misspelled, spelled}
+use Rattle.qcir.specs.Reading.{Limits, Written, Buffers, outcome, refusedWith, Reading, too-long, misspelled, spelled}
 use Rattle.qcir_text.proofs.Spelling.{unique}
 
 -- The start of a text with which a file begins is one.
@@ -54,13 +56,13 @@ spelled-faultless : (most : ℕ) (text : List ℕ) (p : ℕ) (f : File) → Spel
 spelled-faultless most text p f s (at-byte r h v dead) = dead (viable-whole most text (suc p) (omega (arith, h)) (viable-file most text f s))
 spelled-faultless most text p f s (at-end v none) = none f s
 
-pub reading-unique : (lim : Limits) (text words list : List ℕ) (a b : Outcome) → Reading lim text words list a → Reading lim text words list b → a ≡ b
-reading-unique lim text words list a b (too-long h) (too-long k) = refl
-reading-unique lim text words list a b (too-long h) (misspelled k p e) = absurd (omega (arith, h, k))
-reading-unique lim text words list a b (too-long h) (spelled k f s) = absurd (omega (arith, h, k))
-reading-unique lim text words list a b (misspelled h p e) (too-long k) = absurd (omega (arith, h, k))
-reading-unique lim text words list a b (misspelled h p e) (misspelled k q g) = ap (λ (n : ℕ). refused 10 n words list) (fault-unique (lim .names) text p q e g)
-reading-unique lim text words list a b (misspelled h p e) (spelled k f s) = absurd (spelled-faultless (lim .names) text p f s e)
-reading-unique lim text words list a b (spelled h f s) (too-long k) = absurd (omega (arith, h, k))
-reading-unique lim text words list a b (spelled h f s) (misspelled k p e) = absurd (spelled-faultless (lim .names) text p f s e)
-reading-unique lim text words list a b (spelled h f s) (spelled k g t) = ap (λ (z : File). outcome lim z words list) (unique s t)
+pub reading-unique : (lim : Limits) (text : List ℕ) (before : Buffers) (a b : Outcome Written Buffers) → Reading lim text before a → Reading lim text before b → a ≡ b
+reading-unique lim text before a b (too-long h) (too-long k) = refl
+reading-unique lim text before a b (too-long h) (misspelled k p e) = absurd (omega (arith, h, k))
+reading-unique lim text before a b (too-long h) (spelled k f s) = absurd (omega (arith, h, k))
+reading-unique lim text before a b (misspelled h p e) (too-long k) = absurd (omega (arith, h, k))
+reading-unique lim text before a b (misspelled h p e) (misspelled k q g) = ap (λ (n : ℕ). refusedWith (refusal 10 n) before) (fault-unique (lim .names) text p q e g)
+reading-unique lim text before a b (misspelled h p e) (spelled k f s) = absurd (spelled-faultless (lim .names) text p f s e)
+reading-unique lim text before a b (spelled h f s) (too-long k) = absurd (omega (arith, h, k))
+reading-unique lim text before a b (spelled h f s) (misspelled k p e) = absurd (spelled-faultless (lim .names) text p f s e)
+reading-unique lim text before a b (spelled h f s) (spelled k g t) = ap (λ (z : File). outcome lim z before) (unique s t)

@@ -7,11 +7,6 @@ use Prim.Native.Nat.{ℕ, _≤_}
 use Rattle.qcir.specs.File.{File}
 use Rattle.qcir_tokens.specs.Tokens.{fileTokens, ascending}
 use Rattle.qcir_tokens.specs.Held.{tokensFrom, Room, tokenLimit}
-use Rattle.qcir_reader.specs.declared.Answer.{Answer}
-
--- An answer that refuses: "on refusal all sizes are 0".
-unfoldable pub refusal : ℕ → ℕ → Answer
-refusal number position = record { number = number; position = position; words = 0; entries = 0 }
 
 -- The arrays hold the tokens of a file in the order of its text.
 pub record HoldsFile (roles numbers positions : List ℕ) (count : ℕ) : Type 0 where

@@ -5,36 +5,31 @@ ghost use mathlib.Core.Path.{_≡_};
 ghost use Prim.Native.Nat.{ℕ, _≤_, min};
 ghost use lib.ListN.{length};
 ghost use Rattle.qcir.specs.File.{File};
-ghost use Rattle.qcir.specs.Reading.{limits, outcome, stored};
+ghost use Rattle.qcir.specs.Reading.{limits, noneWritten, outcome, stored};
+ghost use Rattle.refusals.specs.Verdict.{refusal};
+ghost use Rattle.refusals.specs.Outcome.{refused as refusedOf};
 ghost use Rattle.qcir_tokens.specs.Tokens.{fileTokens, ascending};
 ghost use Rattle.qcir_tokens.specs.Held.{tokensFrom, Definitions};
-ghost use Rattle.qcir_reader.specs.Reads.{after, Reads};
-ghost use Rattle.qcir_reader.specs.Stages.{refusal, HoldsFile};
+ghost use Rattle.qcir_reader.specs.Reads.{answerOf, buffers, after, Reads};
+ghost use Rattle.qcir_reader.specs.Stages.{HoldsFile};
 use acceptance::LIMIT;
 use qcir_tokens::NUMBERS;
 use qcir_tokens::TOKENS;
 use refusals::BUFFER_TOO_SHORT;
+use refusals::GATE_NOT_USED_ONCE;
+use refusals::MISPLACED_NAME;
+use refusals::MISSPELLED;
+use refusals::TOO_LARGE;
+use refusals::TOO_MANY_VARIABLES;
+use refusals::UNBOUND_VARIABLE;
+use refusals::Verdict;
 
 // The most bytes of a text.
 const BYTES: usize = 65536;
 
-// The numbers of refusals.
-const TOO_MANY_NODES: u32 = 2;
-
-const TOO_MANY_VARIABLES: u32 = 6;
-
-const MISSPELLED: u32 = 10;
-
-const MISPLACED_NAME: u32 = 11;
-
-const UNBOUND_VARIABLE: u32 = 12;
-
-const GATE_NOT_USED_ONCE: u32 = 13;
-
-// The number of a refusal (0: done), its position, and the words and list entries written.
+// The verdict (number 0: done), and the words and list entries written.
 pub struct Answer {
-    pub number: u32,
-    pub position: u32,
+    pub verdict: Verdict,
     pub words: u32,
     pub entries: u32,
 }
@@ -98,11 +93,10 @@ fn read_text(text: &[u8], words: &mut [u32], list: &mut [u32]) -> Answer
 }
 
 fn refused(number: u32, position: u32) -> Answer
-    ensures { λ r. ⌜ r ≡ refusal number position ⌝ }
+    ensures { λ r. ⌜ answerOf r ≡ refusedOf (refusal number position) noneWritten ⌝ }
 {
     Answer {
-        number,
-        position,
+        verdict: refusals::refusal(number, position),
         words: 0,
         entries: 0,
     }
@@ -132,7 +126,7 @@ fn read_tokens(
     list: &mut [u32],
 ) -> Answer
     requires { ⌜ HoldsFile (now roles) (now numbers) (now positions) count ⌝ }
-    ensures { λ r. ⌜ ((f : File) → tokensFrom (now (roles .entry)) (now (numbers .entry)) (now (positions .entry)) 0 count ≡ fileTokens f → ascending 0 (fileTokens f) ≡ true → after r (now (words .exit)) (now (list .exit)) ≡ outcome limits f (now (words .entry)) (now (list .entry))) ⌝ }
+    ensures { λ r. ⌜ ((f : File) → tokensFrom (now (roles .entry)) (now (numbers .entry)) (now (positions .entry)) 0 count ≡ fileTokens f → ascending 0 (fileTokens f) ≡ true → after r (now (words .exit)) (now (list .exit)) ≡ outcome limits f (buffers (now (words .entry)) (now (list .entry)))) ⌝ }
 {
     let mut gates = [0u16; NUMBERS];
     qcir_uses::mark_gates(roles, numbers, count, &mut gates);
@@ -151,7 +145,7 @@ fn read_names(
 ) -> Answer
     requires { ⌜ HoldsFile (now roles) (now numbers) (now positions) count ⌝ }
     requires { ⌜ ((ps : List ℕ) → Definitions (now gates) (tokensFrom (now roles) (now numbers) ps 0 count)) ⌝ }
-    ensures { λ r. ⌜ ((f : File) → tokensFrom (now (roles .entry)) (now (numbers .entry)) (now (positions .entry)) 0 count ≡ fileTokens f → ascending 0 (fileTokens f) ≡ true → after r (now (words .exit)) (now (list .exit)) ≡ outcome limits f (now (words .entry)) (now (list .entry))) ⌝ }
+    ensures { λ r. ⌜ ((f : File) → tokensFrom (now (roles .entry)) (now (numbers .entry)) (now (positions .entry)) 0 count ≡ fileTokens f → ascending 0 (fileTokens f) ≡ true → after r (now (words .exit)) (now (list .exit)) ≡ outcome limits f (buffers (now (words .entry)) (now (list .entry)))) ⌝ }
 {
     let place = qcir_places::first_misplaced(roles, numbers, positions, count, gates);
     if place.found {
@@ -180,12 +174,12 @@ fn store_table(
 ) -> Answer
     requires { ⌜ HoldsFile (now roles) (now numbers) (now positions) count ⌝ }
     requires { ⌜ ((ps : List ℕ) → Definitions (now gates) (tokensFrom (now roles) (now numbers) ps 0 count)) ⌝ }
-    ensures { λ r. ⌜ ((f : File) → tokensFrom (now (roles .entry)) (now (numbers .entry)) (now (positions .entry)) 0 count ≡ fileTokens f → after r (now (words .exit)) (now (list .exit)) ≡ stored limits f (now (words .entry)) (now (list .entry))) ⌝ }
+    ensures { λ r. ⌜ ((f : File) → tokensFrom (now (roles .entry)) (now (numbers .entry)) (now (positions .entry)) 0 count ≡ fileTokens f → after r (now (words .exit)) (now (list .exit)) ≡ stored limits f (buffers (now (words .entry)) (now (list .entry)))) ⌝ }
 {
     let sizes = qcir_sizes::table_sizes(roles, numbers, count, gates);
     let nodes = sizes.nodes;
     if (LIMIT as u32) < nodes {
-        return refused(TOO_MANY_NODES, 0);
+        return refused(TOO_LARGE, 0);
     }
     let excess = sizes.excess;
     if excess < nodes {
@@ -201,8 +195,7 @@ fn store_table(
     }
     qcir_writer::write_table(roles, numbers, count, words, list);
     Answer {
-        number: 0,
-        position: 0,
+        verdict: refusals::accepted(),
         words: length,
         entries,
     }

@@ -1,7 +1,6 @@
 -- `qcir_reader::read_at` meets its contract.
 -- Assumes nothing.
 use Rattle.qcir_reader.proofs.Texts.{reads-from}
-use native.Mathlib.Omega.{arith}
 use borrow.Author.Needs.{needs}
 use Rattle.qcir_reader.proofs.read_at.Statement.{statement}
 use Rattle.qcir_reader.proofs.read_at.Tie as tie

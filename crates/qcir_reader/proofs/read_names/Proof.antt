@@ -6,7 +6,6 @@ use Rattle.qcir.specs.Refusals.{misplaced, notUsedOnce, unbound}
 use Rattle.qcir_tokens.specs.Tokens.{Token}
 use Rattle.qcir_tokens.specs.Held.{Definitions}
 use Rattle.qcir_reader.proofs.Stages.{nothing-found, misplaced-refuses, misused-refuses, unbound-refuses, names-pass}
-use native.Mathlib.Omega.{arith}
 use borrow.Author.Needs.{needs}
 use Rattle.qcir_reader.proofs.read_names.Statement.{statement}
 use Rattle.qcir_reader.proofs.read_names.Tie as tie

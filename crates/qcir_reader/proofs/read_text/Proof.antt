@@ -1,7 +1,6 @@
 -- `qcir_reader::read_text` meets its contract.
 -- Assumes nothing.
 use Rattle.qcir_reader.proofs.Texts.{long-reads}
-use native.Mathlib.Omega.{arith}
 use borrow.Author.Needs.{needs}
 use Rattle.qcir_reader.proofs.read_text.Statement.{statement}
 use Rattle.qcir_reader.proofs.read_text.Tie as tie

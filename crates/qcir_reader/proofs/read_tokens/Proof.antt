@@ -2,7 +2,6 @@
 -- Assumes nothing.
 use Prim.Native.Nat.{ℕ}
 use Rattle.lists.proofs.Stores.{getD-filled}
-use native.Mathlib.Omega.{arith}
 use borrow.Author.Needs.{needs}
 use Rattle.qcir_reader.proofs.read_tokens.Statement.{statement}
 use Rattle.qcir_reader.proofs.read_tokens.Tie as tie

@@ -85,6 +85,9 @@ write-table-requires c κs =
       few-entries = few-listed f (s .args .words .now) (s .args .list .now) w;
     }
 
+accepted-requires : tie.Need-accepted-requires
+accepted-requires c κs = search needs
+
 same-length : tie.Need-same-length
 same-length c = search needs
 
@@ -93,12 +96,12 @@ same-length-2 c = search needs
 
 returns-5 : tie.Need-returns-5
 returns-5 c f e =
-    let s = c .before .before .before .before .before .before .before .before .before .before .before .before .before .before .before .before .before .before in
-    let z = c .before .before .before .before .before .before .before .before .before .before .before .table-sizes .ensures f (s .args .positions .now) e in
+    let s = c .before .before .before .before .before .before .before .before .before .before .before .before .before .before .before .before .before .before .before in
+    let z = c .before .before .before .before .before .before .before .before .before .before .before .before .table-sizes .ensures f (s .args .positions .now) e in
     let whole = table-whole f in
-    let w : Within f (s .args .words .now) (s .args .list .now) = record { nodes-within = omega (arith, z .0, c .before .before .before .before .before .before .before .before .before .before .if1 .left); none-exceeding = omega (arith, z .0, z .2, c .before .before .before .before .before .before .before .before .before .if2 .left) } in
-    let t = c .before .before .before .before .write-table .ensures f (s .args .positions .now) e in
-    stored-done f (s .args .words .now) (s .args .list .now) _ _ _ _ w (omega (arith, z .0, whole, c .before .before .before .before .before .before .before .before .if3 .left)) (omega (arith, z .1, c .before .before .before .before .before .before .before .if4 .left)) (z .0) (z .1) (t .0) (t .1)
+    let w : Within f (s .args .words .now) (s .args .list .now) = record { nodes-within = omega (arith, z .0, c .before .before .before .before .before .before .before .before .before .before .before .if1 .left); none-exceeding = omega (arith, z .0, z .2, c .before .before .before .before .before .before .before .before .before .before .if2 .left) } in
+    let t = c .before .before .before .before .before .write-table .ensures f (s .args .positions .now) e in
+    stored-done f (s .args .words .now) (s .args .list .now) _ _ _ _ _ w (omega (arith, z .0, whole, c .before .before .before .before .before .before .before .before .before .if3 .left)) (omega (arith, z .1, c .before .before .before .before .before .before .before .before .if4 .left)) (c .accepted .ensures) (z .0) (z .1) (t .0) (t .1)
 
 pub store-table-spec : {M : Type 1} → statement M
 store-table-spec =
@@ -119,6 +122,7 @@ store-table-spec =
     refused-requires-4
     returns-4
     write-table-requires
+    accepted-requires
     same-length
     same-length-2
     returns-5)
