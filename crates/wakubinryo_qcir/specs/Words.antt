@@ -1,11 +1,19 @@
--- The answer of reading as C's words.
+-- The answer of reading that C's words say.
 -- Assumes nothing.
 use mathlib.Core.List.{List}
 use Prim.Native.Nat.{ℕ}
 use lib.ListN.{getD}
-use Rattle.qcir.specs.Reading.{Outcome}
+use Rattle.refusals.specs.Outcome.{AnswerWith, Outcome}
+use Rattle.qcir.specs.Reading.{Written, Buffers}
 
--- A reading's answer as four words (number, position, words and list entries written), and its two buffers.
-unfoldable pub readWords : List ℕ → List ℕ → List ℕ → Outcome
-readWords answer words list =
-    record { number = getD answer 0 0; position = getD answer 1 0; written = getD answer 2 0; listed = getD answer 3 0; words = words; list = list }
+-- An answer of four words: number, position, words and list entries written.
+unfoldable pub writtenAnswer : List ℕ → AnswerWith Written
+writtenAnswer a =
+    record {
+      verdict = record { number = getD a 0 0; position = getD a 1 0 };
+      sizes = record { words = getD a 2 0; entries = getD a 3 0 };
+    }
+
+-- The outcome, with what the buffers hold.
+abbrev pub readOutcome : List ℕ → Buffers → Outcome Written Buffers
+readOutcome a held = record { answer = writtenAnswer a; buffers = held }
