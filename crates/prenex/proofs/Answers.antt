@@ -12,7 +12,7 @@ use Rattle.formula.specs.Node.{Table}
 use Rattle.formula.specs.Words.{tableOf}
 use Rattle.refusals.specs.declared.Verdict.{Verdict}
 use Rattle.refusals.specs.Verdict.{refusal, accepted}
-use Rattle.refusals.specs.Outcome.{AnswerWith, Outcome, refused, done}
+use Rattle.refusals.specs.Outcome.{AnswerWith, refused, done}
 use Rattle.refusals.proofs.Outcome.{answer-next, answer-refused, call-next, call-refused, call-room, call-short}
 use Rattle.acceptance.specs.Verdict.{verdict}
 use Rattle.acceptance.proofs.Accepted.{number-zero}

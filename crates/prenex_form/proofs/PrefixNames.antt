@@ -1,5 +1,5 @@
 -- The prefix of a prenex form: its words read back as its blocks, no variable stands twice in it, and how long it
--- is. The names of the prefix and of the nodes are at most `lastName`.
+-- is. Its names are at most `lastName`.
 -- Assumes nothing.
 use mathlib.Core.Path.{_≡_, refl, sym, _∙_, ap, subst}
 use mathlib.Core.Bool.{Bool, true, false, _&&_}
