@@ -9,6 +9,13 @@ use libc::STDERR_FILENO;
 use prenex::Answer;
 use prenex_form::Sizes;
 use refusals::ACCEPTED;
+use refusals::GATE_NOT_USED_ONCE;
+use refusals::MISPLACED_NAME;
+use refusals::MISSPELLED;
+use refusals::TOO_LARGE;
+use refusals::TOO_MANY_VARIABLES;
+use refusals::UNBOUND_VARIABLE;
+use refusals::Verdict;
 
 // A byte more than files may have, so that a longer one is seen to be too long.
 const ROOM: usize = 65537;
@@ -90,9 +97,9 @@ fn measure_text(text: &[u8]) {
     let mut words = [0u32; WIDTH * LIMIT];
     let mut list = [0u32; LIMIT];
     let answer = qcir_reader::read(text, &mut words, &mut list);
-    let number = answer.number;
-    if number != ACCEPTED {
-        show_refusal(number, answer.position);
+    let verdict = answer.verdict;
+    if verdict.number != ACCEPTED {
+        show_refusal(verdict);
         return;
     }
     measure_table(
@@ -114,9 +121,9 @@ fn measure_table(words: &[u32], list: &[u32], n: usize, m: usize) {
 }
 
 fn show_answer(a: Answer) {
-    let number = a.number;
-    if number != ACCEPTED {
-        show_refusal(number, a.position);
+    let verdict = a.verdict;
+    if verdict.number != ACCEPTED {
+        show_refusal(verdict);
         return;
     }
     show_sizes(a.sizes);
@@ -132,11 +139,11 @@ fn show_sizes(s: Sizes) {
     printing::figure(b"lifted: variables", s.entries);
 }
 
-fn show_refusal(number: u32, position: u32) {
-    printing::number(b"refused: ", number);
-    printing::number(b" at ", position);
+fn show_refusal(v: Verdict) {
+    printing::number(b"refused: ", v.number);
+    printing::number(b" at ", v.position);
     printing::text(b" (");
-    show_reason(number);
+    show_reason(v.number);
     printing::text(b")\n");
 }
 
@@ -144,12 +151,12 @@ fn show_refusal(number: u32, position: u32) {
 // buffers have room for every table.
 fn show_reason(number: u32) {
     match number {
-        2 => printing::text(b"too many nodes"),
-        6 => printing::text(b"too many variables"),
-        10 => printing::text(b"spelling or length"),
-        11 => printing::text(b"a name misplaced"),
-        12 => printing::text(b"an unbound variable"),
-        13 => printing::text(b"a gate not used exactly once"),
+        TOO_LARGE => printing::text(b"too many nodes"),
+        TOO_MANY_VARIABLES => printing::text(b"too many variables"),
+        MISSPELLED => printing::text(b"spelling or length"),
+        MISPLACED_NAME => printing::text(b"a name misplaced"),
+        UNBOUND_VARIABLE => printing::text(b"an unbound variable"),
+        GATE_NOT_USED_ONCE => printing::text(b"a gate not used exactly once"),
         _ => printing::text(b"cannot happen here"),
     }
 }
