@@ -13,14 +13,13 @@ use Rattle.lists.specs.Parts.{overwrite}
 use Rattle.formula.specs.Node.{exists, for-all, dual, Node, operator, Table}
 use Rattle.formula.specs.Words.{width, nodeCount, wordsAt, nodeWords, tableOf}
 use Rattle.formula.specs.declared.NodeWords.{NodeWords}
-use Rattle.formula.specs.Form.{quantifierOf}
+use Rattle.formula.specs.Form.{quantifierOf, kindOf}
 use Rattle.refusals.specs.Verdict.{accepted}
 use Rattle.acceptance.specs.Verdict.{verdict}
 use Rattle.acceptance.proofs.Accepted.{accepted-holds}
 use Rattle.prenex_form.specs.Scope.{level}
 use Rattle.prenex_form.specs.Levels.{blocksAt, levels, levelQuantifier}
 use Rattle.prenex_form.specs.Matrix.{and, implies, kept, constraint, further, constraints, levelJoin, levelNodes}
-use Rattle.prenex_form.specs.Prefix.{kindOf}
 use Rattle.prenex_form.proofs.Alternation.{quantifier-read}
 use Rattle.arrays.specs.Link.{link}
 use Rattle.arrays.specs.Held.{atLevel, Chained}

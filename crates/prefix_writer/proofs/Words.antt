@@ -13,7 +13,7 @@ use Rattle.refusals.specs.Verdict.{accepted}
 use Rattle.acceptance.specs.Verdict.{verdict}
 use Rattle.acceptance.proofs.Accepted.{accepted-holds}
 use Rattle.prenex_form.specs.Levels.{quantifierAt, levelQuantifier}
-use Rattle.prenex_form.specs.Prefix.{kindOf}
+use Rattle.formula.specs.Form.{kindOf}
 
 kind-exists-is : (ls : List ℕ) (w : NodeWords) → w .kind ≡ 5 → 5 ≡ kindOf (quantifierAt (nodeOf ls w))
 unfolding nodeOf quantifierAt kindOf pick

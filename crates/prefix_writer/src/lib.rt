@@ -6,18 +6,12 @@ ghost use Prim.Native.Nat.{_+_, _*_, _≤_, _<_};
 ghost use lib.ListN.{length};
 ghost use Rattle.lists.specs.Parts.{numbers, overwrite};
 ghost use Rattle.formula.specs.Words.{nodeCount, tableOf};
-ghost use Rattle.formula.specs.Form.{prefixWidth};
+ghost use Rattle.formula.specs.Form.{prefixWidth, kindOf};
 ghost use Rattle.refusals.specs.Verdict.{accepted};
 ghost use Rattle.acceptance.specs.Limits.{limit};
 ghost use Rattle.acceptance.specs.Verdict.{countAt, verdict};
 ghost use Rattle.prenex_form.specs.Levels.{blocksAt, levels, levelQuantifier};
-ghost use Rattle.prenex_form.specs.Prefix.{
-  blockCount,
-  prefixBlock,
-  kindOf,
-  writtenPrefix,
-  writtenVariables,
-};
+ghost use Rattle.prenex_form.specs.Prefix.{blockCount, prefixBlock, writtenPrefix, writtenVariables};
 ghost use Rattle.arrays.specs.Held.{Started, Chained, Named};
 ghost use Rattle.prefix_writer.specs.Held.{
   highestFirst,

@@ -5,8 +5,7 @@ use Prim.Native.Nat.{ℕ}
 use borrow.Author.Tests.{eq-eqb, ne-eqb}
 use Rattle.lists.specs.Choice.{pick}
 use Rattle.formula.specs.Node.{Quantifier, exists, for-all, dual}
-use Rattle.formula.specs.Form.{quantifierOf}
-use Rattle.prenex_form.specs.Prefix.{kindOf}
+use Rattle.formula.specs.Form.{quantifierOf, kindOf}
 
 -- the kind says which quantifier it is
 pub quantifier-read : (q : Quantifier) → quantifierOf (kindOf q) ≡ q

@@ -19,11 +19,11 @@ use Rattle.lists.proofs.Parts.{flatMap-append, upTo-cong, length-upTo, length-e
 use Rattle.formula.specs.Node.{Table, isBlock, bound}
 use Rattle.formula.specs.Tree.{Tree, count, boundBelow}
 use Rattle.formula.specs.Words.{range}
-use Rattle.formula.specs.Form.{Block, blockAt, blocksFrom, blocksOf}
+use Rattle.formula.specs.Form.{Block, blockAt, blocksFrom, blocksOf, kindOf}
 use Rattle.prenex_form.specs.Scope.{inner, level, depth}
 use Rattle.prenex_form.specs.Names.{highestNumber, boundCount, newNames, innerBoundBelow, innerBelow, copies, definitionVariable}
 use Rattle.prenex_form.specs.Levels.{blocksAt, levels}
-use Rattle.prenex_form.specs.Prefix.{blockCount, leading, prefixBlock, prefixBlocks, kindOf, prefixWords, writtenPrefix, writtenVariables}
+use Rattle.prenex_form.specs.Prefix.{blockCount, leading, prefixBlock, prefixBlocks, prefixWords, writtenPrefix, writtenVariables}
 use Rattle.prenex_form.specs.Sizes.{prefixCount}
 use Rattle.prenex_form.proofs.Paths.{level-root, inner-level, level-le-levels, blocksAt-lt, blocksAt-inner, blocksAt-level, depth-levels, inner-block, root-outer}
 use Rattle.prenex_form.proofs.NameLaws.{none-bound, innerBound-is, innerBound-le, length-newNames, length-copies, newNames-above, newNames-le, copies-above, copies-le, definition-above, definition-le, newNames-apart, copies-apart, definition-apart, distinct-newNames, distinct-copies}

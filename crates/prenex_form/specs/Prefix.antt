@@ -6,8 +6,8 @@ use lib.Dec.{eqb}
 use lib.ListN.{length}
 use Rattle.lists.specs.Choice.{pick}
 use Rattle.lists.specs.Parts.{sum, upTo}
-use Rattle.formula.specs.Node.{Quantifier, exists, for-all, Table, isBlock}
-use Rattle.formula.specs.Form.{Block}
+use Rattle.formula.specs.Node.{Table, isBlock}
+use Rattle.formula.specs.Form.{Block, kindOf}
 use Rattle.prenex_form.specs.Names.{newNames, copies, definitionVariable}
 use Rattle.prenex_form.specs.Levels.{blocksAt, levels, levelQuantifier}
 
@@ -33,10 +33,6 @@ prefixBlock t j =
 -- "A table without blocks has no prefix at all"; any other has one block more than levels.
 unfoldable pub prefixBlocks : Table → List Block
 prefixBlocks t = pick (eqb (blockCount t) 0) [] (upTo (λ j. prefixBlock t j ∷ []) (suc (levels t)))
-
-unfoldable pub kindOf : Quantifier → ℕ
-kindOf exists = 5
-kindOf for-all = 6
 
 -- "kind 5 or 6, first, count, with stretches following one another in the output list": the words of blocks whose
 -- variables begin at entry s.

@@ -3,8 +3,7 @@
 // the alternation of quantifiers.
 ghost use mathlib.Core.Path.{_≡_};
 ghost use Rattle.formula.specs.Node.{dual};
-ghost use Rattle.formula.specs.Form.{quantifierOf};
-ghost use Rattle.prenex_form.specs.Prefix.{kindOf};
+ghost use Rattle.formula.specs.Form.{quantifierOf, kindOf};
 
 // Document 01's sizes: n nodes, b blocks, q bound variables and the quantifier depth of a table, and
 // the nodes, prefix blocks and list entries of its prenex form.

@@ -10,7 +10,7 @@ pub record Name : Type 0 where
   pub number : ℕ
   pub position : ℕ
 
--- An input of a gate, or the output: "a minus sign may stand before an input or the output's name".
+-- An input of a gate, or the output: a minus sign may stand before the name.
 pub record Literal : Type 0 where
   pub minus : Bool
   pub name : Name
@@ -19,14 +19,14 @@ pub data Junction : Type 0 where
   conjunction disjunction : Junction
 
 pub data Gate : Type 0 where
-  -- g = and(..), g = or(..): "with any number of inputs"
+  -- g = and(..), g = or(..): with any number of inputs
   junction-gate : Junction → Name → List Literal → Gate
-  -- g = xor(..): "with two"
+  -- g = xor(..): with two
   xor-gate : Name → Literal → Literal → Gate
-  -- g = exists(..; ..), g = forall(..; ..): "with at least one variable and one input"
+  -- g = exists(..; ..), g = forall(..; ..): with at least one variable, and one input
   quantified-gate : Quantifier → Name → Name → List Name → Literal → Gate
 
--- A prefix line, exists(..) or forall(..): "variable lists have at least one name".
+-- A prefix line, exists(..) or forall(..): its list has at least one name.
 pub record Line : Type 0 where
   pub quantifier : Quantifier
   pub first : Name

@@ -38,7 +38,7 @@ unfoldable pub repeated : List ℕ → List Name → List ℕ
 repeated before [] = []
 repeated before (x ∷ xs) = pick (mem (x .number) before) (x .position ∷ []) [] ++ repeated (x .number ∷ before) xs
 
--- "A name twice in one list": in that of a quantified gate.
+-- "a name twice in one such list": in that of a quantified gate.
 unfoldable pub repeatedInGates : List Gate → List ℕ
 repeatedInGates [] = []
 repeatedInGates (g ∷ gs) = repeated [] (gateVariables g) ++ repeatedInGates gs
@@ -48,7 +48,7 @@ unfoldable pub laterPlaces : Name → List Name → List ℕ
 laterPlaces x [] = []
 laterPlaces x (y ∷ ys) = pick (eqb (x .number) (y .number)) (max (x .position) (y .position) ∷ []) [] ++ laterPlaces x ys
 
--- "A gate name also in a free, prefix or quantifier list."
+-- A gate name "also in a free, prefix or quantifier list".
 unfoldable pub gatesListed : List Name → List Name → List ℕ
 gatesListed [] ys = []
 gatesListed (x ∷ xs) ys = laterPlaces x ys ++ gatesListed xs ys
@@ -63,8 +63,8 @@ unfoldable pub without : List ℕ → List Name → List Name
 without before [] = []
 without before (x ∷ xs) = pick (mem (x .number) before) (without before xs) (x ∷ without before xs)
 
--- "An input in a gate line that names a gate of this or a later line", and none of an earlier one. `before` are the gates of the
--- earlier lines.
+-- "an input in a gate line not after its first definition": one that names a gate of this or a later line, and none of an earlier one.
+-- `before` are the gates of the earlier lines.
 unfoldable pub earlyUses : List ℕ → List Gate → List ℕ
 earlyUses before [] = []
 earlyUses before (g ∷ gs) =

@@ -65,7 +65,7 @@ unfoldable pub junctionWord : Junction → List ℕ
 junctionWord conjunction = and-word
 junctionWord disjunction = or-word
 
--- "A minus sign may stand before an input or the output's name."
+-- A minus sign may stand before an input or the output's name.
 unfoldable pub literalSigns : Literal → List Sign
 literalSigns l = pick (l .minus) (word minus-sign ∷ name (l .name) ∷ []) (name (l .name) ∷ [])
 
@@ -79,7 +79,7 @@ unfoldable pub inputsSigns : Literal → List Literal → List Sign
 inputsSigns l [] = literalSigns l
 inputsSigns l (m ∷ ms) = literalSigns l ++ (word comma ∷ inputsSigns m ms)
 
--- "Any number of inputs."
+-- Any number of inputs.
 unfoldable pub anyInputsSigns : List Literal → List Sign
 anyInputsSigns [] = []
 anyInputsSigns (l ∷ ls) = inputsSigns l ls
@@ -88,22 +88,22 @@ anyInputsSigns (l ∷ ls) = inputsSigns l ls
 unfoldable pub listSigns : List ℕ → Name → List Name → List Sign
 listSigns keyword x xs = word keyword ∷ word opening ∷ (namesSigns x xs ++ (word closing ∷ newline ∷ []))
 
--- "At most one free(..) line."
+-- At most one free(..) line.
 unfoldable pub freeSigns : List Name → List Sign
 freeSigns [] = []
 freeSigns (x ∷ xs) = listSigns free-word x xs
 
--- "Any number of exists(..) and forall(..) lines."
+-- Any number of exists(..) and forall(..) lines.
 unfoldable pub prefixSigns : List Line → List Sign
 prefixSigns [] = []
 prefixSigns (l ∷ ls) = listSigns (quantifierWord (l .quantifier)) (l .first) (l .others) ++ prefixSigns ls
 
--- "One output(..) line."
+-- One output(..) line.
 unfoldable pub outputSigns : Literal → List Sign
 outputSigns l = word output-word ∷ word opening ∷ (literalSigns l ++ (word closing ∷ newline ∷ []))
 
--- "g = and(..), or(..) with any number of inputs, xor(..) with two, exists(..; ..), forall(..; ..) with at least one variable and
--- one input".
+-- g = and(..) and g = or(..) with any number of inputs, g = xor(..) with two, g = exists(..; ..) and g = forall(..; ..) with at least one
+-- variable and one input.
 unfoldable pub gateSigns : Gate → List Sign
 gateSigns (junction-gate j g ls) =
     name g ∷ word equals ∷ word (junctionWord j) ∷ word opening ∷ (anyInputsSigns ls ++ (word closing ∷ newline ∷ []))
@@ -122,7 +122,7 @@ gatesSigns (g ∷ gs) = gateSigns g ++ gatesSigns gs
 unfoldable pub fileSigns : File → List Sign
 fileSigns f = freeSigns (f .free) ++ (prefixSigns (f .prefix) ++ (outputSigns (f .output) ++ gatesSigns (f .gates)))
 
--- "Spaces and tabs"; "carriage return is no space".
+-- "Spaces and tabs"; a carriage return is no space.
 unfoldable pub isSpace : ℕ → Bool
 isSpace b = eqb b 32 || eqb b 9
 
@@ -142,7 +142,7 @@ valueFrom v (d ∷ ds) = valueFrom (10 * v + (d - 48)) ds
 -- The text, whose first byte has position p, spells the signs. Names are at most `most`.
 pub data Spelled (most : ℕ) : ℕ → List Sign → List ℕ → Type 0 where
   end : {p : ℕ} → Spelled most p [] []
-  -- "Spaces and tabs may stand around every word and sign."
+  -- "spaces and tabs around words and signs"
   space : {p b : ℕ} {ss : List Sign} {t : List ℕ} → isSpace b ≡ true → Spelled most (suc p) ss t → Spelled most p ss (b ∷ t)
   a-word : {p : ℕ} (w : List ℕ) {ss : List Sign} {t : List ℕ} → Spelled most (p + length w) ss t → Spelled most p (word w ∷ ss) (w ++ t)
   a-name : {p : ℕ} (ds : List ℕ) {ss : List Sign} {t : List ℕ} → isNumeral ds ≡ true → valueFrom 0 ds ≤ most → Spelled most (p + length ds) ss t → Spelled most p (name (record { number = valueFrom 0 ds; position = p }) ∷ ss) (ds ++ t)
