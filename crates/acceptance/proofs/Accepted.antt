@@ -22,7 +22,7 @@ use Rattle.formula.specs.Tree.{timesNamed, count, boundBelow}
 use Rattle.formula.proofs.Nodes.{Kind, kind-of, kind-constant, kind-variable, kind-negation, kind-operator, kind-exists, kind-for-all, kind-none}
 use Rattle.refusals.specs.Verdict.{refusal, accepted}
 use Rattle.refusals.specs.declared.Verdict.{Verdict}
-use Rattle.acceptance.specs.Limits.{Limits, limit, tableLimits}
+use Rattle.acceptance.specs.Limits.{TableLimits, limit, tableLimits}
 use Rattle.acceptance.specs.Verdict.{isNumberTo, partialNode, tooLarge, wellFormed, forwardReference, rangePastEnd, countAt, tooManyVariables, badVariable, nodeFault, notNamedOnce, verdictWithin, verdict}
 use Rattle.acceptance.specs.Order.{Whole, FirstThatApplies, partial, large, fault, not-tree, none}
 use Rattle.acceptance.specs.Accepted.{AcceptedWithin, Accepted}
@@ -62,7 +62,7 @@ forward-at ls i w (kind-exists e) = rw e (body-forward (leb i (w .c)))
 forward-at ls i w (kind-for-all e) = rw e (body-forward (leb i (w .c)))
 forward-at ls i w (kind-none e1 e2 e3 e4 e5 e6) = rw (e1, e2, e3, e4, e5, e6)
 
-bad-at : (lim : Limits) (ls : List ℕ) (w : NodeWords) → Kind (w .kind)
+bad-at : (lim : TableLimits) (ls : List ℕ) (w : NodeWords) → Kind (w .kind)
     → badVariable lim ls w ≡ not (all (isNumberTo (lim .highest)) (bound (nodeOf ls w)) && distinct (bound (nodeOf ls w)))
 unfolding badVariable isBlockKind nodeOf pick bound all distinct
 bad-at lim ls w (kind-constant e) = rw e
@@ -90,7 +90,7 @@ bound-length ls w h (kind-none e1 e2 e3 e4 e5 e6) = rw (e1, e2, e3, e4, e5, e6)
 
 -- A node without a fault is clear of the five tests, and the other way round.
 
-record Clear (lim : Limits) (ws ls : List ℕ) (i : ℕ) : Type 0 where
+record Clear (lim : TableLimits) (ws ls : List ℕ) (i : ℕ) : Type 0 where
   formed : wellFormed lim (wordsAt ws i) ≡ true
   lower : forwardReference i (wordsAt ws i) ≡ false
   fits : rangePastEnd ls (wordsAt ws i) ≡ false
@@ -107,7 +107,7 @@ unfolding pick
 pick-le true k r m h g = h
 pick-le false k r m h g = g
 
-module _ (lim : Limits) (ws ls : List ℕ) (i : ℕ) where
+module _ (lim : TableLimits) (ws ls : List ℕ) (i : ℕ) where
   no-fault : nodeFault lim ws ls i ≡ 0 → Clear lim ws ls i
   unfolding nodeFault
   no-fault e =
@@ -133,7 +133,7 @@ module _ (lim : Limits) (ws ls : List ℕ) (i : ℕ) where
 
 -- What a verdict says, by the first refusal that applies.
 
-module _ (lim : Limits) (ws ls : List ℕ) where
+module _ (lim : TableLimits) (ws ls : List ℕ) where
   few-nodes : tooLarge lim ws ls ≡ false → nodeCount ws ≤ lim .nodes
   unfolding tooLarge
   few-nodes l = ltb-false (lim .nodes) (nodeCount ws) (or-neither-left _ _ l)
@@ -159,12 +159,12 @@ module _ (lim : Limits) (ws ls : List ℕ) where
   number-le _ (none w clear once) = omega arith
 
 -- no refusal applies
-record Fine (lim : Limits) (ws ls : List ℕ) : Type 0 where
+record Fine (lim : TableLimits) (ws ls : List ℕ) : Type 0 where
   sizes : Whole lim ws ls
   clear : (i : ℕ) → i < nodeCount ws → Clear lim ws ls i
   once : (i : ℕ) → suc i < nodeCount ws → notNamedOnce ws ls i ≡ false
 
-module _ (lim : Limits) (ws ls : List ℕ) where
+module _ (lim : TableLimits) (ws ls : List ℕ) where
   -- the number 0 is an accepted table's alone
   zero-fine : (v : Verdict) → FirstThatApplies lim ws ls v → v .number ≡ 0 → Fine lim ws ls × (v ≡ accepted)
   unfolding refusal
@@ -205,7 +205,7 @@ pub counts-below : (ws ls : List ℕ) (n : ℕ) → ((i : ℕ) → i < n → Fit
 unfolding boundBelow
 counts-below ws ls n h = sum-cong _ _ n (λ i l. count-at ws ls i (h i l))
 
-module _ (lim : Limits) (ws ls : List ℕ) (i : ℕ) where
+module _ (lim : TableLimits) (ws ls : List ℕ) (i : ℕ) where
   clear-fits : Clear lim ws ls i → Fits ws ls i
   unfolding rangePastEnd
   clear-fits c b = ltb-false _ _ (and-when _ _ (c .fits) b)
@@ -260,7 +260,7 @@ module _ (most : ℕ) (ws : List ℕ) where
       let g = sum-grows (countAt ws) (suc i) n l in
       and-not (isBlockKind (field ws i 0)) _ (λ b. le-ltb most (sum (countAt ws) i + field ws i 2) (omega (arith, count-block ws i b)))
 
-module _ (lim : Limits) (ws ls : List ℕ) where
+module _ (lim : TableLimits) (ws ls : List ℕ) where
   partial-length : partialNode ws ≡ false → (0 < length ws) × (length ws % width ≡ 0)
   unfolding partialNode
   partial-length p =
@@ -349,7 +349,7 @@ module _ (ws ls : List ℕ) where
 
 -- The words of a well-formed node, by its kind.
 
-pub data Formed (lim : Limits) (w : NodeWords) : Type 0 where
+pub data Formed (lim : TableLimits) (w : NodeWords) : Type 0 where
   formed-constant : w .kind ≡ 1 → w .a ≤ 1 → w .b ≡ 0 → w .c ≡ 0 → Formed lim w
   formed-variable : w .kind ≡ 2 → isNumberTo (lim .highest) (w .a) ≡ true → w .b ≡ 0 → w .c ≡ 0 → Formed lim w
   formed-negation : w .kind ≡ 3 → w .b ≡ 0 → w .c ≡ 0 → Formed lim w
@@ -363,7 +363,7 @@ two-tests s t h = (and-left s t h, and-right s t h)
 three-tests : (s t u : Bool) → ((s && t) && u) ≡ true → (s ≡ true) × (t ≡ true) × (u ≡ true)
 three-tests s t u h = let p = and-left (s && t) u h in (and-left s t p, and-right s t p, and-right (s && t) u h)
 
-formed-by : (lim : Limits) (w : NodeWords) → Kind (w .kind) → wellFormed lim w ≡ true → Formed lim w
+formed-by : (lim : TableLimits) (w : NodeWords) → Kind (w .kind) → wellFormed lim w ≡ true → Formed lim w
 unfolding wellFormed isBlockKind
 formed-by lim w (kind-constant e) h =
     let r = three-tests (leb (w .a) 1) (eqb (w .b) 0) (eqb (w .c) 0) (simp or-false at (rw e at h)) in
@@ -378,5 +378,5 @@ formed-by lim w (kind-exists e) h = formed-exists e (rw e at h)
 formed-by lim w (kind-for-all e) h = formed-for-all e (rw e at h)
 formed-by lim w (kind-none e1 e2 e3 e4 e5 e6) h = absurd (true≢false (sym (rw (e1, e2, e3, e4, e5, e6) at h)))
 
-pub formed-cases : (lim : Limits) (w : NodeWords) → wellFormed lim w ≡ true → Formed lim w
+pub formed-cases : (lim : TableLimits) (w : NodeWords) → wellFormed lim w ≡ true → Formed lim w
 formed-cases lim w h = formed-by lim w (kind-of (w .kind)) h

@@ -13,11 +13,11 @@ use Rattle.lists.proofs.Search.{lowest-holds, lowest-before}
 use Rattle.formula.specs.Words.{nodeCount}
 use Rattle.refusals.specs.Verdict.{refusal, accepted}
 use Rattle.refusals.specs.declared.Verdict.{Verdict}
-use Rattle.acceptance.specs.Limits.{Limits}
+use Rattle.acceptance.specs.Limits.{TableLimits}
 use Rattle.acceptance.specs.Verdict.{partialNode, tooLarge, nodeFault, notNamedOnce, verdictWithin}
 use Rattle.acceptance.specs.Order.{Whole, FirstThatApplies, partial, large, fault, not-tree, none}
 
-module _ (lim : Limits) (ws ls : List ℕ) where
+module _ (lim : TableLimits) (ws ls : List ℕ) where
   -- whether a node has one of the faults 3 to 7
   abbrev faulty : ℕ → Bool
   faulty i = not (eqb (nodeFault lim ws ls i) 0)

@@ -10,10 +10,10 @@ use Rattle.lists.specs.Members.{all}
 use Rattle.formula.specs.Node.{bound}
 use Rattle.formula.specs.Words.{width, nodeCount, field, isBlockKind, wordsAt, nodeAt, tableOf}
 use Rattle.formula.specs.Tree.{Proper, boundBelow}
-use Rattle.acceptance.specs.Limits.{Limits, tableLimits}
+use Rattle.acceptance.specs.Limits.{TableLimits, tableLimits}
 use Rattle.acceptance.specs.Verdict.{isNumberTo, wellFormed}
 
-pub record AcceptedWithin (lim : Limits) (ws ls : List ℕ) : Type 0 where
+pub record AcceptedWithin (lim : TableLimits) (ws ls : List ℕ) : Type 0 where
   -- the words are whole nodes
   pub whole : length ws ≡ width * nodeCount ws
   -- operands and bodies are lower, each node but the last is named exactly once, no block binds a number twice

@@ -3,7 +3,7 @@
 use mathlib.Core.Bool.{Bool, true, false}
 use Prim.Native.Nat.{ℕ}
 
-pub record Limits : Type 0 where
+pub record TableLimits : Type 0 where
   -- the most nodes, list entries, and variables bound by all blocks together
   pub nodes : ℕ
   pub entries : ℕ
@@ -18,10 +18,10 @@ abbrev pub limit : ℕ
 limit = 4096
 
 -- The limits of formula tables: a variable is "its number, 1 to 65,535".
-abbrev pub tableLimits : Limits
+abbrev pub tableLimits : TableLimits
 tableLimits = record { nodes = limit; entries = limit; counts = limit; highest = 65535; blocks = true }
 
 -- The limits of a prenex form's matrix: a table without blocks, so without a list, whose numbers go up to this one. A form has at most
 -- 4,096 nodes of its table, 5 for each of as many blocks and 4 for each of as many bound variables.
-abbrev pub matrixLimits : ℕ → Limits
+abbrev pub matrixLimits : ℕ → TableLimits
 matrixLimits highest = record { nodes = 40960; entries = 0; counts = 0; highest = highest; blocks = false }

@@ -8,16 +8,16 @@ use Prim.Native.Nat.{ℕ, suc, _<_}
 use Rattle.formula.specs.Words.{nodeCount}
 use Rattle.refusals.specs.Verdict.{refusal, accepted}
 use Rattle.refusals.specs.declared.Verdict.{Verdict}
-use Rattle.acceptance.specs.Limits.{Limits}
+use Rattle.acceptance.specs.Limits.{TableLimits}
 use Rattle.acceptance.specs.Verdict.{partialNode, tooLarge, nodeFault, notNamedOnce}
 
 -- Neither refusal 1 nor 2 applies.
-pub record Whole (lim : Limits) (ws ls : List ℕ) : Type 0 where
+pub record Whole (lim : TableLimits) (ws ls : List ℕ) : Type 0 where
   pub whole : partialNode ws ≡ false
   pub small : tooLarge lim ws ls ≡ false
 
 -- "Order: 1, 2; then nodes upward, each tested for 3 to 7 in that order; then 8. .. The first that applies is the answer."
-pub data FirstThatApplies (lim : Limits) (ws ls : List ℕ) : Verdict → Type 0 where
+pub data FirstThatApplies (lim : TableLimits) (ws ls : List ℕ) : Verdict → Type 0 where
   partial : partialNode ws ≡ true → FirstThatApplies lim ws ls (refusal 1 0)
   large : partialNode ws ≡ false → tooLarge lim ws ls ≡ true → FirstThatApplies lim ws ls (refusal 2 0)
   fault : Whole lim ws ls → (i : ℕ) → i < nodeCount ws → (nodeFault lim ws ls i ≡ 0 → ⊥) → ((j : ℕ) → j < i → nodeFault lim ws ls j ≡ 0)

@@ -14,7 +14,7 @@ use Rattle.formula.specs.Tree.{timesNamed}
 use Rattle.formula.specs.declared.NodeWords.{NodeWords}
 use Rattle.refusals.specs.Verdict.{refusal, accepted}
 use Rattle.refusals.specs.declared.Verdict.{Verdict}
-use Rattle.acceptance.specs.Limits.{Limits, tableLimits}
+use Rattle.acceptance.specs.Limits.{TableLimits, tableLimits}
 
 -- "its number, 1 to 65,535": a number from 1 up to the highest.
 unfoldable pub isNumberTo : ℕ → ℕ → Bool
@@ -25,12 +25,12 @@ unfoldable pub partialNode : List ℕ → Bool
 partialNode ws = eqb (length ws) 0 || not (eqb (length ws % width) 0)
 
 -- Refusal 2, TooLarge (oversize): "over 4,096 nodes or list entries".
-unfoldable pub tooLarge : Limits → List ℕ → List ℕ → Bool
+unfoldable pub tooLarge : TableLimits → List ℕ → List ℕ → Bool
 tooLarge lim ws ls = ltb (lim .nodes) (nodeCount ws) || ltb (lim .entries) (length ls)
 
 -- Refusal 3, MalformedNode (odd node): "kind not 1 to 6; constant, variable number, truth table or unused field outside its
 -- range". A node is well formed if it is
-unfoldable pub wellFormed : Limits → NodeWords → Bool
+unfoldable pub wellFormed : TableLimits → NodeWords → Bool
 wellFormed lim w =
     -- a constant: "value 0 or 1"
     (eqb (w .kind) 1 && leb (w .a) 1 && eqb (w .b) 0 && eqb (w .c) 0)
@@ -63,12 +63,12 @@ unfoldable pub tooManyVariables : ℕ → List ℕ → ℕ → Bool
 tooManyVariables most ws i = let w = wordsAt ws i in isBlockKind (w .kind) && ltb most (sum (countAt ws) i + w .b)
 
 -- Refusal 7, BadVariable (bad name): "a covered entry outside 1 to 65,535, or twice in one block".
-unfoldable pub badVariable : Limits → List ℕ → NodeWords → Bool
+unfoldable pub badVariable : TableLimits → List ℕ → NodeWords → Bool
 badVariable lim ls w =
     isBlockKind (w .kind) && not (all (isNumberTo (lim .highest)) (range ls (w .a) (w .b)) && distinct (range ls (w .a) (w .b)))
 
 -- "Nodes upward, each tested for 3 to 7 in that order": the first of them that applies to node i, 0 if none does.
-unfoldable pub nodeFault : Limits → List ℕ → List ℕ → ℕ → ℕ
+unfoldable pub nodeFault : TableLimits → List ℕ → List ℕ → ℕ → ℕ
 nodeFault lim ws ls i =
     let w = wordsAt ws i in
     pick (not (wellFormed lim w)) 3
@@ -84,7 +84,7 @@ notNamedOnce ws ls i = not (eqb (timesNamed (tableOf ws ls) i) 1)
 
 -- "Order: 1, 2; then nodes upward, each tested for 3 to 7 in that order; then 8. .. The first that applies is the answer, and no
 -- other condition is ever a refusal."
-unfoldable pub verdictWithin : Limits → List ℕ → List ℕ → Verdict
+unfoldable pub verdictWithin : TableLimits → List ℕ → List ℕ → Verdict
 verdictWithin lim ws ls =
     let n = nodeCount ws in
     let i = lowest (λ i. not (eqb (nodeFault lim ws ls i) 0)) n in

@@ -16,7 +16,7 @@ use Rattle.formula.specs.Truth.{digit}
 use Rattle.formula.specs.Words.{nodeCount, isBlockKind, wordsAt, wordsOf, nodeAt, tableOf}
 use Rattle.formula.specs.declared.NodeWords.{NodeWords}
 use Rattle.formula.proofs.Nodes.{node-constant, node-variable, node-negation, node-operator, node-exists, node-for-all}
-use Rattle.acceptance.specs.Limits.{Limits, tableLimits, matrixLimits}
+use Rattle.acceptance.specs.Limits.{TableLimits, tableLimits, matrixLimits}
 use Rattle.acceptance.specs.Verdict.{isNumberTo, wellFormed}
 use Rattle.acceptance.specs.Accepted.{AcceptedWithin, Accepted}
 use Rattle.acceptance.proofs.Accepted.{Formed, formed-constant, formed-variable, formed-negation, formed-operator, formed-exists, formed-for-all, formed-cases}
@@ -80,7 +80,7 @@ zero-within m (block q xs a) w = absent _ (λ e. zero-none m (all-mem (isNumberT
 
 -- from the words to the node
 
-module _ (lim : Limits) (ws ls : List ℕ) (a : AcceptedWithin lim ws ls) where
+module _ (lim : TableLimits) (ws ls : List ℕ) (a : AcceptedWithin lim ws ls) where
   pub node-within : (i : ℕ) → i < nodeCount ws → Within (lim .highest) (nodeAt ws ls i)
   unfolding bound
   node-within i h = go (formed-cases lim (wordsAt ws i) (a .formed i h))
@@ -95,7 +95,7 @@ module _ (lim : Limits) (ws ls : List ℕ) (a : AcceptedWithin lim ws ls) where
 
 -- and from the node to the words
 
-formed-by : (lim : Limits) (w : NodeWords) → Formed lim w → wellFormed lim w ≡ true
+formed-by : (lim : TableLimits) (w : NodeWords) → Formed lim w → wellFormed lim w ≡ true
 unfolding wellFormed isBlockKind
 formed-by lim w (formed-constant e p q r) = rw (e, le-leb (w .a) 1 p, eq-eqb (w .b) 0 q, eq-eqb (w .c) 0 r)
 formed-by lim w (formed-variable e p q r) = rw (e, p, eq-eqb (w .b) 0 q, eq-eqb (w .c) 0 r)

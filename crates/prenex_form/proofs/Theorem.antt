@@ -19,7 +19,7 @@ use Rattle.formula.specs.Tree.{Tree, count, boundBelow}
 use Rattle.formula.proofs.Nodes.{is-block}
 use Rattle.formula.proofs.Coincidence.{coincidence}
 use Rattle.refusals.specs.Verdict.{accepted}
-use Rattle.acceptance.specs.Limits.{Limits, tableLimits, matrixLimits}
+use Rattle.acceptance.specs.Limits.{TableLimits, tableLimits, matrixLimits}
 use Rattle.acceptance.specs.Verdict.{verdict}
 use Rattle.acceptance.specs.Accepted.{AcceptedWithin, Accepted}
 use Rattle.acceptance.proofs.Accepted.{accepted-holds, holds-within}
@@ -122,7 +122,7 @@ module _ (t : Table) (ns ps xs : List ℕ) (p : PrenexOf t ns ps xs) where
   matrix-passes = holds-within (matrixLimits 77823) ns [] matrix-accepted
 
 -- an accepted table, within any limits, does not hold the number 0
-zero-not-held : (lim : Limits) (ws ls : List ℕ) → AcceptedWithin lim ws ls → holds (tableOf ws ls) 0 ≡ false
+zero-not-held : (lim : TableLimits) (ws ls : List ℕ) → AcceptedWithin lim ws ls → holds (tableOf ws ls) 0 ≡ false
 unfolding holds someNode someBelow tableOf
 zero-not-held lim ws ls a =
     let held : ℕ → Bool = λ i. standsAt 0 (nodeAt ws ls i) || mem 0 (bound (nodeAt ws ls i)) in
