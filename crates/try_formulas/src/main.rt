@@ -1,238 +1,145 @@
-// Document 01's "Formulas to try": each formula's name and what measuring says of it, and the prenex
-// form of one of them.
+// Document 01's "Formulas to try": each formula's name and what measuring or lifting says of it; and
+// tables whose prenex forms were worked out by hand.
+mod by_hand;
+mod notation;
+mod output;
+
 use formula::NEGATION;
 use formula::VARIABLE;
 use formula::WIDTH;
+use notation::find;
+use notation::first;
+use notation::part;
+use notation::read;
 use prefix_writer::PREFIX_WIDTH;
 use prenex::Answer;
 
 fn main() {
-    small();
-    ranges();
-    edges();
+    show_lines(
+        b"no words: ;\n\
+          constant 1: 1 1;\n\
+          exists nothing over constant 0: 1 0, 5 0 0 0;\n\
+          not exists nothing: 1 1, 5 0 0 0, 3 1;\n\
+          a block below an exclusive or: 2 1, 2 2, 2 1, 4 8 1 2, 5 0 1 3, 4 6 0 4; 2\n\
+          two blocks that bind one number: 2 1, 2 1, 6 0 1 1, 4 8 0 2, 5 0 1 3; 1\n\
+          a node named twice: 2 1, 4 9 0 0;\n\
+          variable 0 under a not that names itself: 2 0, 3 1;\n\
+          a range past a list of one: 2 1, 5 1 1 0; 1\n\
+          an empty range at its end: 2 1, 5 1 0 0; 1\n\
+          a number twice in one block: 2 1, 5 0 2 0; 2, 2\n\
+          variable 65,535: 2 65535;\n\
+          variable 65,536: 2 65536;\n",
+    );
+    room();
     large();
     long_list();
     many_variables();
-    form();
+    by_hand::compare_all();
+}
+
+// Lines of a formula each: its name, its nodes and its list.
+fn show_lines(text: &[u8]) {
+    let mut start = 0;
+    let mut i = 0;
+    while i < text.len() {
+        start = show_ended(text, start, i);
+        i += 1;
+    }
+}
+
+// Shows the line that ends here. Says where the line begins that the next byte is in.
+fn show_ended(text: &[u8], start: usize, i: usize) -> usize {
+    if i < text.len() {
+        if text[i] == b'\n' {
+            show_line(part(text, start, i));
+            return i + 1;
+        }
+    }
+    start
+}
+
+fn show_line(line: &[u8]) {
+    let mut entries = [0u32; 2];
+    let colon = find(line, b':');
+    let semicolon = find(line, b';');
+    let nodes = part(line, std::num::wrapping_add_usize(colon, 2), semicolon);
+    let list = part(line, std::num::wrapping_add_usize(semicolon, 2), line.len());
+    let m = read(list, 1, &mut entries);
+    show_nodes(part(line, 0, colon), nodes, first(&entries, m));
 }
 
 // Prints a formula's name and what measuring says of its table.
-fn show(name: &[u8], words: &[u32], list: &[u32]) {
+fn show_nodes(name: &[u8], nodes: &[u8], list: &[u32]) {
+    let mut words = [0u32; 6 * WIDTH];
+    let n = read(nodes, WIDTH, &mut words);
+    show_words(name, first(&words, n), list);
+}
+
+fn show_words(name: &[u8], words: &[u32], list: &[u32]) {
     printing::text(name);
     show_answer(prenex::measure(words, list));
 }
 
 fn show_answer(a: Answer) {
-    let number = a.number;
     let s = a.sizes;
-    if number != 0 {
-        printing::number(b": refused, ", number);
-        printing::number(b" at ", a.position);
-        printing::text(b"\n");
+    if a.number != 0 {
+        output::print(b": refused, # at #\n", &[a.number, a.position]);
         return;
     }
-    printing::number(b": n ", s.n);
-    printing::number(b", b ", s.b);
-    printing::number(b", q ", s.q);
-    printing::number(b", depth ", s.depth);
-    printing::number(b"; form of ", s.nodes);
-    printing::number(b" nodes, ", s.blocks);
-    printing::number(b" prefix blocks, ", s.entries);
-    printing::text(b" prefix variables\n");
+    output::print(
+        b": n #, b #, q #, depth #; form of # nodes, # prefix blocks, # prefix variables\n",
+        &[s.n, s.b, s.q, s.depth, s.nodes, s.blocks, s.entries],
+    );
 }
 
-// Variable 1 xor (exists 2: 2 and 1).
-fn block_below_xor() -> [u32; 24] {
-    [
-        2,
-        1,
-        0,
-        0,
-        2,
-        2,
-        0,
-        0,
-        2,
-        1,
-        0,
-        0,
-        4,
-        8,
-        1,
-        2,
-        5,
-        0,
-        1,
-        3,
-        4,
-        6,
-        0,
-        4,
-    ]
-}
-
-// Lifts that formula, once with a word too little room for its nodes.
-fn form() {
-    let words = block_below_xor();
-    let list = [2];
-    let mut short = [0u32; 59];
-    let mut nodes = [0u32; 60];
-    let mut prefix = [0u32; 6];
+// Variable 1 xor (exists 2: 2 and 1), whose form has 15 nodes, lifted with a word too little room for
+// them and with just enough.
+fn room() {
+    let mut words = [0u32; 6 * WIDTH];
+    let mut short = [0u32; 15 * WIDTH - 1];
+    let mut nodes = [0u32; 15 * WIDTH];
+    let mut prefix = [0u32; 2 * PREFIX_WIDTH];
     let mut variables = [0u32; 3];
-    let refused = prenex::lift(&words, &list, &mut short, &mut prefix, &mut variables);
-    printing::text(b"a block below an exclusive or, lifted into 59 words");
-    show_answer(refused);
-    let done = prenex::lift(&words, &list, &mut nodes, &mut prefix, &mut variables);
-    printing::text(b"a block below an exclusive or, lifted into 60 words");
-    show_answer(done);
-    show_rows(b"nodes\n", &nodes, WIDTH);
-    show_rows(b"prefix\n", &prefix, PREFIX_WIDTH);
-    show_rows(b"variables\n", &variables, 1);
+    read(
+        b"2 1, 2 2, 2 1, 4 8 1 2, 5 0 1 3, 4 6 0 4",
+        WIDTH,
+        &mut words,
+    );
+    printing::text(b"a block below an exclusive or, a word too little room");
+    show_answer(prenex::lift(&words, &[2], &mut short, &mut prefix, &mut variables));
+    printing::text(b"a block below an exclusive or, just enough room");
+    show_answer(prenex::lift(&words, &[2], &mut nodes, &mut prefix, &mut variables));
 }
 
-// Words, so many to a line.
-fn show_rows(name: &[u8], words: &[u32], width: usize) {
-    printing::text(name);
-    let mut i = 0;
-    let mut column = 0;
-    while i < words.len() {
-        printing::number(b" ", words[i]);
-        column = next_column(column, width);
-        i += 1;
-    }
-}
-
-// The next word's place on its line, after the line's end where it is full.
-fn next_column(column: usize, width: usize) -> usize {
-    if column < width {
-        if column + 1 < width {
-            return column + 1;
-        }
-    }
-    printing::text(b"\n");
-    0
-}
-
-// The formulas without blocks.
-fn small() {
-    let none = [0u32; 1];
-    let nothing = [0u32; 1];
-    show(b"no words", &nothing[..0], &none[..0]);
-    show(b"five words", &[1, 1, 0, 0, 0], &none[..0]);
-    show(b"constant 1", &[1, 1, 0, 0], &none[..0]);
-    show(b"a node named twice", &[2, 1, 0, 0, 4, 9, 0, 0], &none[..0]);
-    show(
-        b"variable 0 under a not that names itself",
-        &[2, 0, 0, 0, 3, 1, 0, 0],
-        &none[..0],
-    );
-    show(b"variable 65,535", &[2, 65535, 0, 0], &none[..0]);
-    show(b"variable 65,536", &[2, 65536, 0, 0], &none[..0]);
-}
-
-// The formulas with blocks and short lists.
-fn ranges() {
-    let none = [0u32; 1];
-    let words = block_below_xor();
-    show(
-        b"exists nothing over constant 0",
-        &[1, 0, 0, 0, 5, 0, 0, 0],
-        &none[..0],
-    );
-    show(
-        b"not exists nothing",
-        &[1, 1, 0, 0, 5, 0, 0, 0, 3, 1, 0, 0],
-        &none[..0],
-    );
-    show(b"a block below an exclusive or", &words, &[2]);
-    show(
-        b"two blocks that bind one number",
-        &[2, 1, 0, 0, 2, 1, 0, 0, 6, 0, 1, 1, 4, 8, 0, 2, 5, 0, 1, 3],
-        &[1],
-    );
-    show(
-        b"a range past a list of one",
-        &[2, 1, 0, 0, 5, 1, 1, 0],
-        &[1],
-    );
-    show(
-        b"an empty range at its end",
-        &[2, 1, 0, 0, 5, 1, 0, 0],
-        &[1],
-    );
-    show(
-        b"a number twice in one block",
-        &[2, 1, 0, 0, 5, 0, 2, 0],
-        &[2, 2],
-    );
-}
-
-// Ranges at the edges of 32 bits.
-fn edges() {
-    show(
-        b"first 4,294,967,295, count 1",
-        &[2, 1, 0, 0, 5, 4294967295, 1, 0],
-        &[1],
-    );
-    show(
-        b"first 1, count 4,294,967,295",
-        &[2, 1, 0, 0, 5, 1, 4294967295, 0],
-        &[1],
-    );
-    show(
-        b"first and count 4,294,967,295",
-        &[2, 1, 0, 0, 6, 4294967295, 4294967295, 0],
-        &[1],
-    );
-    show(
-        b"operand 4,294,967,295",
-        &[2, 1, 0, 0, 3, 4294967295, 0, 0],
-        &[1],
-    );
-    show(b"covered entry 65,535", &[2, 1, 0, 0, 5, 0, 1, 0], &[65535]);
-    show(b"covered entry 65,536", &[2, 1, 0, 0, 5, 0, 1, 0], &[65536]);
-    show(b"covered entry 0", &[2, 1, 0, 0, 5, 0, 1, 0], &[0]);
-}
-
-// Chains of 4,096 and 4,097 nodes.
+// Five words of a chain, 4,096 nodes of it and all 4,097.
 fn large() {
-    let mut words = [0u32; 16388];
-    chain(&mut words);
-    show_chains(&words);
-}
-
-fn show_chains(words: &[u32; 16388]) {
     let none = [0u32; 1];
-    show_first(b"4,096 nodes", words, 16384, &none[..0]);
-    show(b"4,097 nodes", words, &none[..0]);
-}
-
-// A table of the first n words.
-fn show_first(name: &[u8], words: &[u32], n: usize, list: &[u32]) {
-    if n <= words.len() {
-        show(name, &words[..n], list);
-    }
+    let mut words = [0u32; 4097 * WIDTH];
+    chain(&mut words);
+    show_words(b"five words", first(&words, 5), &none[..0]);
+    show_words(b"4,096 nodes", first(&words, 4096 * WIDTH), &none[..0]);
+    show_words(b"4,097 nodes", &words, &none[..0]);
 }
 
 // Lists of 4,096 and 4,097 entries.
 fn long_list() {
     let list = [0u32; 4097];
-    show(b"a list of 4,096", &[2, 1, 0, 0], &list[..4096]);
-    show(b"a list of 4,097", &[2, 1, 0, 0], &list);
+    show_nodes(b"a list of 4,096", b"2 1", &list[..4096]);
+    show_nodes(b"a list of 4,097", b"2 1", &list);
 }
 
-// Two blocks over one range of 2,049 entries, and over one of 2,048.
+// Two blocks over one range of 2,048 entries, and over one of 2,049.
 fn many_variables() {
     let mut list = [0u32; 2049];
     count_up(&mut list);
-    show(
+    show_nodes(
         b"two blocks of 2,048",
-        &[2, 1, 0, 0, 5, 0, 2048, 0, 5, 0, 2048, 1],
+        b"2 1, 5 0 2048 0, 5 0 2048 1",
         &list,
     );
-    show(
+    show_nodes(
         b"two blocks of 2,049",
-        &[2, 1, 0, 0, 5, 0, 2049, 0, 5, 0, 2049, 1],
+        b"2 1, 5 0 2049 0, 5 0 2049 1",
         &list,
     );
 }

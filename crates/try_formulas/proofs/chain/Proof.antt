@@ -3,12 +3,13 @@
 use lib.ListN.{length}
 use Prim.Native.Nat.{_≤_, _-_, _*_}
 use mathlib.Core.Path.{_≡_}
+use Rattle.formula.specs.Words.{width}
 use borrow.Author.Needs.{needs}
 use Rattle.try_formulas.proofs.chain.Statement.{statement}
 use Rattle.try_formulas.proofs.chain.Tie as tie
 
 abbrev Inv-loop : tie.InvT-loop
-Inv-loop words₀ n below₀ i₀ words below i = (i ≤ n) × (4 * n ≤ length words) × (length words ≡ length words₀)
+Inv-loop words₀ n below₀ i₀ words below i = (i ≤ n) × (width * n ≤ length words) × (length words ≡ length words₀)
 
 abbrev μ-loop : tie.MeasureT-loop
 μ-loop words₀ n below₀ i₀ words below i = n - i
