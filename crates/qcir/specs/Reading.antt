@@ -5,7 +5,7 @@ use mathlib.Core.List.{List}
 use mathlib.Core.Path.{_≡_}
 use Prim.Native.Nat.{ℕ, _<_, _≤_}
 use lib.Dec.{eqb, ltb}
-use lib.ListN.{length}
+use lib.ListN.{length, take}
 use Rattle.lists.specs.Choice.{pick}
 use Rattle.lists.specs.Search.{lowest}
 use Rattle.lists.specs.Parts.{overwrite}
@@ -44,6 +44,9 @@ pub record Buffers : Type 0 where
   pub words : List ℕ
   pub list : List ℕ
 
+abbrev pub buffers : List ℕ → List ℕ → Buffers
+buffers words list = record { words = words; list = list }
+
 -- "On refusal all sizes .. are 0 .., and no buffer has changed."
 unfoldable pub noneWritten : Written
 noneWritten = record { words = 0; entries = 0 }
@@ -52,11 +55,11 @@ unfoldable pub refusedWith : Verdict → Buffers → Outcome Written Buffers
 refusedWith v before = record { answer = refused v noneWritten; buffers = before }
 
 -- The table's words at the buffers' starts; "words after the last one written keep their content".
-unfoldable pub written : List ℕ → List ℕ → Buffers → Outcome Written Buffers
-written ws ls before =
+unfoldable pub doneWith : List ℕ → List ℕ → Buffers → Outcome Written Buffers
+doneWith ws ls before =
     record {
       answer = done (record { words = length ws; entries = length ls });
-      buffers = record { words = overwrite (before .words) 0 ws; list = overwrite (before .list) 0 ls };
+      buffers = buffers (overwrite (before .words) 0 ws) (overwrite (before .list) 0 ls);
     }
 
 -- The next verdict where no number is at fault; else this refusal, at the lowest.
@@ -83,7 +86,7 @@ stored lim f before =
     let ls = tableList f in
     unlessRefused (sizeVerdict lim ws) noneWritten before
     (unlessShort (ltb (length (before .words)) (length ws) || ltb (length (before .list)) (length ls)) noneWritten before
-    (written ws ls before))
+    (doneWith ws ls before))
 
 unfoldable pub outcome : Limits → File → Buffers → Outcome Written Buffers
 outcome lim f before = unlessRefused (nameVerdict f) noneWritten before (stored lim f before)
@@ -101,3 +104,10 @@ pub data Reading (lim : Limits) (text : List ℕ) (before : Buffers) : Outcome W
 pub record TableOf (most : ℕ) (text ws ls : List ℕ) : Type 0 where
   pub accepts : verdict ws ls ≡ accepted
   pub truth-kept : (f : File) → Spells most text f → (v : Valuation) → truth (tableOf ws ls) v ≡ fileTruth f v
+
+-- If done, it is promised of what stands at the buffers' starts, as far as the sizes say.
+unfoldable pub TableWritten : ℕ → List ℕ → Outcome Written Buffers → Type 0
+TableWritten most text o =
+    let sizes = o .answer .sizes in
+    let held = o .buffers in
+    o .answer .verdict .number ≡ 0 → TableOf most text (take (sizes .words) (held .words)) (take (sizes .entries) (held .list))

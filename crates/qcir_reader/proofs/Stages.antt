@@ -22,12 +22,12 @@ use Rattle.acceptance.specs.Verdict.{tooManyVariables}
 use Rattle.qcir.specs.File.{File}
 use Rattle.qcir.specs.Refusals.{misplaced, notUsedOnce, unbound}
 use Rattle.qcir.specs.Table.{tableWords, tableList}
-use Rattle.qcir.specs.Reading.{limits, Written, Buffers, noneWritten, refusedWith, written, unlessAny, nameVerdict, sizeVerdict, stored, outcome}
+use Rattle.qcir.specs.Reading.{limits, Written, Buffers, buffers, noneWritten, refusedWith, doneWith, unlessAny, nameVerdict, sizeVerdict, stored, outcome}
 use Rattle.qcir.proofs.Theorem.{table-whole, table-few}
 use Rattle.qcir_tokens.specs.declared.Found.{Found}
 use Rattle.qcir_tokens.specs.Held.{foundOf}
 use Rattle.qcir_reader.specs.declared.Answer.{Answer}
-use Rattle.qcir_reader.specs.Reads.{answerOf, buffers, after}
+use Rattle.qcir_reader.specs.Reads.{answerOf, after}
 
 -- Nothing was found among no numbers only.
 pub nothing-found : (r : Found) (xs : List ℕ) → r ≡ foundOf xs → r .found ≡ false → xs ≡ []
@@ -51,29 +51,29 @@ abbrev pub Refuses : Answer → ℕ → ℕ → Type 0
 Refuses r number position = answerOf r ≡ refused (refusal number position) noneWritten
 
 -- It leaves the buffers.
-pub refusal-after : (r : Answer) (number position : ℕ) (words list : List ℕ) → Refuses r number position → after r words list ≡ refusedWith (refusal number position) (buffers words list)
-unfolding after refusedWith
+pub refusal-after : (r : Answer) (number position : ℕ) (words list : List ℕ) → Refuses r number position → after r (buffers words list) ≡ refusedWith (refusal number position) (buffers words list)
+unfolding refusedWith
 refusal-after r number position words list e = ap (λ (a : AnswerWith Written). record { answer = a; buffers = buffers words list }) e
 
 module _ (f : File) (words list : List ℕ) where
   abbrev before : Buffers
   before = buffers words list
 
-  name-refuses : (r : Answer) (number position : ℕ) → 0 < number → nameVerdict f ≡ refusal number position → Refuses r number position → after r words list ≡ outcome limits f before
+  name-refuses : (r : Answer) (number position : ℕ) → 0 < number → nameVerdict f ≡ refusal number position → Refuses r number position → after r before ≡ outcome limits f before
   unfolding outcome refusedWith refusal
   name-refuses r number position n e a =
       refusal-after r number position words list a ∙ sym (rw e (call-refused noneWritten before (stored limits f before) (refusal number position) (λ z. omega arith)))
 
-  pub misplaced-refuses : (found : Found) (r : Answer) → found ≡ foundOf (misplaced f) → found .found ≡ true → Refuses r 11 (found .lowest) → after r words list ≡ outcome limits f before
+  pub misplaced-refuses : (found : Found) (r : Answer) → found ≡ foundOf (misplaced f) → found .found ≡ true → Refuses r 11 (found .lowest) → after r before ≡ outcome limits f before
   unfolding nameVerdict
   misplaced-refuses found r e h = name-refuses r 11 (found .lowest) (omega arith) (found-refuses found (misplaced f) 11 _ e h)
 
-  pub misused-refuses : (found : Found) (r : Answer) → misplaced f ≡ [] → found ≡ foundOf (notUsedOnce f) → found .found ≡ true → Refuses r 13 (found .lowest) → after r words list ≡ outcome limits f before
+  pub misused-refuses : (found : Found) (r : Answer) → misplaced f ≡ [] → found ≡ foundOf (notUsedOnce f) → found .found ≡ true → Refuses r 13 (found .lowest) → after r before ≡ outcome limits f before
   unfolding nameVerdict
   misused-refuses found r m e h =
       name-refuses r 13 (found .lowest) (omega arith) (none-passes (misplaced f) 11 _ m ∙ found-refuses found (notUsedOnce f) 13 _ e h)
 
-  pub unbound-refuses : (found : Found) (r : Answer) → misplaced f ≡ [] → notUsedOnce f ≡ [] → found ≡ foundOf (unbound f) → found .found ≡ true → Refuses r 12 (found .lowest) → after r words list ≡ outcome limits f before
+  pub unbound-refuses : (found : Found) (r : Answer) → misplaced f ≡ [] → notUsedOnce f ≡ [] → found ≡ foundOf (unbound f) → found .found ≡ true → Refuses r 12 (found .lowest) → after r before ≡ outcome limits f before
   unfolding nameVerdict
   unbound-refuses found r m u e h =
       name-refuses r 12 (found .lowest) (omega arith)
@@ -85,16 +85,16 @@ module _ (f : File) (words list : List ℕ) where
       let e : nameVerdict f ≡ accepted = none-passes (misplaced f) 11 _ m ∙ (none-passes (notUsedOnce f) 13 _ u ∙ none-passes (unbound f) 12 _ b) in
       sym (call-next noneWritten before (stored limits f before) (nameVerdict f) (ap (λ (v : Verdict). v .number) e))
 
-  size-refuses : (r : Answer) (number position : ℕ) → 0 < number → sizeVerdict limits (tableWords f) ≡ refusal number position → Refuses r number position → after r words list ≡ stored limits f before
+  size-refuses : (r : Answer) (number position : ℕ) → 0 < number → sizeVerdict limits (tableWords f) ≡ refusal number position → Refuses r number position → after r before ≡ stored limits f before
   unfolding stored refusedWith refusal
   size-refuses r number position n e a =
       refusal-after r number position words list a ∙ sym (rw e (call-refused noneWritten before _ (refusal number position) (λ z. omega arith)))
 
-  pub many-nodes : (r : Answer) → limit < nodeCount (tableWords f) → Refuses r 2 0 → after r words list ≡ stored limits f before
+  pub many-nodes : (r : Answer) → limit < nodeCount (tableWords f) → Refuses r 2 0 → after r before ≡ stored limits f before
   unfolding sizeVerdict limits
   many-nodes r h = size-refuses r 2 0 (omega arith) (pick-yes _ _ _ (lt-ltb _ _ h))
 
-  pub many-variables : (r : Answer) (i : ℕ) → nodeCount (tableWords f) ≤ limit → i ≡ lowest (tooManyVariables limit (tableWords f)) (nodeCount (tableWords f)) → i < nodeCount (tableWords f) → Refuses r 6 i → after r words list ≡ stored limits f before
+  pub many-variables : (r : Answer) (i : ℕ) → nodeCount (tableWords f) ≤ limit → i ≡ lowest (tooManyVariables limit (tableWords f)) (nodeCount (tableWords f)) → i < nodeCount (tableWords f) → Refuses r 6 i → after r before ≡ stored limits f before
   unfolding sizeVerdict limits
   many-variables r i n e h =
       size-refuses r 6 i (omega arith)
@@ -114,23 +114,23 @@ module _ (f : File) (words list : List ℕ) where
   within-passes w =
       ap (λ (v : Verdict). v .number) (pick-no _ _ _ (le-ltb _ _ (w .nodes-within)) ∙ pick-no _ _ _ (le-ltb _ _ (w .none-exceeding)))
 
-  short-refuses : (r : Answer) → Within → (ltb (length words) (length (tableWords f)) || ltb (length list) (length (tableList f))) ≡ true → Refuses r 9 0 → after r words list ≡ stored limits f before
+  short-refuses : (r : Answer) → Within → (ltb (length words) (length (tableWords f)) || ltb (length list) (length (tableList f))) ≡ true → Refuses r 9 0 → after r before ≡ stored limits f before
   unfolding stored refusedWith
   short-refuses r w h a =
       refusal-after r 9 0 words list a
       ∙ sym (call-next noneWritten before _ (sizeVerdict limits (tableWords f)) (within-passes w) ∙ call-short noneWritten before _ _ h)
 
-  pub short-words : (r : Answer) → Within → length words < length (tableWords f) → Refuses r 9 0 → after r words list ≡ stored limits f before
+  pub short-words : (r : Answer) → Within → length words < length (tableWords f) → Refuses r 9 0 → after r before ≡ stored limits f before
   short-words r w h = short-refuses r w (or-left _ _ (lt-ltb _ _ h))
 
-  pub short-list : (r : Answer) → Within → length list < length (tableList f) → Refuses r 9 0 → after r words list ≡ stored limits f before
+  pub short-list : (r : Answer) → Within → length list < length (tableList f) → Refuses r 9 0 → after r before ≡ stored limits f before
   short-list r w h = short-refuses r w (or-right (ltb (length words) (length (tableWords f))) _ (lt-ltb _ _ h))
 
-  pub stored-done : (v : Verdict) (n e : ℕ) (words′ list′ : List ℕ) → Within → length (tableWords f) ≤ length words → length (tableList f) ≤ length list → v ≡ accepted → n ≡ nodeCount (tableWords f) → e ≡ length (tableList f) → words′ ≡ overwrite words 0 (tableWords f) → list′ ≡ overwrite list 0 (tableList f) → after (record { verdict = v; words = width * n; entries = e }) words′ list′ ≡ stored limits f before
-  unfolding stored after answerOf written done
+  pub stored-done : (v : Verdict) (n e : ℕ) (words′ list′ : List ℕ) → Within → length (tableWords f) ≤ length words → length (tableList f) ≤ length list → v ≡ accepted → n ≡ nodeCount (tableWords f) → e ≡ length (tableList f) → words′ ≡ overwrite words 0 (tableWords f) → list′ ≡ overwrite list 0 (tableList f) → after (record { verdict = v; words = width * n; entries = e }) (buffers words′ list′) ≡ stored limits f before
+  unfolding stored doneWith done
   stored-done v n e words′ list′ w hw hl ev en ee ew el =
       (λ i. record {
         answer = record { verdict = ev i; sizes = record { words = (ap (λ (k : ℕ). width * k) en ∙ sym (table-whole f)) i; entries = ee i } };
-        buffers = record { words = ew i; list = el i };
+        buffers = buffers (ew i) (el i);
       })
       ∙ sym (call-next noneWritten before _ (sizeVerdict limits (tableWords f)) (within-passes w) ∙ call-room noneWritten before _ _ (or-neither _ _ (le-ltb _ _ hw) (le-ltb _ _ hl)))

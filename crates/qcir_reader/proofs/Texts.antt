@@ -27,12 +27,12 @@ use Rattle.qcir.specs.Spelling.{Spells, SpellingFault}
 use Rattle.qcir.specs.Meaning.{fileTruth}
 use Rattle.qcir.specs.Refusals.{least, misplaced, notUsedOnce}
 use Rattle.qcir.specs.Table.{tableWords, tableList}
-use Rattle.qcir.specs.Reading.{limits, Written, Buffers, noneWritten, refusedWith, written, unlessAny, nameVerdict, sizeVerdict, stored, outcome, Reading, too-long, misspelled, spelled, TableOf}
+use Rattle.qcir.specs.Reading.{limits, Written, Buffers, buffers, noneWritten, refusedWith, doneWith, unlessAny, nameVerdict, sizeVerdict, stored, outcome, Reading, too-long, misspelled, spelled, TableOf, TableWritten}
 use Rattle.qcir.proofs.Theorem.{table-truth, table-accepted}
 use Rattle.qcir_tokens.specs.Held.{tokensFrom, Room, tokenLimit}
 use Rattle.qcir_text.specs.Machine.{accepts, alive, start, tokensOf}
 use Rattle.qcir_reader.specs.declared.Answer.{Answer}
-use Rattle.qcir_reader.specs.Reads.{answerOf, buffers, after, Reads}
+use Rattle.qcir_reader.specs.Reads.{after, Reads}
 use Rattle.qcir_reader.specs.Stages.{HoldsFile}
 use Rattle.qcir_text.proofs.Spelling.{complete, sound, refused as misspelt, unique, ordered, ranged}
 use Rattle.qcir_reader.proofs.Numbers.{numbers-ranged}
@@ -57,7 +57,7 @@ pub record Done (f : File) (words list : List ℕ) (o : Outcome Written Buffers)
   pub none-exceeding : (i : ℕ) → i < nodeCount (tableWords f) → tooManyVariables limit (tableWords f) i ≡ false
   pub room : length (tableWords f) ≤ length words
   pub list-room : length (tableList f) ≤ length list
-  pub is-written : o ≡ written (tableWords f) (tableList f) (buffers words list)
+  pub is-done : o ≡ doneWith (tableWords f) (tableList f) (buffers words list)
 
 abbrev number : Outcome Written Buffers → ℕ
 number o = o .answer .verdict .number
@@ -72,12 +72,12 @@ outcome-done f words list h =
     let short = ltb (length words) (length ws) || ltb (length list) (length ls) in
     let a = call-passed noneWritten before (stored limits f before) (nameVerdict f) h in
     let named = call-next noneWritten before (stored limits f before) (nameVerdict f) a in
-    let roomy = unlessShort short noneWritten before (written ws ls before) in
+    let roomy = unlessShort short noneWritten before (doneWith ws ls before) in
     let hb = sym (ap number named) ∙ h in
     let b = call-passed noneWritten before roomy (sizeVerdict limits ws) hb in
     let sized = call-next noneWritten before roomy (sizeVerdict limits ws) b in
     let hc = sym (ap number sized) ∙ hb in
-    let c = call-fits noneWritten before (written ws ls before) short hc in
+    let c = call-fits noneWritten before (doneWith ws ls before) short hc in
     let placed = passed-any (misplaced f) 11 _ (lit< tt) a in
     let used = passed-any (notUsedOnce f) 13 _ (lit< tt) (placed .1) in
     let nodes = passed-test (ltb limit n) 2 0 _ (lit< tt) b in
@@ -89,7 +89,7 @@ outcome-done f words list h =
       none-exceeding = λ i k. lowest-before (tooManyVariables limit ws) n i (let l : n ≤ lowest (tooManyVariables limit ws) n = ltb-false _ _ (counts .0) in omega (arith, l, k));
       room = ltb-false _ _ (or-neither-left _ _ c);
       list-room = ltb-false _ _ (or-neither-right (ltb (length words) (length ws)) _ c);
-      is-written = named ∙ (sized ∙ call-room noneWritten before (written ws ls before) short c);
+      is-done = named ∙ (sized ∙ call-room noneWritten before (doneWith ws ls before) short c);
     }
 
 -- The start of a buffer that was written over holds what was written.
@@ -98,14 +98,9 @@ start-written out ws h =
     let e : length ws ≡ 0 + length ws = omega arith in
     ap (λ (k : ℕ). take k (overwrite out 0 ws)) e ∙ take-overwrite out 0 ws (omega (arith, h))
 
--- The table that an outcome leaves at the buffers' starts.
-abbrev TableLeft : List ℕ → Outcome Written Buffers → Type 0
-TableLeft text o = TableOf 65535 text (take (o .answer .sizes .words) (o .buffers .words)) (take (o .answer .sizes .entries) (o .buffers .list))
-
 -- What was written, if done, is the file's table.
-pub done-table : (text : List ℕ) (f : File) (words list : List ℕ) → Spells 65535 text f → number (outcome limits f (buffers words list)) ≡ 0
-    → TableLeft text (outcome limits f (buffers words list))
-unfolding written done
+pub done-table : (text : List ℕ) (f : File) (words list : List ℕ) → Spells 65535 text f → TableWritten 65535 text (outcome limits f (buffers words list))
+unfolding TableWritten doneWith done
 done-table text f words list s h =
     let d = outcome-done f words list h in
     let ok = table-accepted f (numbers-ranged f (ranged s)) (d .placed) (d .used-once) (d .few-nodes) (d .none-exceeding) in
@@ -114,13 +109,13 @@ done-table text f words list s h =
       accepts = ok;
       truth-kept = λ g r v. subst (λ (z : File). truth (tableOf (tableWords f) (tableList f)) v ≡ fileTruth z v) (unique s r) (table-truth f (d .placed) (d .used-once) v);
     } in
-    subst (TableLeft text) (sym (d .is-written))
+    subst (λ (o : Outcome Written Buffers). TableOf 65535 text (take (o .answer .sizes .words) (o .buffers .words)) (take (o .answer .sizes .entries) (o .buffers .list))) (sym (d .is-done))
     (subst (λ (ws : List ℕ). TableOf 65535 text ws (take (length (tableList f)) (overwrite list 0 (tableList f)))) (sym (start-written words (tableWords f) (d .room)))
     (subst (λ (ls : List ℕ). TableOf 65535 text (tableWords f) ls) (sym (start-written list (tableList f) (d .list-room))) t))
 
 -- Refusal 10.
 refused-reads : (text words list : List ℕ) (r : Answer) (p : ℕ) → Reading limits text (buffers words list) (refusedWith (refusal 10 p) (buffers words list)) → Refuses r 10 p → Reads text 0 words list words list r
-unfolding answerOf refused refusal
+unfolding TableWritten refused refusal
 refused-reads text words list r p h e =
     let ten : r .verdict .number ≡ 10 = ap (λ (a : AnswerWith Written). a .verdict .number) e in
     record {
@@ -137,12 +132,12 @@ unfolding limits
 misspelled-reads text words list r p h no-file at e =
     refused-reads text words list r p (misspelled h p (subst (λ (k : ℕ). SpellingFault 65535 text k) (sym at) (misspelt 65535 text (lit≤ tt) no-file))) e
 
-pub spelled-reads : (text words list words′ list′ : List ℕ) (r : Answer) (f : File) → length text ≤ 65536 → Spells 65535 text f → after r words′ list′ ≡ outcome limits f (buffers words list) → Reads text 0 words list words′ list′ r
-unfolding limits after answerOf
+pub spelled-reads : (text words list words′ list′ : List ℕ) (r : Answer) (f : File) → length text ≤ 65536 → Spells 65535 text f → after r (buffers words′ list′) ≡ outcome limits f (buffers words list) → Reads text 0 words list words′ list′ r
+unfolding limits
 spelled-reads text words list words′ list′ r f h s e =
     record {
       reading = subst (Reading limits text (buffers words list)) (sym e) (spelled h f s);
-      table = λ z. subst (TableLeft text) (sym e) (done-table text f words list s (sym (ap number e) ∙ z));
+      table = subst (TableWritten 65535 text) (sym e) (done-table text f words list s);
     }
 
 -- The tokens of a text that is a file.

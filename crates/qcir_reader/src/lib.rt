@@ -5,12 +5,12 @@ ghost use mathlib.Core.Path.{_≡_};
 ghost use Prim.Native.Nat.{ℕ, _≤_, min};
 ghost use lib.ListN.{length};
 ghost use Rattle.qcir.specs.File.{File};
-ghost use Rattle.qcir.specs.Reading.{limits, noneWritten, outcome, stored};
+ghost use Rattle.qcir.specs.Reading.{limits, buffers, noneWritten, outcome, stored};
 ghost use Rattle.refusals.specs.Verdict.{refusal};
 ghost use Rattle.refusals.specs.Outcome.{refused as refusedOf};
 ghost use Rattle.qcir_tokens.specs.Tokens.{fileTokens, ascending};
 ghost use Rattle.qcir_tokens.specs.Held.{tokensFrom, Definitions};
-ghost use Rattle.qcir_reader.specs.Reads.{answerOf, buffers, after, Reads};
+ghost use Rattle.qcir_reader.specs.Reads.{answerOf, after, Reads};
 ghost use Rattle.qcir_reader.specs.Stages.{HoldsFile};
 use acceptance::LIMIT;
 use qcir_tokens::NUMBERS;
@@ -50,7 +50,8 @@ pub fn begin<'a>(text: &'a [u8]) -> Reader<'a>
 // Reads from the reader's position on: what is read is the rest of the text, and positions in the
 // answer count from there.
 pub fn read_from<'a>(r: Reader<'a>, words: &mut [u32], list: &mut [u32]) -> Answer
-    ensures { λ s. ⌜ Reads (now (r .entry .text)) (r .entry .at) (now (words .entry)) (now (list .entry)) (now (words .exit)) (now (list .exit)) s ⌝ }
+    ensures { λ s. ⌜ Reads (now (r .entry .text)) (r .entry .at)
+        (now (words .entry)) (now (list .entry)) (now (words .exit)) (now (list .exit)) s ⌝ }
 {
     read_at(r.text, r.at, words, list)
 }
@@ -61,14 +62,16 @@ pub fn read_from<'a>(r: Reader<'a>, words: &mut [u32], list: &mut [u32]) -> Answ
 // The contract rules out a reader that judges variables before gates (12 before 13), and one that
 // writes the words before the list's room is known.
 pub fn read(text: &[u8], words: &mut [u32], list: &mut [u32]) -> Answer
-    ensures { λ s. ⌜ Reads (now (text .entry)) 0 (now (words .entry)) (now (list .entry)) (now (words .exit)) (now (list .exit)) s ⌝ }
+    ensures { λ s. ⌜ Reads (now (text .entry)) 0
+        (now (words .entry)) (now (list .entry)) (now (words .exit)) (now (list .exit)) s ⌝ }
 {
     read_from(begin(text), words, list)
 }
 
 // Reads the text from byte `at` on; at its end, where `at` is past it.
 pub fn read_at(text: &[u8], at: usize, words: &mut [u32], list: &mut [u32]) -> Answer
-    ensures { λ r. ⌜ Reads (now (text .entry)) at (now (words .entry)) (now (list .entry)) (now (words .exit)) (now (list .exit)) r ⌝ }
+    ensures { λ r. ⌜ Reads (now (text .entry)) at
+        (now (words .entry)) (now (list .entry)) (now (words .exit)) (now (list .exit)) r ⌝ }
 {
     let from = lesser(at, text.len());
     read_text(&text[from..], words, list)
@@ -84,7 +87,8 @@ fn lesser(a: usize, b: usize) -> usize
 }
 
 fn read_text(text: &[u8], words: &mut [u32], list: &mut [u32]) -> Answer
-    ensures { λ r. ⌜ Reads (now (text .entry)) 0 (now (words .entry)) (now (list .entry)) (now (words .exit)) (now (list .exit)) r ⌝ }
+    ensures { λ r. ⌜ Reads (now (text .entry)) 0
+        (now (words .entry)) (now (list .entry)) (now (words .exit)) (now (list .exit)) r ⌝ }
 {
     if BYTES < text.len() {
         return refused(MISSPELLED, 0);
@@ -104,7 +108,8 @@ fn refused(number: u32, position: u32) -> Answer
 
 fn read_spelled(text: &[u8], words: &mut [u32], list: &mut [u32]) -> Answer
     requires { ⌜ length (now text) ≤ 65536 ⌝ }
-    ensures { λ r. ⌜ Reads (now (text .entry)) 0 (now (words .entry)) (now (list .entry)) (now (words .exit)) (now (list .exit)) r ⌝ }
+    ensures { λ r. ⌜ Reads (now (text .entry)) 0
+        (now (words .entry)) (now (list .entry)) (now (words .exit)) (now (list .exit)) r ⌝ }
 {
     let mut roles = [0u8; TOKENS];
     let mut numbers = [0u16; TOKENS];
@@ -126,7 +131,9 @@ fn read_tokens(
     list: &mut [u32],
 ) -> Answer
     requires { ⌜ HoldsFile (now roles) (now numbers) (now positions) count ⌝ }
-    ensures { λ r. ⌜ ((f : File) → tokensFrom (now (roles .entry)) (now (numbers .entry)) (now (positions .entry)) 0 count ≡ fileTokens f → ascending 0 (fileTokens f) ≡ true → after r (now (words .exit)) (now (list .exit)) ≡ outcome limits f (buffers (now (words .entry)) (now (list .entry)))) ⌝ }
+    ensures { λ r. ⌜ ((f : File) → tokensFrom (now (roles .entry)) (now (numbers .entry)) (now (positions .entry)) 0 count ≡ fileTokens f
+        → ascending 0 (fileTokens f) ≡ true
+        → after r (buffers (now (words .exit)) (now (list .exit))) ≡ outcome limits f (buffers (now (words .entry)) (now (list .entry)))) ⌝ }
 {
     let mut gates = [0u16; NUMBERS];
     qcir_uses::mark_gates(roles, numbers, count, &mut gates);
@@ -145,7 +152,9 @@ fn read_names(
 ) -> Answer
     requires { ⌜ HoldsFile (now roles) (now numbers) (now positions) count ⌝ }
     requires { ⌜ ((ps : List ℕ) → Definitions (now gates) (tokensFrom (now roles) (now numbers) ps 0 count)) ⌝ }
-    ensures { λ r. ⌜ ((f : File) → tokensFrom (now (roles .entry)) (now (numbers .entry)) (now (positions .entry)) 0 count ≡ fileTokens f → ascending 0 (fileTokens f) ≡ true → after r (now (words .exit)) (now (list .exit)) ≡ outcome limits f (buffers (now (words .entry)) (now (list .entry)))) ⌝ }
+    ensures { λ r. ⌜ ((f : File) → tokensFrom (now (roles .entry)) (now (numbers .entry)) (now (positions .entry)) 0 count ≡ fileTokens f
+        → ascending 0 (fileTokens f) ≡ true
+        → after r (buffers (now (words .exit)) (now (list .exit))) ≡ outcome limits f (buffers (now (words .entry)) (now (list .entry)))) ⌝ }
 {
     let place = qcir_places::first_misplaced(roles, numbers, positions, count, gates);
     if place.found {
@@ -174,7 +183,8 @@ fn store_table(
 ) -> Answer
     requires { ⌜ HoldsFile (now roles) (now numbers) (now positions) count ⌝ }
     requires { ⌜ ((ps : List ℕ) → Definitions (now gates) (tokensFrom (now roles) (now numbers) ps 0 count)) ⌝ }
-    ensures { λ r. ⌜ ((f : File) → tokensFrom (now (roles .entry)) (now (numbers .entry)) (now (positions .entry)) 0 count ≡ fileTokens f → after r (now (words .exit)) (now (list .exit)) ≡ stored limits f (buffers (now (words .entry)) (now (list .entry)))) ⌝ }
+    ensures { λ r. ⌜ ((f : File) → tokensFrom (now (roles .entry)) (now (numbers .entry)) (now (positions .entry)) 0 count ≡ fileTokens f
+        → after r (buffers (now (words .exit)) (now (list .exit))) ≡ stored limits f (buffers (now (words .entry)) (now (list .entry)))) ⌝ }
 {
     let sizes = qcir_sizes::table_sizes(roles, numbers, count, gates);
     let nodes = sizes.nodes;

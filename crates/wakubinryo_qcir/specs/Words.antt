@@ -6,7 +6,7 @@ use lib.ListN.{getD}
 use Rattle.refusals.specs.Outcome.{AnswerWith, Outcome}
 use Rattle.qcir.specs.Reading.{Written, Buffers}
 
--- An answer of four words: number, position, words and list entries written.
+-- An answer of four words: number and position, and the words and list entries written.
 unfoldable pub writtenAnswer : List ℕ → AnswerWith Written
 writtenAnswer a =
     record {
@@ -14,6 +14,5 @@ writtenAnswer a =
       sizes = record { words = getD a 2 0; entries = getD a 3 0 };
     }
 
--- The outcome, with what the buffers hold.
 abbrev pub readOutcome : List ℕ → Buffers → Outcome Written Buffers
 readOutcome a held = record { answer = writtenAnswer a; buffers = held }

@@ -1,9 +1,8 @@
 // The C interface of QCIR files: reading under its C name. include/wakubinryo.h says the promise in
 // words.
 ghost use mathlib.Core.Path.{_≡_};
-ghost use lib.ListN.{take};
-ghost use Rattle.qcir.specs.Reading.{limits, Reading, TableOf};
-ghost use Rattle.qcir_reader.specs.Reads.{answerOf, buffers};
+ghost use Rattle.qcir.specs.Reading.{limits, buffers, Reading, TableWritten};
+ghost use Rattle.qcir_reader.specs.Reads.{answerOf};
 ghost use Rattle.wakubinryo_qcir.specs.Words.{writtenAnswer, readOutcome};
 use qcir_reader::Answer;
 
@@ -22,10 +21,8 @@ pub extern "C" fn wakubinryo_read_qcir(
         ⌜ Reading limits (now (text .entry)) (buffers (now (words .entry)) (now (list .entry)))
         (readOutcome (now (answer .exit)) (buffers (now (words .exit)) (now (list .exit)))) ⌝ }
     ensures table { λ _.
-        ⌜ (writtenAnswer (now (answer .exit)) .verdict .number ≡ 0
-        → TableOf (limits .names) (now (text .entry))
-        (take (writtenAnswer (now (answer .exit)) .sizes .words) (now (words .exit)))
-        (take (writtenAnswer (now (answer .exit)) .sizes .entries) (now (list .exit)))) ⌝ }
+        ⌜ TableWritten (limits .names) (now (text .entry))
+        (readOutcome (now (answer .exit)) (buffers (now (words .exit)) (now (list .exit)))) ⌝ }
 {
     put_answer(answer, qcir_reader::read(text, words, list));
 }

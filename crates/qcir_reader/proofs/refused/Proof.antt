@@ -2,7 +2,6 @@
 -- Assumes nothing.
 use Rattle.refusals.specs.Outcome.{refused}
 use Rattle.qcir.specs.Reading.{noneWritten}
-use Rattle.qcir_reader.specs.Reads.{answerOf}
 use borrow.Author.Needs.{needs}
 use Rattle.qcir_reader.proofs.refused.Statement.{statement}
 use Rattle.qcir_reader.proofs.refused.Tie as tie
@@ -11,7 +10,7 @@ refusal-requires : tie.Need-refusal-requires
 refusal-requires c κs = search needs
 
 returns : tie.Need-returns
-unfolding answerOf refused noneWritten
+unfolding refused noneWritten
 returns c = rw (c .refusal .ensures)
 
 pub refused-spec : {M : Type 1} → statement M

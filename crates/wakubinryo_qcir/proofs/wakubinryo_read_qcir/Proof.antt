@@ -1,6 +1,6 @@
 -- `wakubinryo_qcir::wakubinryo_read_qcir` meets its contract.
 -- Assumes nothing.
-use Rattle.wakubinryo_qcir.proofs.Answers.{reading-words, table-words}
+use Rattle.wakubinryo_qcir.proofs.Answers.{read-said}
 use borrow.Author.Needs.{needs}
 use Rattle.wakubinryo_qcir.proofs.wakubinryo_read_qcir.Statement.{statement}
 use Rattle.wakubinryo_qcir.proofs.wakubinryo_read_qcir.Tie as tie
@@ -20,10 +20,8 @@ same-length-2 c = search needs
 returns : tie.Need-returns
 returns c =
     let s = c .before .before .before .before .before .before .before .before .before .before .before .before in
-    let f = c .before .before .before .before .before .read in (
-      reading-words (s .args .text .now) (s .args .words .now) (s .args .list .now) (f .result) _ _ _ (c .put-answer .ensures) (f .ensures),
-      table-words (s .args .text .now) (s .args .words .now) (s .args .list .now) (f .result) _ _ _ (c .put-answer .ensures) (f .ensures),
-    )
+    let f = c .before .before .before .before .before .read in
+    read-said (s .args .text .now) (s .args .words .now) (s .args .list .now) _ _ (f .result) _ (c .put-answer .ensures) (f .ensures)
 
 pub wakubinryo-read-qcir-spec : {M : Type 1} → statement M
 wakubinryo-read-qcir-spec =
