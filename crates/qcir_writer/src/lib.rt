@@ -431,8 +431,8 @@ fn write_outer(
 // Writes the formula table of the file whose tokens are the first `count`: its nodes to the start of
 // `words`, its list to the start of `list`.
 //
-// The contract rules out a writer that takes inputs from right to left, one that joins the inputs of an
-// or gate by and, and one by which prefix lines run together.
+// The contract rules out a writer that takes inputs from right to left, one that leaves out a not, and
+// one by which or() is 1.
 pub fn write_table(roles: &[u8], numbers: &[u16], count: usize, words: &mut [u32], list: &mut [u32])
     requires { ⌜ Writable (now roles) (now numbers) count (now words) (now list) ⌝ }
     ensures { λ r. ⌜ ((f : File) (ps : List ℕ) → tokensFrom (now (roles .entry)) (now (numbers .entry)) ps 0 count ≡ fileTokens f → (now (words .exit) ≡ overwrite (now (words .entry)) 0 (tableWords f)) × (now (list .exit) ≡ overwrite (now (list .entry)) 0 (tableList f))) ⌝ }
