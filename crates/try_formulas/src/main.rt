@@ -4,8 +4,6 @@ mod by_hand;
 mod notation;
 mod output;
 
-use formula::NEGATION;
-use formula::VARIABLE;
 use formula::WIDTH;
 use notation::find;
 use notation::first;
@@ -81,9 +79,10 @@ fn show_words(name: &[u8], words: &[u32], list: &[u32]) {
 }
 
 fn show_answer(a: Answer) {
+    let v = a.verdict;
     let s = a.sizes;
-    if a.number != 0 {
-        output::print(b": refused, # at #\n", &[a.number, a.position]);
+    if v.number != 0 {
+        output::print(b": refused, # at #\n", &[v.number, v.position]);
         return;
     }
     output::print(
@@ -150,11 +149,11 @@ fn chain(words: &mut [u32]) {
     if n == 0 {
         return;
     }
-    formula::put_node(words, 0, VARIABLE, 1, 0, 0);
+    formula::put_node(words, 0, formula::variable_node(1));
     let mut below: u32 = 0;
     let mut i = 1;
     while i < n {
-        formula::put_node(words, i, NEGATION, below, 0, 0);
+        formula::put_node(words, i, formula::negation_node(below));
         below = std::num::wrapping_add_u32(below, 1);
         i += 1;
     }

@@ -17,11 +17,17 @@ abbrev μ-loop : tie.MeasureT-loop
 returns : tie.Need-returns Inv-loop μ-loop
 returns c = search needs
 
+variable-node-requires : tie.Need-variable-node-requires Inv-loop μ-loop
+variable-node-requires c κs = search needs
+
 put-node-requires : tie.Need-put-node-requires Inv-loop μ-loop
 put-node-requires c κs = search needs
 
 loop-holds : tie.Need-loop-holds Inv-loop μ-loop
 loop-holds c = search needs
+
+negation-node-requires : tie.Need-negation-node-requires Inv-loop μ-loop
+negation-node-requires c κs = search needs
 
 put-node-requires-2 : tie.Need-put-node-requires-2 Inv-loop μ-loop
 put-node-requires-2 c κs = search needs
@@ -51,8 +57,10 @@ chain-spec =
     Inv-loop
     μ-loop
     returns
+    variable-node-requires
     put-node-requires
     loop-holds
+    negation-node-requires
     put-node-requires-2
     wrapping-add-u32-requires
     add-i
