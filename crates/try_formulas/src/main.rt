@@ -11,6 +11,7 @@ use notation::part;
 use notation::read;
 use prefix_writer::PREFIX_WIDTH;
 use prenex::Answer;
+use refusals::ACCEPTED;
 
 fn main() {
     show_lines(
@@ -81,7 +82,7 @@ fn show_words(name: &[u8], words: &[u32], list: &[u32]) {
 fn show_answer(a: Answer) {
     let v = a.verdict;
     let s = a.sizes;
-    if v.number != 0 {
+    if v.number != ACCEPTED {
         output::print(b": refused, # at #\n", &[v.number, v.position]);
         return;
     }
