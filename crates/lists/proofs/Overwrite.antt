@@ -69,12 +69,6 @@ pub set-three : (out : List ℕ) (at a b c : ℕ) → at + 3 ≤ length out
     → set (set (set out at a) (at + 1) b) (at + 2) c ≡ overwrite out at (a ∷ b ∷ c ∷ [])
 set-three out at a b c fits = rw (add-one, add-two) (sets-overwrite out at (a ∷ b ∷ c ∷ []) fits)
 
-pub set-four : (out : List ℕ) (at a b c d : ℕ) → at + 4 ≤ length out
-    → set (set (set (set out at a) (at + 1) b) (at + 2) c) (at + 3) d ≡ overwrite out at (a ∷ b ∷ c ∷ d ∷ [])
-set-four out at a b c d fits =
-    let e : at + 3 ≡ suc (suc (suc at)) = omega arith in
-    rw (add-one, add-two, e) (sets-overwrite out at (a ∷ b ∷ c ∷ d ∷ []) fits)
-
 -- two writes in a row are one
 pub overwrite-append : (out : List ℕ) (at : ℕ) (a b : List ℕ) → at + length a + length b ≤ length out
     → overwrite (overwrite out at a) (at + length a) b ≡ overwrite out at (a ++ b)

@@ -1,12 +1,26 @@
--- `formula::put_node` meets its contract: four stores in a row are one write.
+-- `formula::put_node` meets its contract: the stores of a node's words are one write.
 -- Assumes nothing.
-use lib.ListN.{length-set}
-use Rattle.lists.proofs.Overwrite.{set-four}
-use Rattle.formula.specs.Words.{wordList}
+use mathlib.Core.Path.{_≡_}
+use mathlib.Core.List.{List, [], _∷_}
+use Prim.Native.Nat.{ℕ, suc, _+_, _≤_}
+use lib.ListN.{length, set, length-set}
+use native.Mathlib.Numerals.{add-one, add-two}
 use native.Mathlib.Omega.{arith}
+use Rattle.lists.specs.Parts.{overwrite}
+use Rattle.lists.proofs.Overwrite.{sets-overwrite}
+use Rattle.formula.specs.Words.{width, wordList}
+use Rattle.formula.specs.declared.NodeWords.{NodeWords}
 use borrow.Author.Needs.{needs}
 use Rattle.formula.proofs.put_node.Statement.{statement}
 use Rattle.formula.proofs.put_node.Tie as tie
+
+-- a node's words, stored one after the other
+stores : (out : List ℕ) (at : ℕ) (w : NodeWords) → at + width ≤ length out
+    → set (set (set (set out at (w .kind)) (at + 1) (w .a)) (at + 2) (w .b)) (at + 3) (w .c) ≡ overwrite out at (wordList w)
+unfolding wordList
+stores out at w fits =
+    let e : at + 3 ≡ suc (suc (suc at)) = omega arith in
+    rw (add-one, add-two, e) (sets-overwrite out at (w .kind ∷ w .a ∷ w .b ∷ w .c ∷ []) fits)
 
 mul-first : tie.Need-mul-first
 mul-first c = search needs
@@ -48,8 +62,7 @@ same-length : tie.Need-same-length
 same-length c = simp length-set
 
 returns : tie.Need-returns
-unfolding wordList
-returns c = set-four _ _ _ _ _ _ (omega arith)
+returns c = stores _ _ _ (omega arith)
 
 pub put-node-spec : {M : Type 1} → statement M
 put-node-spec =
