@@ -2,17 +2,15 @@
 ghost use mathlib.Core.Path.{_≡_};
 ghost use Prim.Native.Nat.{_+_, _*_, _-_, _≤_};
 ghost use lib.Dec.{eqb};
-ghost use lib.ListN.{length, take};
+ghost use lib.ListN.{length};
 ghost use Rattle.lists.specs.Choice.{pick};
 ghost use Rattle.lists.specs.Parts.{overwrite};
 ghost use Rattle.formula.specs.Node.{isBlock};
-ghost use Rattle.formula.specs.Words.{width, nodeCount, nodeAt, tableOf};
-ghost use Rattle.formula.specs.Form.{prefixWidth};
+ghost use Rattle.formula.specs.Words.{nodeCount, nodeAt, tableOf};
 ghost use Rattle.refusals.specs.Verdict.{refusal as refusalOf, accepted};
 ghost use Rattle.acceptance.specs.Limits.{limit};
 ghost use Rattle.acceptance.specs.Verdict.{verdict};
 ghost use Rattle.prenex_form.specs.Sizes.{sizes as sizesOf};
-ghost use Rattle.prenex_form.specs.Promise.{PrenexOf};
 ghost use Rattle.prenex_form.specs.Names.{highestNumber};
 ghost use Rattle.prenex_form.specs.Levels.{levels};
 ghost use Rattle.prenex_form.specs.Matrix.{writtenNodes};
@@ -128,8 +126,8 @@ fn sizes_of(words: &[u32], list: &[u32], counts: Counts) -> Sizes
 // Lifts a table's quantifiers: writes the nodes, the prefix and the variables of its prenex form to
 // the starts of three buffers.
 //
-// The contract rules out a lift that answers done and writes nothing, and one of a table that is
-// refused.
+// The contract rules out a lift that answers done and writes nothing, and one that writes to a buffer
+// whose room is not tested.
 pub fn lift(
     words: &[u32],
     list: &[u32],
