@@ -1,4 +1,4 @@
--- The verdict accepts a table exactly where `Accepted` holds of it, and how large its number and position can be.
+-- The verdict accepts a table exactly where `Accepted` holds of it.
 -- Assumes nothing.
 use mathlib.Core.Path.{_≡_, refl, sym, _∙_, ap}
 use mathlib.Core.Bool.{Bool, true, false, not, _&&_, _||_, true≢false, or-false}
@@ -7,12 +7,10 @@ use Prim.Native.Nat.{ℕ, zero, suc, _+_, _-_, _*_, _%_, _<_, _≤_}
 use native.Mathlib.Omega.{arith}
 use lib.Dec.{eqb, leb, ltb}
 use lib.ListN.{length, length-take, length-drop}
-use borrow.Author.Tests.{eqb-true, eqb-false, eq-eqb, ne-eqb, ltb-true, ltb-false, le-ltb, leb-true, leb-false, lt-leb, not-true, not-false}
+use borrow.Author.Tests.{eqb-true, eqb-false, eq-eqb, ne-eqb, ltb-false, le-ltb, leb-true, leb-false, lt-leb, not-true, not-false}
 use Rattle.lists.specs.Choice.{pick, pick-yes, pick-no, Is, is-true, is-false, look, clash, and-left, and-right, and-both, or-neither-left, or-neither-right, or-neither}
-use Rattle.lists.specs.Search.{lowest}
 use Rattle.lists.specs.Members.{mem, all, distinct}
 use Rattle.lists.specs.Parts.{sum}
-use Rattle.lists.proofs.Search.{lowest-holds, lowest-before}
 use Rattle.lists.proofs.Members.{all-mem, all-intro}
 use Rattle.lists.proofs.Parts.{sum-cong, sum-grows}
 use Rattle.formula.specs.Node.{operands, bound}
@@ -22,7 +20,7 @@ use Rattle.formula.specs.Tree.{timesNamed, count, boundBelow}
 use Rattle.formula.proofs.Nodes.{Kind, kind-of, kind-constant, kind-variable, kind-negation, kind-operator, kind-exists, kind-for-all, kind-none}
 use Rattle.refusals.specs.Verdict.{refusal, accepted}
 use Rattle.refusals.specs.declared.Verdict.{Verdict}
-use Rattle.acceptance.specs.Limits.{TableLimits, limit, tableLimits}
+use Rattle.acceptance.specs.Limits.{TableLimits, tableLimits}
 use Rattle.acceptance.specs.Verdict.{isNumberTo, partialNode, tooLarge, wellFormed, forwardReference, rangePastEnd, countAt, tooManyVariables, badVariable, nodeFault, notNamedOnce, verdictWithin, verdict}
 use Rattle.acceptance.specs.Order.{Whole, FirstThatApplies, partial, large, fault, not-tree, none}
 use Rattle.acceptance.specs.Accepted.{AcceptedWithin, Accepted}
@@ -102,11 +100,6 @@ unfolding pick
 pick-zero true k r h = absurd (omega arith)
 pick-zero false k r h = (refl, h)
 
-pick-le : (t : Bool) (k r m : ℕ) → k ≤ m → r ≤ m → pick t k r ≤ m
-unfolding pick
-pick-le true k r m h g = h
-pick-le false k r m h g = g
-
 module _ (lim : TableLimits) (ws ls : List ℕ) (i : ℕ) where
   no-fault : nodeFault lim ws ls i ≡ 0 → Clear lim ws ls i
   unfolding nodeFault
@@ -122,15 +115,6 @@ module _ (lim : TableLimits) (ws ls : List ℕ) (i : ℕ) where
   unfolding nodeFault
   clear-fault c = pick-no _ _ _ (ap not (c .formed)) ∙ pick-no _ _ _ (c .lower) ∙ pick-no _ _ _ (c .fits) ∙ pick-no _ _ _ (c .few) ∙ pick-no _ _ _ (c .good)
 
-  fault-le : nodeFault lim ws ls i ≤ 7
-  unfolding nodeFault
-  fault-le =
-      pick-le _ 3 _ 7 (omega arith)
-      (pick-le _ 4 _ 7 (omega arith)
-      (pick-le _ 5 _ 7 (omega arith)
-      (pick-le _ 6 _ 7 (omega arith)
-      (pick-le _ 7 _ 7 (omega arith) (omega arith)))))
-
 -- What a verdict says, by the first refusal that applies.
 
 module _ (lim : TableLimits) (ws ls : List ℕ) where
@@ -141,22 +125,6 @@ module _ (lim : TableLimits) (ws ls : List ℕ) where
   list-short : tooLarge lim ws ls ≡ false → length ls ≤ lim .entries
   unfolding tooLarge
   list-short l = ltb-false _ _ (or-neither-right (ltb (lim .nodes) (nodeCount ws)) (ltb (lim .entries) (length ls)) l)
-
-  position-le : (v : Verdict) → FirstThatApplies lim ws ls v → v .position ≤ lim .nodes
-  unfolding refusal accepted
-  position-le _ (partial p) = omega arith
-  position-le _ (large p l) = omega arith
-  position-le _ (fault w i h f before) = omega (arith, few-nodes (w .small))
-  position-le _ (not-tree w clear j h o before) = omega (arith, few-nodes (w .small))
-  position-le _ (none w clear once) = omega arith
-
-  number-le : (v : Verdict) → FirstThatApplies lim ws ls v → v .number ≤ 8
-  unfolding refusal accepted
-  number-le _ (partial p) = omega arith
-  number-le _ (large p l) = omega arith
-  number-le _ (fault w i h f before) = omega (arith, fault-le lim ws ls i)
-  number-le _ (not-tree w clear j h o before) = omega arith
-  number-le _ (none w clear once) = omega arith
 
 -- no refusal applies
 record Fine (lim : TableLimits) (ws ls : List ℕ) : Type 0 where
@@ -340,12 +308,6 @@ module _ (ws ls : List ℕ) where
 
   pub number-zero : verdict ws ls .number ≡ 0 → verdict ws ls ≡ accepted
   number-zero z = zero-fine tableLimits ws ls _ (verdict-order tableLimits ws ls) z .1
-
-  pub verdict-number : verdict ws ls .number ≤ 8
-  verdict-number = number-le tableLimits ws ls _ (verdict-order tableLimits ws ls)
-
-  pub verdict-position : verdict ws ls .position ≤ limit
-  verdict-position = position-le tableLimits ws ls _ (verdict-order tableLimits ws ls)
 
 -- The words of a well-formed node, by its kind.
 

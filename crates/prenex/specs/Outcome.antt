@@ -6,6 +6,7 @@ use mathlib.Core.Path.{_≡_}
 use Prim.Native.Nat.{ℕ, _*_}
 use lib.Dec.{ltb}
 use lib.ListN.{length, take}
+use denote.Ref.{RefT, now}
 use Rattle.lists.specs.Parts.{overwrite}
 use Rattle.formula.specs.Node.{Table}
 use Rattle.formula.specs.Words.{width, tableOf}
@@ -18,6 +19,10 @@ use Rattle.prenex_form.specs.Prefix.{writtenPrefix, writtenVariables}
 use Rattle.prenex_form.specs.Sizes.{sizes}
 use Rattle.prenex_form.specs.Promise.{PrenexOf, SizesOf}
 use Rattle.prenex.specs.declared.Answer.{Answer}
+
+-- The table in two lent slices, its words and its list.
+abbrev pub tableIn : RefT (List ℕ) → RefT (List ℕ) → Table
+tableIn words list = tableOf (now words) (now list)
 
 -- "On refusal all sizes .. are 0."
 unfoldable pub noSizes : Sizes

@@ -20,6 +20,7 @@ ghost use Rattle.first_nodes.specs.Given.{Given, Counted};
 ghost use Rattle.prenex.specs.Arrays.{Room, Written};
 ghost use Rattle.refusals.specs.Outcome.{refused as refusedOf, done as doneOf};
 ghost use Rattle.prenex.specs.Outcome.{
+  tableIn,
   noSizes,
   answerOf,
   measured,
@@ -52,7 +53,7 @@ pub fn measure(words: &[u32], list: &[u32]) -> Answer
     ensures answer { λ r.
         ⌜ answerOf r ≡ measured (now (words .entry)) (now (list .entry)) ⌝ }
     ensures sizes { λ r.
-        ⌜ SizesWritten (tableOf (now (words .entry)) (now (list .entry))) (answerOf r) ⌝ }
+        ⌜ SizesWritten (tableIn (words .entry) (list .entry)) (answerOf r) ⌝ }
 {
     let verdict = table_check::check(words, list);
     if verdict.number != ACCEPTED {
@@ -140,9 +141,9 @@ pub fn lift(
         ≡ lifted (now (words .entry)) (now (list .entry))
         (buffers (now (nodes .entry)) (now (prefix .entry)) (now (variables .entry))) ⌝ }
     ensures sizes { λ r.
-        ⌜ SizesWritten (tableOf (now (words .entry)) (now (list .entry))) (answerOf r) ⌝ }
+        ⌜ SizesWritten (tableIn (words .entry) (list .entry)) (answerOf r) ⌝ }
     ensures form { λ r.
-        ⌜ FormWritten (tableOf (now (words .entry)) (now (list .entry)))
+        ⌜ FormWritten (tableIn (words .entry) (list .entry))
         (after r (buffers (now (nodes .exit)) (now (prefix .exit)) (now (variables .exit)))) ⌝ }
 {
     let fault = table_check::check(words, list);

@@ -62,7 +62,7 @@ pub fn read_from<'a>(r: Reader<'a>, words: &mut [u32], list: &mut [u32]) -> Answ
 // The contract rules out a reader that judges variables before gates (12 before 13), and one that
 // writes the words before the list's room is known.
 pub fn read(text: &[u8], words: &mut [u32], list: &mut [u32]) -> Answer
-    ensures { λ s. ⌜ Reads (now (text .entry)) 0
+    ensures reads { λ s. ⌜ Reads (now (text .entry)) 0
         (now (words .entry)) (now (list .entry)) (now (words .exit)) (now (list .exit)) s ⌝ }
 {
     read_from(begin(text), words, list)

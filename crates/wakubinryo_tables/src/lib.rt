@@ -1,9 +1,8 @@
 // The C interface of formula tables: measuring, lifting and listing free variables under C names.
 // include/wakubinryo.h says each promise in words.
 ghost use mathlib.Core.Path.{_≡_};
-ghost use Rattle.formula.specs.Words.{tableOf};
 ghost use Rattle.free_variables.specs.Outcome.{listed};
-ghost use Rattle.prenex.specs.Outcome.{answerOf, measured, buffers, lifted, SizesWritten, FormWritten};
+ghost use Rattle.prenex.specs.Outcome.{tableIn, answerOf, measured, buffers, lifted, SizesWritten, FormWritten};
 ghost use Rattle.wakubinryo_tables.specs.Words.{
   sizesAnswer,
   countAnswer,
@@ -22,7 +21,7 @@ pub extern "C" fn wakubinryo_measure(words: &[u32], list: &[u32], answer: &mut [
     ensures answer { λ _.
         ⌜ sizesAnswer (now (answer .exit)) ≡ measured (now (words .entry)) (now (list .entry)) ⌝ }
     ensures sizes { λ _.
-        ⌜ SizesWritten (tableOf (now (words .entry)) (now (list .entry))) (sizesAnswer (now (answer .exit))) ⌝ }
+        ⌜ SizesWritten (tableIn (words .entry) (list .entry)) (sizesAnswer (now (answer .exit))) ⌝ }
 {
     put_answer(answer, prenex::measure(words, list));
 }
@@ -45,9 +44,9 @@ pub extern "C" fn wakubinryo_lift(
         ≡ lifted (now (words .entry)) (now (list .entry))
         (buffers (now (nodes .entry)) (now (prefix .entry)) (now (variables .entry))) ⌝ }
     ensures sizes { λ _.
-        ⌜ SizesWritten (tableOf (now (words .entry)) (now (list .entry))) (sizesAnswer (now (answer .exit))) ⌝ }
+        ⌜ SizesWritten (tableIn (words .entry) (list .entry)) (sizesAnswer (now (answer .exit))) ⌝ }
     ensures form { λ _.
-        ⌜ FormWritten (tableOf (now (words .entry)) (now (list .entry)))
+        ⌜ FormWritten (tableIn (words .entry) (list .entry))
         (liftOutcome (now (answer .exit)) (buffers (now (nodes .exit)) (now (prefix .exit)) (now (variables .exit)))) ⌝ }
 {
     put_answer(answer, prenex::lift(words, list, nodes, prefix, variables));
