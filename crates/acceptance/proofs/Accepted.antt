@@ -18,10 +18,10 @@ use Rattle.formula.specs.Words.{width, nodeCount, field, isBlockKind, range, wo
 use Rattle.formula.specs.declared.NodeWords.{NodeWords}
 use Rattle.formula.specs.Tree.{timesNamed, count, boundBelow}
 use Rattle.formula.proofs.Nodes.{Kind, kind-of, kind-constant, kind-variable, kind-negation, kind-operator, kind-exists, kind-for-all, kind-none}
-use Rattle.refusals.specs.Verdict.{refusal, accepted}
+use Rattle.refusals.specs.Verdict.{refusal, notATree, accepted}
 use Rattle.refusals.specs.declared.Verdict.{Verdict}
 use Rattle.acceptance.specs.Limits.{TableLimits, tableLimits}
-use Rattle.acceptance.specs.Verdict.{isNumberTo, partialNode, tooLarge, wellFormed, forwardReference, rangePastEnd, countAt, tooManyVariables, badVariable, nodeFault, notNamedOnce, verdictWithin, verdict}
+use Rattle.acceptance.specs.Verdict.{isNumberTo, partialNode, tooLarge, wellFormed, forwardReference, rangePastEnd, countAt, tooManyVariables, badVariable, nodeFault, notNamedOnce, treeRefusal, verdictWithin, verdict}
 use Rattle.acceptance.specs.Order.{Whole, FirstThatApplies, partial, large, fault, not-tree, none}
 use Rattle.acceptance.specs.Accepted.{AcceptedWithin, Accepted}
 use Rattle.acceptance.proofs.Order.{verdict-order}
@@ -135,7 +135,7 @@ record Fine (lim : TableLimits) (ws ls : List ℕ) : Type 0 where
 module _ (lim : TableLimits) (ws ls : List ℕ) where
   -- the number 0 is an accepted table's alone
   zero-fine : (v : Verdict) → FirstThatApplies lim ws ls v → v .number ≡ 0 → Fine lim ws ls × (v ≡ accepted)
-  unfolding refusal
+  unfolding refusal treeRefusal notATree
   zero-fine _ (partial p) z = absurd (omega arith)
   zero-fine _ (large p l) z = absurd (omega arith)
   zero-fine _ (fault w i h f before) z = absurd (f z)

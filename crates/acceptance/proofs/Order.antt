@@ -1,6 +1,6 @@
 -- The verdict is the first refusal that applies.
 -- Assumes nothing.
-use mathlib.Core.Path.{_≡_, sym, _∙_, subst}
+use mathlib.Core.Path.{_≡_, refl, sym, _∙_, subst}
 use mathlib.Core.Bool.{Bool, true, false, not}
 use mathlib.Core.List.{List}
 use Prim.Native.Nat.{ℕ, suc, _-_, _<_, _≤_}
@@ -11,11 +11,11 @@ use Rattle.lists.specs.Choice.{pick, pick-yes, pick-no, Is, is-true, is-false, 
 use Rattle.lists.specs.Search.{lowest}
 use Rattle.lists.proofs.Search.{lowest-holds, lowest-before}
 use Rattle.formula.specs.Words.{nodeCount}
-use Rattle.refusals.specs.Verdict.{refusal, accepted}
+use Rattle.refusals.specs.Verdict.{noUsers, refusal, notATree, accepted}
 use Rattle.refusals.specs.declared.Verdict.{Verdict}
 use Rattle.acceptance.specs.Limits.{TableLimits}
-use Rattle.acceptance.specs.Verdict.{partialNode, tooLarge, nodeFault, notNamedOnce, verdictWithin}
-use Rattle.acceptance.specs.Order.{Whole, FirstThatApplies, partial, large, fault, not-tree, none}
+use Rattle.acceptance.specs.Verdict.{partialNode, tooLarge, nodeFault, notNamedOnce, treeRefusal, verdictWithin}
+use Rattle.acceptance.specs.Order.{Whole, FirstThatApplies, partial, large, fault, not-tree, none, UsersOfEight}
 
 module _ (lim : TableLimits) (ws ls : List ℕ) where
   -- whether a node has one of the faults 3 to 7
@@ -75,3 +75,15 @@ module _ (lim : TableLimits) (ws ls : List ℕ) where
 
   pub verdict-order : FirstThatApplies lim ws ls (verdictWithin lim ws ls)
   verdict-order = by-length (look (partialNode ws))
+
+-- The users that a verdict carries, by its case.
+users-by : (lim : TableLimits) (ws ls : List ℕ) (v : Verdict) → FirstThatApplies lim ws ls v → (v .number ≡ 8 → ⊥) → v .users ≡ noUsers
+unfolding refusal accepted treeRefusal notATree
+users-by lim ws ls _ (partial p) n = refl
+users-by lim ws ls _ (large p l) n = refl
+users-by lim ws ls _ (fault w i h f b) n = refl
+users-by lim ws ls _ (not-tree w a j h f b) n = absurd (n refl)
+users-by lim ws ls _ (none w a b) n = refl
+
+pub users-of-eight : UsersOfEight
+users-of-eight lim ws ls = users-by lim ws ls (verdictWithin lim ws ls) (verdict-order lim ws ls)

@@ -1,15 +1,16 @@
 -- The order of the refusals by its property: what holds of a verdict is that its refusal applies, at the lowest node, and that none
--- before it does. That `verdictWithin` is this verdict is the law `verdict-order` (proofs/Order.antt).
+-- before it does. That `verdictWithin` is this verdict is the law `verdict-order`; it and `users-of-eight` are proved in
+-- proofs/Order.antt.
 -- Assumes nothing.
 use mathlib.Core.Bool.{true, false}
 use mathlib.Core.List.{List}
 use mathlib.Core.Path.{_≡_}
 use Prim.Native.Nat.{ℕ, suc, _<_}
 use Rattle.formula.specs.Words.{nodeCount}
-use Rattle.refusals.specs.Verdict.{refusal, accepted}
+use Rattle.refusals.specs.Verdict.{noUsers, refusal, accepted}
 use Rattle.refusals.specs.declared.Verdict.{Verdict}
 use Rattle.acceptance.specs.Limits.{TableLimits}
-use Rattle.acceptance.specs.Verdict.{partialNode, tooLarge, nodeFault, notNamedOnce}
+use Rattle.acceptance.specs.Verdict.{partialNode, tooLarge, nodeFault, notNamedOnce, treeRefusal, verdictWithin}
 
 -- Neither refusal 1 nor 2 applies.
 pub record Whole (lim : TableLimits) (ws ls : List ℕ) : Type 0 where
@@ -24,6 +25,11 @@ pub data FirstThatApplies (lim : TableLimits) (ws ls : List ℕ) : Verdict → T
       → FirstThatApplies lim ws ls (refusal (nodeFault lim ws ls i) i)
   not-tree : Whole lim ws ls → ((i : ℕ) → i < nodeCount ws → nodeFault lim ws ls i ≡ 0)
       → (j : ℕ) → suc j < nodeCount ws → notNamedOnce ws ls j ≡ true → ((k : ℕ) → k < j → notNamedOnce ws ls k ≡ false)
-      → FirstThatApplies lim ws ls (refusal 8 j)
+      → FirstThatApplies lim ws ls (treeRefusal ws ls j)
   none : Whole lim ws ls → ((i : ℕ) → i < nodeCount ws → nodeFault lim ws ls i ≡ 0)
       → ((k : ℕ) → suc k < nodeCount ws → notNamedOnce ws ls k ≡ false) → FirstThatApplies lim ws ls accepted
+
+-- "All operations that pass on a refusal hand these two on, 0 for every other number" than 8 (users-of-eight).
+abbrev pub UsersOfEight : Type 0
+UsersOfEight =
+    (lim : TableLimits) (ws ls : List ℕ) → (verdictWithin lim ws ls .number ≡ 8 → ⊥) → verdictWithin lim ws ls .users ≡ noUsers

@@ -10,9 +10,9 @@ use Rattle.lists.specs.Search.{lowest}
 use Rattle.lists.specs.Members.{all, distinct}
 use Rattle.lists.specs.Parts.{sum}
 use Rattle.formula.specs.Words.{width, nodeCount, isBlockKind, range, wordsAt, tableOf}
-use Rattle.formula.specs.Tree.{timesNamed}
+use Rattle.formula.specs.Tree.{users, timesNamed}
 use Rattle.formula.specs.declared.NodeWords.{NodeWords}
-use Rattle.refusals.specs.Verdict.{refusal, accepted}
+use Rattle.refusals.specs.Verdict.{firstTwo, refusal, notATree, accepted}
 use Rattle.refusals.specs.declared.Verdict.{Verdict}
 use Rattle.acceptance.specs.Limits.{TableLimits, tableLimits}
 
@@ -82,6 +82,10 @@ nodeFault lim ws ls i =
 unfoldable pub notNamedOnce : List ℕ → List ℕ → ℕ → Bool
 notNamedOnce ws ls i = not (eqb (timesNamed (tableOf ws ls) i) 1)
 
+-- "The tree test now also gives the two lowest nodes that name it, 0 and 0 if none does; a parent naming it twice stands twice."
+unfoldable pub treeRefusal : List ℕ → List ℕ → ℕ → Verdict
+treeRefusal ws ls i = notATree i (firstTwo (users (tableOf ws ls) i))
+
 -- "Order: 1, 2; then nodes upward, each tested for 3 to 7 in that order; then 8. .. The first that applies is the answer, and no
 -- other condition is ever a refusal."
 unfoldable pub verdictWithin : TableLimits → List ℕ → List ℕ → Verdict
@@ -92,7 +96,7 @@ verdictWithin lim ws ls =
     pick (partialNode ws) (refusal 1 0)
     (pick (tooLarge lim ws ls) (refusal 2 0)
     (pick (ltb i n) (refusal (nodeFault lim ws ls i) i)
-    (pick (ltb j (n - 1)) (refusal 8 j)
+    (pick (ltb j (n - 1)) (treeRefusal ws ls j)
     accepted)))
 
 -- The verdict on a formula table, and which of its numbers are variables.

@@ -6,3 +6,4 @@ pub mod Quantify
 pub mod Ranges
 pub mod Reading
 pub mod Unfolding
+pub mod Users

@@ -1,14 +1,20 @@
 -- The shape of a table: which node names which (document 01, "The formula table").
 -- Assumes nothing.
 use mathlib.Core.Bool.{true}
+use mathlib.Core.List.{List}
 use mathlib.Core.Path.{_≡_}
 use Prim.Native.Nat.{ℕ, suc, _<_}
-use lib.ListN.{length}
+use lib.ListN.{length, replicate}
 use Rattle.lists.specs.Members.{mem, times, distinct}
-use Rattle.lists.specs.Parts.{sum}
+use Rattle.lists.specs.Parts.{upTo, sum}
 use Rattle.formula.specs.Node.{Table, operands, bound}
 
--- How often the nodes of a table name node i.
+-- The users of node i: the nodes that name it, ascending, each standing once for each time that it names node i ("a parent naming it
+-- twice stands twice").
+unfoldable pub users : Table → ℕ → List ℕ
+users t i = upTo (λ j. replicate (times i (operands (t .node j))) j) (t .size)
+
+-- How often the nodes of a table name node i: the length of that list (specs/Laws.antt: UsersCounted).
 unfoldable pub timesNamed : Table → ℕ → ℕ
 timesNamed t i = sum (λ j. times i (operands (t .node j))) (t .size)
 

@@ -1,7 +1,11 @@
 // The numbers of the refusals, the verdict that carries one, and what a call answers and leaves
 // (specs/).
 ghost use mathlib.Core.Path.{_≡_};
-ghost use Rattle.refusals.specs.Verdict.{refusal as refusalOf, accepted as acceptedOf};
+ghost use Rattle.refusals.specs.Verdict.{
+  refusal as refusalOf,
+  notATree,
+  accepted as acceptedOf,
+};
 
 // The number of what is not refused (document 01: done).
 pub const ACCEPTED: u32 = 0;
@@ -35,23 +39,49 @@ pub const UNBOUND_VARIABLE: u32 = 12;
 
 pub const GATE_NOT_USED_ONCE: u32 = 13;
 
-// The number of a refusal (0: accepted) and its position.
+// The two lowest nodes that name a node; a node that names it twice stands twice. 0 and 0 where there
+// is nothing to say.
+pub struct Users {
+    pub first: u32,
+    pub second: u32,
+}
+
+// The number of a refusal (0: accepted), its position, and the users of the node that refusal 8 speaks
+// of.
 pub struct Verdict {
     pub number: u32,
     pub position: u32,
+    pub users: Users,
 }
 
+// A refusal that speaks of no users: any but 8.
 pub fn refusal(number: u32, position: u32) -> Verdict
     ensures { λ r. ⌜ r ≡ refusalOf number position ⌝ }
 {
-    Verdict { number, position }
+    let users = Users {
+        first: 0,
+        second: 0,
+    };
+    Verdict {
+        number,
+        position,
+        users,
+    }
+}
+
+// Refusal 8, of a node with these users.
+pub fn not_a_tree(position: u32, users: Users) -> Verdict
+    ensures { λ r. ⌜ r ≡ notATree position users ⌝ }
+{
+    Verdict {
+        number: NOT_A_TREE,
+        position,
+        users,
+    }
 }
 
 pub fn accepted() -> Verdict
     ensures { λ r. ⌜ r ≡ acceptedOf ⌝ }
 {
-    Verdict {
-        number: ACCEPTED,
-        position: 0,
-    }
+    refusal(ACCEPTED, 0)
 }

@@ -21,10 +21,11 @@ use Rattle.formula.specs.Words.{nodeCount, field, isBlockKind, wordsAt, nodeOf,
 use Rattle.formula.specs.declared.NodeWords.{NodeWords}
 use Rattle.formula.specs.Tree.{timesNamed}
 use Rattle.formula.proofs.Nodes.{Kind, kind-of, kind-constant, kind-variable, kind-negation, kind-operator, kind-exists, kind-for-all, kind-none}
-use Rattle.refusals.specs.Verdict.{refusal, accepted}
+use Rattle.refusals.specs.Verdict.{firstTwo, notATree, accepted}
+use Rattle.refusals.specs.declared.Verdict.{Verdict}
 use Rattle.acceptance.specs.Limits.{limit}
 use Rattle.acceptance.specs.Verdict.{notNamedOnce}
-use Rattle.tree_check.specs.Named.{namedBy, namedBelow, Counted, Room, treeVerdict}
+use Rattle.tree_check.specs.Named.{namedBy, namedBelow, Counted, Room, usersBelow, treeVerdict}
 
 times-none : (x : ℕ) → times x [] ≡ 0
 unfolding times
@@ -51,7 +52,7 @@ module _ (w : NodeWords) where
   operands-by-kind ls (kind-none e1 e2 e3 e4 e5 e6) = rw (e1, e2, e3, e4, e5, e6)
 
   -- its operands and body, by the words alone
-  operands-are : (ls : List ℕ) → operands (nodeOf ls w) ≡ namedBy w
+  pub operands-are : (ls : List ℕ) → operands (nodeOf ls w) ≡ namedBy w
   operands-are ls = operands-by-kind ls (kind-of (w .kind))
 
   pub names-none : isBlockKind (w .kind) ≡ false → eqb (w .kind) 3 ≡ false → eqb (w .kind) 4 ≡ false → namedBy w ≡ []
@@ -148,11 +149,15 @@ module _ (ws named : List ℕ) (counted : Counted ws named (nodeCount ws)) (j : 
   place : lowest (λ k. not (eqb (namedBelow ws k (nodeCount ws)) 1)) (nodeCount ws - 1) ≡ j
   place = sym (found ∙ lowest-cong _ _ (nodeCount ws - 1) (λ k h. ap (λ v. not (eqb v 1)) (counted .counts k)))
 
-  verdict-at : treeVerdict ws ≡ pick (ltb j (nodeCount ws - 1)) (refusal 8 j) accepted
-  unfolding treeVerdict
-  verdict-at = ap (λ k. pick (ltb k (nodeCount ws - 1)) (refusal 8 k) accepted) place
+  -- refusal 8 at a node
+  abbrev refused : ℕ → Verdict
+  refused k = notATree k (firstTwo (usersBelow ws k (nodeCount ws)))
 
-  pub tree-refused : j < nodeCount ws - 1 → treeVerdict ws ≡ refusal 8 j
+  verdict-at : treeVerdict ws ≡ pick (ltb j (nodeCount ws - 1)) (refused j) accepted
+  unfolding treeVerdict
+  verdict-at = ap (λ k. pick (ltb k (nodeCount ws - 1)) (refused k) accepted) place
+
+  pub tree-refused : j < nodeCount ws - 1 → treeVerdict ws ≡ refused j
   tree-refused h = verdict-at ∙ pick-yes _ _ _ (lt-ltb _ _ h)
 
   pub tree-passed : nodeCount ws - 1 ≤ j → treeVerdict ws ≡ accepted

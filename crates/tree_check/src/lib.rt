@@ -1,16 +1,19 @@
-// The test that a table is a tree: how often each node is named, and refusal 8.
+// The test that a table is a tree: how often each node is named, refusal 8, and the users of its node.
 ghost use mathlib.Core.Bool.{true, not};
-ghost use mathlib.Core.List.{[], _∷_};
+ghost use mathlib.Core.List.{List, [], _∷_, _++_};
 ghost use mathlib.Core.Path.{_≡_};
 ghost use Prim.Native.Nat.{ℕ, _+_, _<_, _≤_};
 ghost use lib.Dec.{eqb};
-ghost use lib.ListN.{length, getD};
+ghost use lib.ListN.{length, getD, replicate};
+ghost use Rattle.lists.specs.Choice.{pick};
 ghost use Rattle.lists.specs.Search.{lowest};
 ghost use Rattle.lists.specs.Members.{times};
 ghost use Rattle.formula.specs.Words.{nodeCount};
+ghost use Rattle.refusals.specs.Verdict.{firstTwo};
 ghost use Rattle.acceptance.specs.Limits.{limit};
-ghost use Rattle.tree_check.specs.Named.{Counted, treeVerdict};
-use refusals::NOT_A_TREE;
+ghost use Rattle.tree_check.specs.Named.{namedBy, Counted, usersBelow, firstUsers, treeVerdict};
+use formula::NodeWords;
+use refusals::Users;
 use refusals::Verdict;
 
 // Refusal 8, of a table whose nodes are named as often as `named` says.
@@ -22,7 +25,8 @@ pub fn check_tree(words: &[u32], named: &[u16]) -> Verdict
     let last = words.len() / formula::WIDTH - 1;
     let j = lowest_not_once(named, last);
     if j < last {
-        return refusals::refusal(NOT_A_TREE, j as u32);
+        let x = j as u32;
+        return refusals::not_a_tree(x, lowest_users(words, x));
     }
     refusals::accepted()
 }
@@ -66,4 +70,71 @@ fn all_once(named: &[u16], last: usize) -> bool
         j += 1;
     }
     once
+}
+
+// The first two users of a node, as far as there are so many.
+enum FirstUsers {
+    Nobody,
+    One(u32),
+    Two(u32, u32),
+}
+
+// The two lowest nodes that name node x. No node is looked at after the second.
+fn lowest_users(words: &[u32], x: u32) -> Users
+    requires { ⌜ nodeCount (now words) ≤ limit ⌝ }
+    ensures { λ r. ⌜ r ≡ firstTwo (usersBelow (now (words .entry)) x (nodeCount (now (words .entry)))) ⌝ }
+{
+    let n = words.len() / formula::WIDTH;
+    let mut found = FirstUsers::Nobody;
+    let mut i = 0;
+    while i < n {
+        found = with_node(found, formula::node_at(words, i), x, i as u32);
+        if let FirstUsers::Two(first, second) = found {
+            return Users { first, second };
+        }
+        i += 1;
+    }
+    as_two(found)
+}
+
+// 0 for each user that there is not.
+fn as_two(found: FirstUsers) -> Users
+    ensures { λ r. ⌜ ((us : List ℕ) → found ≡ firstUsers us → r ≡ firstTwo us) ⌝ }
+{
+    match found {
+        FirstUsers::Nobody => Users {
+            first: 0,
+            second: 0,
+        },
+        FirstUsers::One(first) => Users { first, second: 0 },
+        FirstUsers::Two(first, second) => Users { first, second },
+    }
+}
+
+// Node i is a user of node x as often as it names it.
+fn with_node(found: FirstUsers, node: NodeWords, x: u32, i: u32) -> FirstUsers
+    ensures { λ r. ⌜ ((us : List ℕ) → found ≡ firstUsers us
+        → r ≡ firstUsers (us ++ replicate (times x (namedBy node)) i)) ⌝ }
+{
+    let operator = node.kind == formula::OPERATOR;
+    let block = formula::is_block_kind(node.kind);
+    let negation = node.kind == formula::NEGATION;
+    let left = operator & (x == node.b);
+    let right = (operator | block) & (x == node.c);
+    let operand = negation & (x == node.a);
+    with_user(with_user(found, left, i), right | operand, i)
+}
+
+// One user more, if node i is one.
+fn with_user(found: FirstUsers, names: bool, i: u32) -> FirstUsers
+    ensures { λ r. ⌜ ((us : List ℕ) → found ≡ firstUsers us → r ≡ firstUsers (us ++ replicate (pick names 1 0) i)) ⌝ }
+{
+    if !names {
+        return found;
+    }
+    match found {
+        FirstUsers::Nobody => FirstUsers::One(i),
+        FirstUsers::One(first) => FirstUsers::Two(first, i),
+        FirstUsers::Two(first, second) => FirstUsers::Two(first, second),
+    }
 }
