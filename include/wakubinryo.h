@@ -35,10 +35,14 @@
  *
  * ANSWERS AND REFUSALS
  *
- * answer[0] is the number: 0 if done, else the first of these that applies.
- * answer[1] is the position: the node, byte or name that the tables here give,
- * else 0.
- * The other words are sizes, all 0 on refusal.
+ * An answer is a run of words, each named by its index in the enums below. It
+ * begins with the number (WAKUBINRYO_NUMBER): 0 if done, else the first of
+ * these that applies; and the position (WAKUBINRYO_POSITION): the node, byte or
+ * name that the tables here give, else 0. An answer about a table goes on with
+ * two users (WAKUBINRYO_FIRST_USER, WAKUBINRYO_SECOND_USER): with number 8 the
+ * two lowest nodes that name the node at the position, a node that names it
+ * twice standing twice; 0 and 0 if no node names it, and with every other
+ * number. The other words are sizes, all 0 on refusal.
  *
  *   number  given when                                                position
  *   1       there are no words, or not a multiple of four             0
@@ -112,39 +116,71 @@
 extern "C" {
 #endif
 
+/*
+ * The version of this interface, raised whenever a caller compiled for the one
+ * before would go wrong. Since version 2 the answers about tables have two
+ * words more, for the users: a caller that lends the shorter ones is overrun.
+ */
+#define WAKUBINRYO_VERSION 2
+
 /* The words of a node, and of a prefix block. */
 enum {
     WAKUBINRYO_NODE_WORDS = 4,
     WAKUBINRYO_PREFIX_WORDS = 3
 };
 
+/* Where the words of every answer stand; the users, of answers about tables. */
+enum {
+    WAKUBINRYO_NUMBER = 0,
+    WAKUBINRYO_POSITION = 1,
+    WAKUBINRYO_FIRST_USER = 2,
+    WAKUBINRYO_SECOND_USER = 3
+};
+
+/* The answer of measuring and lifting: the sizes, and how many words there are. */
+enum {
+    WAKUBINRYO_N = 4,          /* nodes of the table */
+    WAKUBINRYO_B = 5,          /* its blocks */
+    WAKUBINRYO_Q = 6,          /* the sum of their counts */
+    WAKUBINRYO_DEPTH = 7,      /* the quantifier depth, d */
+    WAKUBINRYO_NODES = 8,      /* nodes of the prenex form */
+    WAKUBINRYO_BLOCKS = 9,     /* its prefix blocks */
+    WAKUBINRYO_VARIABLES = 10, /* its prefix variables */
+    WAKUBINRYO_SIZES_ANSWER = 11
+};
+
+/* The answer of listing free variables. */
+enum {
+    WAKUBINRYO_COUNT = 4, /* names written */
+    WAKUBINRYO_COUNT_ANSWER = 5
+};
+
+/* The answer of reading a QCIR text. */
+enum {
+    WAKUBINRYO_WORDS_READ = 2,   /* words of nodes written */
+    WAKUBINRYO_ENTRIES_READ = 3, /* list entries written */
+    WAKUBINRYO_READ_ANSWER = 4
+};
+
 /*
  * Measures a table.
  *
- * Numbers 0 to 8; measuring never gives 9. If done, the sizes are
- *
- *   answer[2]  n, nodes of the table
- *   answer[3]  b, its blocks
- *   answer[4]  q, the sum of their counts
- *   answer[5]  d, the quantifier depth
- *   answer[6]  nodes of the prenex form      (4 words each)
- *   answer[7]  prefix blocks of the form     (3 words each)
- *   answer[8]  prefix variables of the form  (1 word each)
- *
- * and the last three are exactly what wakubinryo_lift writes.
+ * Numbers 0 to 8; measuring never gives 9. If done, the sizes are n, b, q, d
+ * and the nodes, prefix blocks and prefix variables of the prenex form, and the
+ * last three are exactly what wakubinryo_lift writes.
  */
 void wakubinryo_measure(const uint32_t *words, size_t words_len,
                         const uint32_t *list, size_t list_len,
-                        uint32_t answer[9]);
+                        uint32_t answer[WAKUBINRYO_SIZES_ANSWER]);
 
 /*
  * Lifts a table: writes its prenex form.
  *
  * Numbers 0 to 9. If done, the sizes are those of wakubinryo_measure, and
  *
- *   nodes      holds the form's nodes,            4 * answer[6] words
- *   prefix     holds the form's prefix blocks,    3 * answer[7] words
- *   variables  holds the form's prefix variables, answer[8] words
+ *   nodes      holds the form's nodes,            4 words each
+ *   prefix     holds the form's prefix blocks,    3 words each
+ *   variables  holds the form's prefix variables, 1 word each
  *
  * It gives 9 exactly if the table is accepted and one of the three buffers is
  * shorter than that.
@@ -167,13 +203,13 @@ void wakubinryo_lift(const uint32_t *words, size_t words_len,
                      uint32_t *nodes, size_t nodes_len,
                      uint32_t *prefix, size_t prefix_len,
                      uint32_t *variables, size_t variables_len,
-                     uint32_t answer[9]);
+                     uint32_t answer[WAKUBINRYO_SIZES_ANSWER]);
 
 /*
  * Lists a table's free variables: the numbers that stand at a variable node
  * and in no block's range.
  *
- * Numbers 0 to 9. If done, answer[2] is how many they are, and names holds
+ * Numbers 0 to 9. If done, the count is how many they are, and names holds
  * them, ascending and once each. It gives 9 exactly if the table is accepted
  * and names is shorter than that. 2,048 words are always enough, because a
  * tree of 4,096 nodes has at most 2,048 leaves.
@@ -181,15 +217,15 @@ void wakubinryo_lift(const uint32_t *words, size_t words_len,
 void wakubinryo_free_variables(const uint32_t *words, size_t words_len,
                                const uint32_t *list, size_t list_len,
                                uint32_t *names, size_t names_len,
-                               uint32_t answer[3]);
+                               uint32_t answer[WAKUBINRYO_COUNT_ANSWER]);
 
 /*
  * Reads a QCIR text into a formula table.
  *
  * Numbers 0, 2, 6 and 9 to 13. If done,
  *
- *   words  holds the table's nodes, answer[2] words, 4 to a node
- *   list   holds its list,          answer[3] words
+ *   words  holds the table's nodes, 4 words each
+ *   list   holds its list,          1 word an entry
  *
  * in the order of the text: gate line by gate line, inputs from left to right,
  * each with its not node, an operator right after its second operand; then the
@@ -204,7 +240,7 @@ void wakubinryo_free_variables(const uint32_t *words, size_t words_len,
 void wakubinryo_read_qcir(const uint8_t *text, size_t text_len,
                           uint32_t *words, size_t words_len,
                           uint32_t *list, size_t list_len,
-                          uint32_t answer[4]);
+                          uint32_t answer[WAKUBINRYO_READ_ANSWER]);
 
 #ifdef __cplusplus
 }

@@ -1,5 +1,8 @@
 //! What the operations answer.
 
+use std::error::Error;
+use std::fmt::{self, Display, Formatter};
+
 /// Why a table, a file or a call is refused. The value is the refusal's number;
 /// the word in brackets is document 01's.
 #[derive(Clone, Copy, Debug, PartialEq, Eq, PartialOrd, Ord, Hash)]
@@ -61,12 +64,34 @@ impl Reason {
         self as u32
     }
 
-    /// The refusal for this reason at a position, 0 if it speaks of none.
-    pub fn at(self, position: usize) -> Refusal {
+    /// The refusal for this reason at a position, 0 if it speaks of none. It
+    /// names no users.
+    pub const fn at(self, position: usize) -> Refusal {
         Refusal {
             reason: self,
             position: position as u32,
+            users: None,
         }
+    }
+}
+
+impl Display for Reason {
+    fn fmt(&self, f: &mut Formatter<'_>) -> fmt::Result {
+        f.write_str(match self {
+            Reason::PartialNode => "no words, or a part of a node",
+            Reason::TooLarge => "too many nodes or list entries",
+            Reason::MalformedNode => "malformed node",
+            Reason::ForwardReference => "operand or body not below its node",
+            Reason::RangePastEnd => "range past the end of the list",
+            Reason::TooManyVariables => "too many bound variables",
+            Reason::BadVariable => "bad variable in a range",
+            Reason::NotATree => "not a tree",
+            Reason::BufferTooShort => "output buffer too short",
+            Reason::MalformedText => "spelling or length",
+            Reason::MisplacedName => "name misplaced",
+            Reason::UnboundVariable => "unbound variable",
+            Reason::GateNotUsedOnce => "gate not used exactly once",
+        })
     }
 }
 
@@ -76,7 +101,45 @@ impl Reason {
 pub struct Refusal {
     pub reason: Reason,
     pub position: u32,
+    /// The two lowest nodes that name a node not named exactly once (8); one
+    /// that names it twice stands twice. None if no node names it, and for
+    /// every other reason.
+    pub users: Option<[u32; 2]>,
 }
+
+impl Refusal {
+    /// The same refusal with these users.
+    pub const fn used_by(self, users: Option<[u32; 2]>) -> Refusal {
+        Refusal { users, ..self }
+    }
+
+    /// The verdict that an answer over a table begins with: number, position,
+    /// first user, second user.
+    fn words(self) -> [u32; 4] {
+        // A user is above the node that it names, so no user is node 0.
+        let [first, second] = self.users.unwrap_or_default();
+        [self.reason.number(), self.position, first, second]
+    }
+}
+
+impl Display for Refusal {
+    fn fmt(&self, f: &mut Formatter<'_>) -> fmt::Result {
+        let number = self.reason.number();
+        write!(f, "refused: {number} at {} ({}", self.position, self.reason)?;
+        match (self.reason, self.users) {
+            (Reason::NotATree, None) => f.write_str(": named by no node)"),
+            (Reason::NotATree, Some([first, second])) if first == second => {
+                write!(f, ": named twice by node {first})")
+            }
+            (Reason::NotATree, Some([first, second])) => {
+                write!(f, ": named by nodes {first} and {second})")
+            }
+            _ => f.write_str(")"),
+        }
+    }
+}
+
+impl Error for Refusal {}
 
 /// Sizes of an accepted table and of its prenex form.
 #[derive(Clone, Copy, Debug, Default, PartialEq, Eq)]
@@ -121,24 +184,38 @@ pub struct Written {
     pub entries: u32,
 }
 
-/// Answers as the C interface gives them.
-pub fn size_words(answer: Result<Sizes, Refusal>) -> [u32; 9] {
+/// Answers of measuring and lifting as the C interface gives them.
+pub type SizesAnswer = [u32; 11];
+
+/// Answers of listing free variables as the C interface gives them.
+pub type CountAnswer = [u32; 5];
+
+/// Answers of reading a file as the C interface gives them.
+pub type WrittenAnswer = [u32; 4];
+
+pub fn size_words(answer: Result<Sizes, Refusal>) -> SizesAnswer {
     match answer {
-        Ok(s) => [0, 0, s.n, s.b, s.q, s.depth, s.nodes, s.blocks, s.entries],
-        Err(r) => [r.reason.number(), r.position, 0, 0, 0, 0, 0, 0, 0],
+        Ok(s) => [
+            0, 0, 0, 0, s.n, s.b, s.q, s.depth, s.nodes, s.blocks, s.entries,
+        ],
+        Err(r) => {
+            let [number, position, first, second] = r.words();
+            [number, position, first, second, 0, 0, 0, 0, 0, 0, 0]
+        }
     }
 }
 
-/// Answers of the free-variables call as the C interface gives them.
-pub fn count_words(answer: Result<u32, Refusal>) -> [u32; 3] {
+pub fn count_words(answer: Result<u32, Refusal>) -> CountAnswer {
     match answer {
-        Ok(written) => [0, 0, written],
-        Err(r) => [r.reason.number(), r.position, 0],
+        Ok(written) => [0, 0, 0, 0, written],
+        Err(r) => {
+            let [number, position, first, second] = r.words();
+            [number, position, first, second, 0]
+        }
     }
 }
 
-/// Answers of the reading call as the C interface gives them.
-pub fn written_words(answer: Result<Written, Refusal>) -> [u32; 4] {
+pub fn written_words(answer: Result<Written, Refusal>) -> WrittenAnswer {
     match answer {
         Ok(Written { words, entries }) => [0, 0, words, entries],
         Err(r) => [r.reason.number(), r.position, 0, 0],

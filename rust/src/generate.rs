@@ -374,10 +374,33 @@ pub fn mutated(rng: &mut Rng, profile: &Profile) -> Table {
     table
 }
 
+/// An accepted table with some operands and bodies replaced by other lower
+/// nodes, most of them by the same few: nodes are shared, and others are left
+/// alone.
+pub fn shared(rng: &mut Rng, profile: &Profile) -> Table {
+    let mut table = accepted(rng, profile);
+    let popular = rng.below(table.len());
+    for _ in 0..rng.between(1, 1 + table.len() / 4) {
+        if let Some((i, field)) = any_reference(rng, &table) {
+            let lower = if popular < i && !rng.one_in(4) {
+                popular
+            } else {
+                rng.below(i)
+            };
+            table.node_mut(i)[field] = lower as u32;
+            if table.node(i)[0] == 4 && rng.one_in(3) {
+                table.node_mut(i)[2..].fill(lower as u32);
+            }
+        }
+    }
+    table
+}
+
 /// A table with the fault named, and the refusal it must get. None if the
 /// random table at hand had no place for that fault.
 pub fn damaged(rng: &mut Rng, profile: &Profile, reason: Reason) -> Option<(Table, Refusal)> {
     let mut table = accepted(rng, profile);
+    let mut users = None;
     let position = match reason {
         Reason::PartialNode => {
             let rest = rng.between(1, 3);
@@ -498,6 +521,11 @@ pub fn damaged(rng: &mut Rng, profile: &Profile, reason: Reason) -> Option<(Tabl
                 if now == before {
                     return None;
                 }
+                if now < before {
+                    // Its parent and node i, be they one or two.
+                    let (i, parent) = (i as u32, parent(&table, now as u32));
+                    users = Some([parent.min(i), parent.max(i)]);
+                }
                 table.node_mut(i)[field] = now as u32;
                 before.min(now)
             }
@@ -509,7 +537,18 @@ pub fn damaged(rng: &mut Rng, profile: &Profile, reason: Reason) -> Option<(Tabl
         | Reason::UnboundVariable
         | Reason::GateNotUsedOnce => return None,
     };
-    Some((table, reason.at(position)))
+    Some((table, reason.at(position).used_by(users)))
+}
+
+/// The node of an accepted table that names node x, which is not the last.
+fn parent(table: &Table, x: u32) -> u32 {
+    let names = |&i: &usize| match table.node(i) {
+        [3, operand, ..] => operand == x,
+        [4, _, left, right] => left == x || right == x,
+        [5 | 6, _, _, body] => body == x,
+        _ => false,
+    };
+    (0..table.len()).find(names).expect("each node has a parent") as u32
 }
 
 /// A node that names another, and the field that does. None if there is none.

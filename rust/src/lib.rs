@@ -16,7 +16,7 @@ pub mod qcir;
 pub mod reference;
 pub mod timing;
 
-pub use answer::{Reason, Refusal, Sizes, Written};
+pub use answer::{CountAnswer, Reason, Refusal, Sizes, SizesAnswer, Written, WrittenAnswer};
 pub use reference::{Node, WIDTH};
 
 mod ffi {
@@ -64,9 +64,9 @@ mod ffi {
 
 /// The calls as they are, with their answers as words.
 pub mod raw {
-    use super::ffi;
+    use super::{ffi, CountAnswer, SizesAnswer, WrittenAnswer};
 
-    pub fn measure(words: &[u32], list: &[u32], answer: &mut [u32; 9]) {
+    pub fn measure(words: &[u32], list: &[u32], answer: &mut SizesAnswer) {
         // SAFETY: the call reads the two slices and writes the answer, no more.
         unsafe {
             ffi::wakubinryo_measure(
@@ -85,7 +85,7 @@ pub mod raw {
         nodes: &mut [u32],
         prefix: &mut [u32],
         variables: &mut [u32],
-        answer: &mut [u32; 9],
+        answer: &mut SizesAnswer,
     ) {
         // SAFETY: the call reads and writes the slices lent, no more, and
         // exclusive borrows don't overlap.
@@ -106,7 +106,7 @@ pub mod raw {
         }
     }
 
-    pub fn free_variables(words: &[u32], list: &[u32], names: &mut [u32], answer: &mut [u32; 3]) {
+    pub fn free_variables(words: &[u32], list: &[u32], names: &mut [u32], answer: &mut CountAnswer) {
         // SAFETY: as above.
         unsafe {
             ffi::wakubinryo_free_variables(
@@ -121,7 +121,7 @@ pub mod raw {
         }
     }
 
-    pub fn read_qcir(text: &[u8], words: &mut [u32], list: &mut [u32], answer: &mut [u32; 4]) {
+    pub fn read_qcir(text: &[u8], words: &mut [u32], list: &mut [u32], answer: &mut WrittenAnswer) {
         // SAFETY: as above.
         unsafe {
             ffi::wakubinryo_read_qcir(
@@ -137,21 +137,26 @@ pub mod raw {
     }
 }
 
-fn refusal(number: u32, position: u32) -> Refusal {
+fn refusal(number: u32, position: u32, users: [u32; 2]) -> Refusal {
     let reason = Reason::from_number(number).expect("the library answers 0 to 13");
-    Refusal { reason, position }
+    let users = (users != [0, 0]).then_some(users);
+    Refusal {
+        reason,
+        position,
+        users,
+    }
 }
 
-fn sizes(answer: [u32; 9]) -> Result<Sizes, Refusal> {
+fn sizes(answer: SizesAnswer) -> Result<Sizes, Refusal> {
     match answer {
-        [0, _, sizes @ ..] => Ok(Sizes::from_words(sizes)),
-        [number, position, ..] => Err(refusal(number, position)),
+        [0, _, _, _, sizes @ ..] => Ok(Sizes::from_words(sizes)),
+        [number, position, first, second, ..] => Err(refusal(number, position, [first, second])),
     }
 }
 
 /// The sizes of a table and of its prenex form.
 pub fn measure(words: &[u32], list: &[u32]) -> Result<Sizes, Refusal> {
-    let mut answer = [0; 9];
+    let mut answer = SizesAnswer::default();
     raw::measure(words, list, &mut answer);
     sizes(answer)
 }
@@ -165,7 +170,7 @@ pub fn lift(
     prefix: &mut [u32],
     variables: &mut [u32],
 ) -> Result<Sizes, Refusal> {
-    let mut answer = [0; 9];
+    let mut answer = SizesAnswer::default();
     raw::lift(words, list, nodes, prefix, variables, &mut answer);
     sizes(answer)
 }
@@ -173,11 +178,11 @@ pub fn lift(
 /// Writes the numbers that stand at a variable node and in no block's range,
 /// ascending, and says how many they are.
 pub fn free_variables(words: &[u32], list: &[u32], names: &mut [u32]) -> Result<u32, Refusal> {
-    let mut answer = [0; 3];
+    let mut answer = CountAnswer::default();
     raw::free_variables(words, list, names, &mut answer);
     match answer {
-        [0, _, written] => Ok(written),
-        [number, position, _] => Err(refusal(number, position)),
+        [0, _, _, _, written] => Ok(written),
+        [number, position, first, second, _] => Err(refusal(number, position, [first, second])),
     }
 }
 
@@ -227,11 +232,11 @@ pub fn read_qcir_into(
     words: &mut [u32],
     list: &mut [u32],
 ) -> Result<Written, Refusal> {
-    let mut answer = [0; 4];
+    let mut answer = WrittenAnswer::default();
     raw::read_qcir(text, words, list, &mut answer);
     match answer {
         [0, _, words, entries] => Ok(Written { words, entries }),
-        [number, position, ..] => Err(refusal(number, position)),
+        [number, position, ..] => Err(refusal(number, position, [0, 0])),
     }
 }
 

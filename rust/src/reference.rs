@@ -144,7 +144,7 @@ fn check<'a>(words: &'a [u32], list: &[u32]) -> Result<Summary<'a>, Refusal> {
     }
     let last = table.len() - 1;
     if let Some(i) = uses[..last].iter().position(|&u| u != 1) {
-        return Err(Reason::NotATree.at(i));
+        return Err(Reason::NotATree.at(i).used_by(two_users(table, i as u32)));
     }
 
     let [kind, _, count, _] = table[last];
@@ -174,6 +174,26 @@ fn check<'a>(words: &'a [u32], list: &[u32]) -> Result<Summary<'a>, Refusal> {
         highest,
         root_count,
     })
+}
+
+/// The nodes that a node names.
+fn operands(node: &Node) -> &[u32] {
+    match node[0] {
+        NOT => &node[1..2],
+        OPERATOR => &node[2..4],
+        EXISTS | FOR_ALL => &node[3..4],
+        _ => &[],
+    }
+}
+
+/// The two lowest nodes that name node x, one that names it twice standing
+/// twice.
+fn two_users(table: &[Node], x: u32) -> Option<[u32; 2]> {
+    let mut users = (0..).zip(table).flat_map(|(i, node)| {
+        let names = operands(node).iter().filter(move |&&operand| operand == x);
+        names.map(move |_| i)
+    });
+    Some([users.next()?, users.next()?])
 }
 
 /// The number of nodes that define an inner block and join it to the matrix

@@ -2,7 +2,7 @@
 
 mod common;
 
-use common::{assert_lift, assert_operations, assert_refused, library_measure};
+use common::{assert_lift, assert_operations, assert_refused, assert_used_by, library_measure};
 use common::{reference_form, reference_free_variables, Prefill};
 use common::{LIBRARY_LIFT, NOTHING, TOO_SHORT};
 use wakubinryo::brute::{self, Valuation};
@@ -164,7 +164,8 @@ fn room_of_59_words_and_of_60() {
         assert_room(59, prefill, Err(TOO_SHORT), &NOTHING);
         assert_room(60, prefill, done, &expected);
     }
-    assert_eq!(library_measure(&table), [0, 0, 6, 1, 1, 1, 15, 2, 3]);
+    let measured = [0, 0, 0, 0, 6, 1, 1, 1, 15, 2, 3];
+    assert_eq!(library_measure(&table), measured);
 }
 
 #[test]
@@ -200,7 +201,7 @@ fn one_number_bound_twice() {
 #[test]
 fn a_node_named_twice() {
     let table = Table::new(&[[2, 1, 0, 0], [4, 9, 0, 0]], &[]);
-    assert_refused(&table, Reason::NotATree, 0);
+    assert_used_by(&table, 0, [1, 1]);
 }
 
 #[test]

@@ -2,7 +2,7 @@
 
 mod common;
 
-use common::{assert_refused, assert_same, Prefill};
+use common::{assert_refused, assert_same, assert_used_by, Prefill};
 use wakubinryo::generate::Table;
 use wakubinryo::Reason::*;
 use wakubinryo::{Node, WIDTH};
@@ -156,7 +156,7 @@ fn nodes_before_the_tree() {
     assert_refused(&Table::new(&[LEAF, LEAF, [3, 1, 0, 0]], &list), NotATree, 0);
     assert_refused(&Table::new(&[LEAF, LEAF, [3, 0, 0, 0]], &list), NotATree, 1);
     assert_refused(&Table::new(&[LEAF, LEAF, [4, 8, 1, 1]], &list), NotATree, 0);
-    assert_refused(&Table::new(&[LEAF, LEAF, [4, 8, 0, 0]], &list), NotATree, 0);
+    assert_used_by(&Table::new(&[LEAF, LEAF, [4, 8, 0, 0]], &list), 0, [2, 2]);
 }
 
 /// A node named very often is not taken for one named once.
@@ -167,13 +167,13 @@ fn many_uses_of_one_node() {
         for _ in 0..users {
             table.push([3, 0, 0, 0]);
         }
-        assert_refused(&table, NotATree, 0);
+        assert_used_by(&table, 0, [1, 2]);
     }
     for users in [128, 129, 2048, 4095] {
         let mut table = Table::new(&[LEAF], &[]);
         for _ in 0..users {
             table.push([4, 8, 0, 0]);
         }
-        assert_refused(&table, NotATree, 0);
+        assert_used_by(&table, 0, [1, 1]);
     }
 }

@@ -1,8 +1,10 @@
-//! The cases of vectors/base.txt, for the reference and for the library.
+//! The cases of vectors/base.txt and vectors/users.txt, for the reference and
+//! for the library.
 
 mod common;
 
-use common::{assert_operations, reference_form, reference_free_variables, Case, Prefill};
+use common::{assert_operations, assert_same, library_measure, Case, Prefill};
+use common::{reference_form, reference_free_variables};
 use wakubinryo::answer::size_words;
 use wakubinryo::brute;
 use wakubinryo::generate::Table;
@@ -56,8 +58,10 @@ impl Vector {
     }
 }
 
-fn vectors() -> Vec<Vector> {
-    let text = include_str!("../vectors/base.txt");
+const BASE: &str = include_str!("../vectors/base.txt");
+const USERS: &str = include_str!("../vectors/users.txt");
+
+fn vectors(text: &str) -> Vec<Vector> {
     let mut vectors: Vec<Vector> = Vec::new();
     for line in text.lines() {
         if line.is_empty() || line.starts_with('#') {
@@ -79,13 +83,14 @@ fn vectors() -> Vec<Vector> {
                 .push((key, numbers));
         }
     }
-    assert_eq!(vectors.len(), 260);
     vectors
 }
 
-/// Runs `one` for each vector and its table.
-fn each_vector(mut one: impl FnMut(&Vector, &Table)) {
-    for vector in vectors() {
+/// Runs `one` for each of so many vectors and its table.
+fn each_vector(text: &str, cases: usize, mut one: impl FnMut(&Vector, &Table)) {
+    let vectors = vectors(text);
+    assert_eq!(vectors.len(), cases);
+    for vector in vectors {
         let _case = Case("vectors", vector.case);
         one(&vector, &vector.table());
     }
@@ -93,9 +98,12 @@ fn each_vector(mut one: impl FnMut(&Vector, &Table)) {
 
 #[test]
 fn reference_and_library_give_every_vector() {
-    each_vector(|vector, table| {
+    each_vector(BASE, 260, |vector, table| {
         let (sizes, form) = reference_form(table);
-        assert_eq!(size_words(sizes), vector.get("measure"));
+        // These vectors' answers have no users.
+        let [number, position, _, _, rest @ ..] = size_words(sizes);
+        assert_eq!(vector.get("measure")[..2], [number, position]);
+        assert_eq!(vector.get("measure")[2..], rest);
         assert_eq!(form, vector.form());
         let (written, names) = reference_free_variables(table);
         assert_eq!(written.is_ok(), vector.accepted());
@@ -107,7 +115,7 @@ fn reference_and_library_give_every_vector() {
 #[test]
 fn tables_and_forms_have_the_truth_given() {
     let mut checked = 0;
-    each_vector(|vector, table| {
+    each_vector(BASE, 260, |vector, table| {
         let Some(over) = vector.find("over") else {
             return;
         };
@@ -131,4 +139,13 @@ fn tables_and_forms_have_the_truth_given() {
         }
     });
     assert!(checked > 300, "only {checked} values of forms compared");
+}
+
+#[test]
+fn reference_and_library_name_the_users_given() {
+    each_vector(USERS, 160, |vector, table| {
+        let given = assert_same(table, &Prefill::ALL, 5);
+        assert_eq!(size_words(given)[..4], *vector.get("check"));
+        assert_eq!(library_measure(table)[..4], *vector.get("check"));
+    });
 }

@@ -46,12 +46,12 @@ filled n = replicate n 7
 abbrev pub ample : ℕ
 ample = 16
 
--- An answer as words: number, position, and the sizes in document 01's order.
+-- An answer as words: number, position, two users (request S-2), and the sizes in document 01's order.
 unfoldable pub answerWords : AnswerWith Sizes → List ℕ
 answerWords a =
     let v = a .verdict in
     let s = a .sizes in
-    v .number ∷ v .position ∷ s .n ∷ s .b ∷ s .q ∷ s .depth ∷ s .nodes ∷ s .blocks ∷ s .entries ∷ []
+    v .number ∷ v .position ∷ v .users .first ∷ v .users .second ∷ s .n ∷ s .b ∷ s .q ∷ s .depth ∷ s .nodes ∷ s .blocks ∷ s .entries ∷ []
 
 -- what a lift leaves: the answer's words and the three buffers
 unfoldable pub left : Outcome Sizes FormBuffers → List (List ℕ)
@@ -76,14 +76,14 @@ truths r = map (λ (h : Truth). truth (tableOf (r .words) (r .list)) (holding (h
 unfoldable pub shouldBe : Row → List Bool
 shouldBe r = map (λ (h : Truth). h .is) (r .truths)
 
--- a refused row: every buffer stays as it is, and all sizes are 0
-unfoldable pub refusedRow : List ℕ → List ℕ → ℕ → ℕ → ℕ → Row
-refusedRow words list room number position =
+-- a refused row, by number, position and two users: every buffer stays as it is, and all sizes are 0
+unfoldable pub refusedRow : List ℕ → List ℕ → ℕ → List ℕ → Row
+refusedRow words list room verdict =
     record {
       words = words;
       list = list;
       room = room;
-      answer = number ∷ position ∷ 0 ∷ 0 ∷ 0 ∷ 0 ∷ 0 ∷ 0 ∷ 0 ∷ [];
+      answer = verdict ++ (0 ∷ 0 ∷ 0 ∷ 0 ∷ 0 ∷ 0 ∷ 0 ∷ []);
       nodes = [];
       prefix = [];
       variables = [];
@@ -96,7 +96,7 @@ doneRow words list room sizes nodes prefix variables truths =
       words = words;
       list = list;
       room = room;
-      answer = 0 ∷ 0 ∷ sizes;
+      answer = 0 ∷ 0 ∷ 0 ∷ 0 ∷ sizes;
       nodes = nodes;
       prefix = prefix;
       variables = variables;
@@ -122,8 +122,8 @@ belowXorRow room =
 unfoldable pub examples : List Row
 examples =
     -- "No words: 1. Five words: 1."
-    refusedRow [] [] 8 1 0
-    ∷ refusedRow (1 ∷ 1 ∷ 0 ∷ 0 ∷ 1 ∷ []) [] 8 1 0
+    refusedRow [] [] 8 (1 ∷ 0 ∷ 0 ∷ 0 ∷ [])
+    ∷ refusedRow (1 ∷ 1 ∷ 0 ∷ 0 ∷ 1 ∷ []) [] 8 (1 ∷ 0 ∷ 0 ∷ 0 ∷ [])
     -- "`1 1`: written alike, no blocks."
     ∷ doneRow (nodesOf ((1 ∷ 1 ∷ []) ∷ [])) [] 8 (1 ∷ 0 ∷ 0 ∷ 0 ∷ 1 ∷ 0 ∷ 0 ∷ []) (nodesOf ((1 ∷ 1 ∷ []) ∷ [])) [] []
     (record { trueVariables = []; is = true } ∷ [])
@@ -135,7 +135,7 @@ examples =
     (6 ∷ 0 ∷ 0 ∷ 5 ∷ 0 ∷ 1 ∷ []) (1 ∷ []) []
     -- fifteen nodes, with ample room; "with ample prefix and list buffers and 59 words of room for nodes: 9. With 60: done."
     ∷ belowXorRow 64
-    ∷ refusedRow belowXor (2 ∷ []) 59 9 0
+    ∷ refusedRow belowXor (2 ∷ []) 59 (9 ∷ 0 ∷ 0 ∷ 0 ∷ [])
     ∷ belowXorRow 60
     -- "`2 1`, `2 1`, `6 0 1 1`, `4 8 0 2`, `5 0 1 3`, list 1: thirteen nodes `2 3`, `2 2`, `2 5`, `4 8 0 2`, `2 5`, `4 9 4 1`, `2 2`, `2 4`,
     -- `4 9 6 7`, `2 5`, `4 11 9 8`, `4 8 5 10`, `4 11 11 3`; prefix `5 0 2`, `6 2 2`; list 3, 4, 2, 5. False."
@@ -146,14 +146,14 @@ examples =
     ∷ (4 ∷ 9 ∷ 6 ∷ 7 ∷ []) ∷ (2 ∷ 5 ∷ []) ∷ (4 ∷ 11 ∷ 9 ∷ 8 ∷ []) ∷ (4 ∷ 8 ∷ 5 ∷ 10 ∷ []) ∷ (4 ∷ 11 ∷ 11 ∷ 3 ∷ []) ∷ []))
     (5 ∷ 0 ∷ 2 ∷ 6 ∷ 2 ∷ 2 ∷ []) (3 ∷ 4 ∷ 2 ∷ 5 ∷ [])
     (record { trueVariables = []; is = false } ∷ [])
-    -- "`2 1`, `4 9 0 0`: 8 at 0."
-    ∷ refusedRow (nodesOf ((2 ∷ 1 ∷ []) ∷ (4 ∷ 9 ∷ 0 ∷ 0 ∷ []) ∷ [])) [] 8 8 0
+    -- "`2 1`, `4 9 0 0`: 8 at 0", and node 1 names node 0 twice
+    ∷ refusedRow (nodesOf ((2 ∷ 1 ∷ []) ∷ (4 ∷ 9 ∷ 0 ∷ 0 ∷ []) ∷ [])) [] 8 (8 ∷ 0 ∷ 1 ∷ 1 ∷ [])
     -- "`2 0`, `3 1`: 3 at 0, though node 1 names itself."
-    ∷ refusedRow (nodesOf ((2 ∷ 0 ∷ []) ∷ (3 ∷ 1 ∷ []) ∷ [])) [] 8 3 0
+    ∷ refusedRow (nodesOf ((2 ∷ 0 ∷ []) ∷ (3 ∷ 1 ∷ []) ∷ [])) [] 8 (3 ∷ 0 ∷ 0 ∷ 0 ∷ [])
     -- "`2 1`, `5 1 1 0`, list of one: 5 at 1. With `5 1 0 0`: done."
-    ∷ refusedRow (nodesOf ((2 ∷ 1 ∷ []) ∷ (5 ∷ 1 ∷ 1 ∷ 0 ∷ []) ∷ [])) (1 ∷ []) 8 5 1
+    ∷ refusedRow (nodesOf ((2 ∷ 1 ∷ []) ∷ (5 ∷ 1 ∷ 1 ∷ 0 ∷ []) ∷ [])) (1 ∷ []) 8 (5 ∷ 1 ∷ 0 ∷ 0 ∷ [])
     ∷ doneRow (nodesOf ((2 ∷ 1 ∷ []) ∷ (5 ∷ 1 ∷ 0 ∷ 0 ∷ []) ∷ [])) (1 ∷ []) 8 (2 ∷ 1 ∷ 0 ∷ 1 ∷ 1 ∷ 1 ∷ 0 ∷ []) (nodesOf ((2 ∷ 1 ∷ []) ∷ []))
     (5 ∷ 0 ∷ 0 ∷ []) [] []
     -- "`2 1`, `5 0 2 0`, list 2, 2: 7 at 1."
-    ∷ refusedRow (nodesOf ((2 ∷ 1 ∷ []) ∷ (5 ∷ 0 ∷ 2 ∷ 0 ∷ []) ∷ [])) (2 ∷ 2 ∷ []) 8 7 1
+    ∷ refusedRow (nodesOf ((2 ∷ 1 ∷ []) ∷ (5 ∷ 0 ∷ 2 ∷ 0 ∷ []) ∷ [])) (2 ∷ 2 ∷ []) 8 (7 ∷ 1 ∷ 0 ∷ 0 ∷ [])
     ∷ []

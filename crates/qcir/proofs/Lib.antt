@@ -8,3 +8,4 @@ pub mod Drafts
 pub mod StoredGates
 pub mod StoredCounts
 pub mod Theorem
+pub mod Answers

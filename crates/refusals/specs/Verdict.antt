@@ -1,6 +1,7 @@
 -- Verdicts: the number of a refusal, its position (document 01, "When the lifter says no") and two users (request S-2).
 -- Assumes nothing.
 use mathlib.Core.List.{List}
+use mathlib.Core.Path.{_≡_}
 use Prim.Native.Nat.{ℕ}
 use lib.ListN.{getD}
 use Rattle.refusals.specs.declared.Users.{Users}
@@ -25,3 +26,7 @@ notATree position users = record { number = 8; position = position; users = user
 -- "the number (0 is done), the place (0 if done)"
 unfoldable pub accepted : Verdict
 accepted = record { number = 0; position = 0; users = noUsers }
+
+-- A verdict of a number and a position alone.
+abbrev pub Plain : Verdict → Type 0
+Plain v = v ≡ refusal (v .number) (v .position)

@@ -17,14 +17,15 @@ use Rattle.lists.proofs.Search.{lowest-holds, lowest-before, lowest-is, lowest-
 use Rattle.formula.specs.Words.{width, nodeCount, field, isBlockKind, wordsAt}
 use Rattle.formula.specs.declared.NodeWords.{NodeWords}
 use Rattle.formula.proofs.Nodes.{Kind, kind-of, kind-constant, kind-variable, kind-negation, kind-operator, kind-exists, kind-for-all, kind-none}
-use Rattle.refusals.specs.Verdict.{refusal, accepted}
+use Rattle.refusals.specs.Verdict.{firstTwo, refusal, notATree, accepted}
 use Rattle.refusals.specs.declared.Verdict.{Verdict}
 use Rattle.acceptance.specs.Limits.{limit, tableLimits}
-use Rattle.acceptance.specs.Verdict.{isNumber, partialNode, tooLarge, wellFormed, forwardReference, rangePastEnd, countAt, tooManyVariables, badVariable, nodeFault, verdictWithin, verdict}
+use Rattle.acceptance.specs.Verdict.{isNumber, partialNode, tooLarge, wellFormed, forwardReference, rangePastEnd, countAt, tooManyVariables, badVariable, nodeFault, treeRefusal, verdictWithin, verdict}
 use Rattle.acceptance.proofs.Accepted.{count-block, count-none}
 use Rattle.range_check.specs.Chains.{goodRange}
-use Rattle.tree_check.specs.Named.{treeVerdict}
+use Rattle.tree_check.specs.Named.{namedBelow, treeVerdict}
 use Rattle.tree_check.proofs.Named.{not-once-is}
+use Rattle.tree_check.proofs.Users.{users-are}
 use Rattle.table_check.specs.Steps.{wordsFault, blockFault, blockNodeFault, nodesVerdict}
 
 -- a node's fault within the limits of formula tables
@@ -266,14 +267,16 @@ module _ (ws ls : List ℕ) where
   verdict-nodes p l f = by-nodes p l f first-pass
 
   pub verdict-tree : partialNode ws ≡ false → tooLarge tableLimits ws ls ≡ false → nodesVerdict ws ls .number ≡ 0 → verdict ws ls ≡ treeVerdict ws
-  unfolding verdictWithin treeVerdict
+  unfolding verdictWithin treeVerdict treeRefusal
   verdict-tree p l z =
       let last : ℕ = nodeCount ws - 1 in
+      let j : ℕ = lowest (λ j. not (eqb (namedBelow ws j (nodeCount ws)) 1)) last in
       let e : at ≡ nodeCount ws = lowest-none faulty (nodeCount ws) (λ j h. not-faulty j (none-faulty z j h)) in
       pick-no _ _ _ p
       ∙ pick-no _ _ _ l
       ∙ pick-no _ _ _ (le-ltb at (nodeCount ws) (omega arith))
-      ∙ ap (λ (j : ℕ). pick (ltb j last) (refusal 8 j) accepted) (not-once-is ws ls last)
+      ∙ ap (λ (j : ℕ). pick (ltb j last) (treeRefusal ws ls j) accepted) (not-once-is ws ls last)
+      ∙ ap (λ (us : List ℕ). pick (ltb j last) (notATree j (firstTwo us)) accepted) (users-are ws ls j)
 
   pub few-nodes : tooLarge tableLimits ws ls ≡ false → nodeCount ws ≤ limit
   unfolding tooLarge

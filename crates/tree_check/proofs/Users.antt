@@ -36,12 +36,6 @@ two-first [] = refl
 two-first (a ∷ []) = refl
 two-first (a ∷ b ∷ us) = refl
 
--- How many there are of them.
-abbrev size : FirstUsers → ℕ
-size Nobody = 0
-size (One a) = 1
-size (Two a b) = 2
-
 -- The first users with one user more.
 abbrev pub more : ℕ → FirstUsers → FirstUsers
 more i Nobody = One i
@@ -53,6 +47,23 @@ unfolding firstUsers
 more-first [] i = refl
 more-first (a ∷ []) i = refl
 more-first (a ∷ b ∷ us) i = refl
+
+-- How many there are of them.
+abbrev size : FirstUsers → ℕ
+size Nobody = 0
+size (One a) = 1
+size (Two a b) = 2
+
+-- two users stay the first
+two-stay : (us vs : List ℕ) → 2 ≤ size (firstUsers us) → firstUsers us ≡ firstUsers (us ++ vs)
+unfolding firstUsers
+two-stay [] vs h = absurd (omega arith)
+two-stay (a ∷ []) vs h = absurd (omega arith)
+two-stay (a ∷ b ∷ us) vs h = refl
+
+pub two-known : (f : FirstUsers) (a b : ℕ) → f ≡ Two a b → (us vs : List ℕ) → f ≡ firstUsers us → f ≡ firstUsers (us ++ vs)
+two-known f a b e us vs h =
+    let s : size (firstUsers us) ≡ 2 = ap size (sym h ∙ e) in h ∙ two-stay us vs (omega arith)
 
 -- The first users of a list that node i is put to, if it is a user.
 module _ (us : List ℕ) (names : Bool) (i : ℕ) where
@@ -112,23 +123,22 @@ module _ (ws : List ℕ) (x : ℕ) where
       ∙ ap (λ (w : NodeWords). firstUsers (usersBelow ws x i ++ replicate (times x (namedBy w)) i)) e
       ∙ ap firstUsers (sym (users-more i))
 
-  -- two that were found are the first two
-  kept : (us vs : List ℕ) (a b : ℕ) → firstUsers us ≡ Two a b → firstUsers (us ++ vs) ≡ Two a b
-  unfolding firstUsers
-  kept [] vs a b e = absurd (omega (arith, ap size e))
-  kept (c ∷ []) vs a b e = absurd (omega (arith, ap size e))
-  kept (c ∷ d ∷ us) vs a b e = e
-
-  kept-above : (m k a b : ℕ) → firstUsers (usersBelow ws x m) ≡ Two a b → firstUsers (usersBelow ws x (k + m)) ≡ Two a b
+  -- those below a node come first among those below a higher one
+  below-split : (m k : ℕ) → (vs : List ℕ) × (usersBelow ws x (k + m) ≡ usersBelow ws x m ++ vs)
   unfolding usersBelow upTo
-  kept-above m zero a b e = rw (zero-add m) e
-  kept-above m (suc k) a b e = rw (suc-add k m) (kept (usersBelow ws x (k + m)) _ a b (kept-above m k a b e))
+  below-split m zero = ([], rw (zero-add m) (sym (append-nil (usersBelow ws x m))))
+  below-split m (suc k) =
+      let r = below-split m k in
+      let more = replicate (times x (namedBy (wordsAt ws (k + m)))) (k + m) in
+      (r .0 ++ more, rw (suc-add k m) (ap (λ (us : List ℕ). us ++ more) (r .1) ∙ append-assoc (usersBelow ws x m) (r .0) more))
 
-  pub two-found : (m n a b : ℕ) → m ≤ n → firstUsers (usersBelow ws x m) ≡ Two a b → record { first = a; second = b } ≡ firstTwo (usersBelow ws x n)
-  two-found m n a b l e =
+  -- what holds of users whatever comes after them holds at every higher node
+  pub users-stay : (f : FirstUsers) (m n : ℕ) → m ≤ n
+      → ((us vs : List ℕ) → f ≡ firstUsers us → f ≡ firstUsers (us ++ vs)) → f ≡ firstUsers (usersBelow ws x m) → f ≡ firstUsers (usersBelow ws x n)
+  users-stay f m n l stay h =
+      let r = below-split m (n - m) in
       let s : n - m + m ≡ n = omega arith in
-      let above : firstUsers (usersBelow ws x n) ≡ Two a b = subst (λ (k : ℕ). firstUsers (usersBelow ws x k) ≡ Two a b) s (kept-above m (n - m) a b e) in
-      ap two (sym above) ∙ two-first (usersBelow ws x n)
+      stay (usersBelow ws x m) (r .0) h ∙ ap firstUsers (sym (r .1) ∙ ap (usersBelow ws x) s)
 
 -- the table's users, by the words alone
 pub users-are : (ws ls : List ℕ) (x : ℕ) → users (tableOf ws ls) x ≡ usersBelow ws x (nodeCount ws)

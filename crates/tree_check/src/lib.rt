@@ -88,13 +88,24 @@ fn lowest_users(words: &[u32], x: u32) -> Users
     let mut found = FirstUsers::Nobody;
     let mut i = 0;
     while i < n {
-        found = with_node(found, formula::node_at(words, i), x, i as u32);
-        if let FirstUsers::Two(first, second) = found {
-            return Users { first, second };
+        if has_two(found) {
+            return as_two(found);
         }
+        found = with_node(found, formula::node_at(words, i), x, i as u32);
         i += 1;
     }
     as_two(found)
+}
+
+// Whether there are two: whatever users come after them, these stay the first.
+fn has_two(found: FirstUsers) -> bool
+    ensures { λ r. ⌜ (r ≡ true → (us vs : List ℕ) → found ≡ firstUsers us → found ≡ firstUsers (us ++ vs)) ⌝ }
+{
+    match found {
+        FirstUsers::Nobody => false,
+        FirstUsers::One(_) => false,
+        FirstUsers::Two(_, _) => true,
+    }
 }
 
 // 0 for each user that there is not.

@@ -12,6 +12,8 @@ use notation::read;
 use prefix_writer::PREFIX_WIDTH;
 use prenex::Answer;
 use refusals::ACCEPTED;
+use refusals::NOT_A_TREE;
+use refusals::Verdict;
 
 fn main() {
     show_lines(
@@ -83,13 +85,25 @@ fn show_answer(a: Answer) {
     let v = a.verdict;
     let s = a.sizes;
     if v.number != ACCEPTED {
-        output::print(b": refused, # at #\n", &[v.number, v.position]);
+        show_refusal(v);
         return;
     }
     output::print(
         b": n #, b #, q #, depth #; form of # nodes, # prefix blocks, # prefix variables\n",
         &[s.n, s.b, s.q, s.depth, s.nodes, s.blocks, s.entries],
     );
+}
+
+fn show_refusal(v: Verdict) {
+    let users = v.users;
+    if v.number == NOT_A_TREE {
+        output::print(
+            b": refused, # at #, named by # and #\n",
+            &[v.number, v.position, users.first, users.second],
+        );
+        return;
+    }
+    output::print(b": refused, # at #\n", &[v.number, v.position]);
 }
 
 // Variable 1 xor (exists 2: 2 and 1), whose form has 15 nodes, lifted with a word too little room for

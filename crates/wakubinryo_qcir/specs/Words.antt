@@ -3,6 +3,7 @@
 use mathlib.Core.List.{List}
 use Prim.Native.Nat.{ℕ}
 use lib.ListN.{getD}
+use Rattle.refusals.specs.Verdict.{refusal}
 use Rattle.refusals.specs.Outcome.{AnswerWith, Outcome}
 use Rattle.qcir.specs.Reading.{Written, Buffers}
 
@@ -10,7 +11,7 @@ use Rattle.qcir.specs.Reading.{Written, Buffers}
 unfoldable pub writtenAnswer : List ℕ → AnswerWith Written
 writtenAnswer a =
     record {
-      verdict = record { number = getD a 0 0; position = getD a 1 0 };
+      verdict = refusal (getD a 0 0) (getD a 1 0);
       sizes = record { words = getD a 2 0; entries = getD a 3 0 };
     }
 

@@ -1,6 +1,7 @@
 // The C interface of QCIR files: reading under its C name. include/wakubinryo.h says the promise in
 // words.
 ghost use mathlib.Core.Path.{_≡_};
+ghost use Rattle.refusals.specs.Verdict.{Plain};
 ghost use Rattle.qcir.specs.Reading.{limits, buffers, Reading, TableWritten};
 ghost use Rattle.qcir_reader.specs.Reads.{answerOf};
 ghost use Rattle.wakubinryo_qcir.specs.Words.{writtenAnswer, readOutcome};
@@ -28,6 +29,7 @@ pub extern "C" fn wakubinryo_read_qcir(
 }
 
 fn put_answer(answer: &mut [u32; 4], a: Answer)
+    requires { ⌜ Plain (a .verdict) ⌝ }
     ensures { λ _. ⌜ writtenAnswer (now (answer .exit)) ≡ answerOf a ⌝ }
 {
     let v = a.verdict;

@@ -8,21 +8,21 @@ use Rattle.refusals.specs.Outcome.{AnswerWith, Outcome}
 use Rattle.prenex_form.specs.declared.Sizes.{Sizes}
 use Rattle.prenex.specs.Outcome.{FormBuffers}
 
--- The verdict in an answer's first words: number, position.
+-- The verdict in an answer's first four words: number, position, first user, second user.
 unfoldable pub verdictIn : List ℕ → Verdict
-verdictIn a = record { number = getD a 0 0; position = getD a 1 0 }
+verdictIn a = record { number = getD a 0 0; position = getD a 1 0; users = record { first = getD a 2 0; second = getD a 3 0 } }
 
--- An answer of nine words: the verdict, and the sizes in document 01's order.
+-- An answer of eleven words: the verdict, and the sizes in document 01's order.
 unfoldable pub sizesAnswer : List ℕ → AnswerWith Sizes
 sizesAnswer a =
     record {
       verdict = verdictIn a;
-      sizes = record { n = getD a 2 0; b = getD a 3 0; q = getD a 4 0; depth = getD a 5 0; nodes = getD a 6 0; blocks = getD a 7 0; entries = getD a 8 0 };
+      sizes = record { n = getD a 4 0; b = getD a 5 0; q = getD a 6 0; depth = getD a 7 0; nodes = getD a 8 0; blocks = getD a 9 0; entries = getD a 10 0 };
     }
 
--- An answer of three words: the verdict, and how many names were written.
+-- An answer of five words: the verdict, and how many names were written.
 unfoldable pub countAnswer : List ℕ → AnswerWith ℕ
-countAnswer a = record { verdict = verdictIn a; sizes = getD a 2 0 }
+countAnswer a = record { verdict = verdictIn a; sizes = getD a 4 0 }
 
 -- The outcomes of the two calls that write.
 abbrev pub liftOutcome : List ℕ → FormBuffers → Outcome Sizes FormBuffers

@@ -12,12 +12,12 @@ ghost use Rattle.wakubinryo_tables.specs.Words.{
 use free_variables::Listed;
 use prenex::Answer;
 
-// Measures a table: number, position and the seven sizes.
+// Measures a table: number, position, two users and the seven sizes.
 //
 // The contract rules out an answer whose sizes stand in another order, and one that says done of a
 // refused table.
 #[no_mangle]
-pub extern "C" fn wakubinryo_measure(words: &[u32], list: &[u32], answer: &mut [u32; 9])
+pub extern "C" fn wakubinryo_measure(words: &[u32], list: &[u32], answer: &mut [u32; 11])
     ensures answer { λ _.
         ⌜ sizesAnswer (now (answer .exit)) ≡ measured (now (words .entry)) (now (list .entry)) ⌝ }
     ensures sizes { λ _.
@@ -26,7 +26,7 @@ pub extern "C" fn wakubinryo_measure(words: &[u32], list: &[u32], answer: &mut [
     put_answer(answer, prenex::measure(words, list));
 }
 
-// Lifts a table into three buffers: number, position and the seven sizes.
+// Lifts a table into three buffers: number, position, two users and the seven sizes.
 //
 // The contract rules out a lift with two buffers exchanged, and one that takes the table's words for
 // its list.
@@ -37,7 +37,7 @@ pub extern "C" fn wakubinryo_lift(
     nodes: &mut [u32],
     prefix: &mut [u32],
     variables: &mut [u32],
-    answer: &mut [u32; 9],
+    answer: &mut [u32; 11],
 )
     ensures outcome { λ _.
         ⌜ liftOutcome (now (answer .exit)) (buffers (now (nodes .exit)) (now (prefix .exit)) (now (variables .exit)))
@@ -52,7 +52,7 @@ pub extern "C" fn wakubinryo_lift(
     put_answer(answer, prenex::lift(words, list, nodes, prefix, variables));
 }
 
-// Lists a table's free variables: number, position and how many names were written.
+// Lists a table's free variables: number, position, two users and how many names were written.
 //
 // The contract rules out an answer with the position left out, and one about another table.
 #[no_mangle]
@@ -60,7 +60,7 @@ pub extern "C" fn wakubinryo_free_variables(
     words: &[u32],
     list: &[u32],
     names: &mut [u32],
-    answer: &mut [u32; 3],
+    answer: &mut [u32; 5],
 )
     ensures outcome { λ _.
         ⌜ listOutcome (now (answer .exit)) (now (names .exit))
@@ -69,14 +69,17 @@ pub extern "C" fn wakubinryo_free_variables(
     put_listed(answer, free_variables::free_variables(words, list, names));
 }
 
-fn put_answer(answer: &mut [u32; 9], a: Answer)
+fn put_answer(answer: &mut [u32; 11], a: Answer)
     ensures { λ _. ⌜ sizesAnswer (now (answer .exit)) ≡ answerOf a ⌝ }
 {
     let v = a.verdict;
+    let u = v.users;
     let s = a.sizes;
     *answer = [
         v.number,
         v.position,
+        u.first,
+        u.second,
         s.n,
         s.b,
         s.q,
@@ -87,9 +90,10 @@ fn put_answer(answer: &mut [u32; 9], a: Answer)
     ];
 }
 
-fn put_listed(answer: &mut [u32; 3], a: Listed)
+fn put_listed(answer: &mut [u32; 5], a: Listed)
     ensures { λ _. ⌜ countAnswer (now (answer .exit)) ≡ record { verdict = a .verdict; sizes = a .count } ⌝ }
 {
     let v = a.verdict;
-    *answer = [v.number, v.position, a.count];
+    let u = v.users;
+    *answer = [v.number, v.position, u.first, u.second, a.count];
 }

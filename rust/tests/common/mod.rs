@@ -7,6 +7,7 @@ use wakubinryo::generate::{Rng, Table};
 use wakubinryo::reference::{LIMIT, WIDTH};
 use wakubinryo::{free_variables, lift, measure, prenex_form, qcir, raw, reference};
 use wakubinryo::{read_qcir, read_qcir_into, PrenexForm, Reason, Refusal, Sizes, Written};
+use wakubinryo::{CountAnswer, SizesAnswer, WrittenAnswer};
 
 /// Words that buffers hold before a call.
 #[derive(Clone, Copy, Debug)]
@@ -86,17 +87,17 @@ impl Lent {
 /// What an answer holds before a call.
 const UNANSWERED: u32 = 0x5555_5555;
 
-pub fn library_measure(table: &Table) -> [u32; 9] {
-    let mut answer = [UNANSWERED; 9];
+pub fn library_measure(table: &Table) -> SizesAnswer {
+    let mut answer = SizesAnswer::default().map(|_| UNANSWERED);
     raw::measure(&table.words, &table.list, &mut answer);
     answer
 }
 
 /// A lift with its answer as words: the library's own, or the wrapper's.
-pub type Lift = fn(&Table, &mut [u32], &mut [u32], &mut [u32]) -> [u32; 9];
+pub type Lift = fn(&Table, &mut [u32], &mut [u32], &mut [u32]) -> SizesAnswer;
 
 pub const LIBRARY_LIFT: Lift = |table, nodes, prefix, variables| {
-    let mut answer = [UNANSWERED; 9];
+    let mut answer = SizesAnswer::default().map(|_| UNANSWERED);
     let Table { words, list } = table;
     raw::lift(words, list, nodes, prefix, variables, &mut answer);
     answer
@@ -107,10 +108,10 @@ const WRAPPED_LIFT: Lift = |table, nodes, prefix, variables| {
 };
 
 /// A call for the free variables with its answer as words.
-pub type FreeVariables = fn(&Table, &mut [u32]) -> [u32; 3];
+pub type FreeVariables = fn(&Table, &mut [u32]) -> CountAnswer;
 
 pub const LIBRARY_FREE_VARIABLES: FreeVariables = |table, names| {
-    let mut answer = [UNANSWERED; 3];
+    let mut answer = CountAnswer::default().map(|_| UNANSWERED);
     raw::free_variables(&table.words, &table.list, names, &mut answer);
     answer
 };
@@ -182,10 +183,7 @@ pub fn assert_free_variables(
 }
 
 /// What a call with a buffer that is too short answers, and what it writes.
-pub const TOO_SHORT: Refusal = Refusal {
-    reason: Reason::BufferTooShort,
-    position: 0,
-};
+pub const TOO_SHORT: Refusal = Reason::BufferTooShort.at(0);
 pub static NOTHING: PrenexForm = PrenexForm {
     nodes: Vec::new(),
     prefix: Vec::new(),
@@ -294,10 +292,20 @@ pub fn assert_same(table: &Table, prefills: &[Prefill], spare: usize) -> Result<
 }
 
 /// Holds library and reference to a refusal.
-pub fn assert_refused(table: &Table, reason: Reason, position: usize) {
+pub fn assert_refusal(table: &Table, refusal: Refusal) {
     let given = assert_same(table, &Prefill::ALL, 9);
     let start = table.words.get(..40);
-    assert_eq!(given, Err(reason.at(position)), "{start:?}");
+    assert_eq!(given, Err(refusal), "{start:?}");
+}
+
+/// Holds library and reference to a refusal that names no users.
+pub fn assert_refused(table: &Table, reason: Reason, position: usize) {
+    assert_refusal(table, reason.at(position));
+}
+
+/// Holds library and reference to refusal 8 at a node with these users.
+pub fn assert_used_by(table: &Table, position: usize, users: [u32; 2]) {
+    assert_refusal(table, Reason::NotATree.at(position).used_by(Some(users)));
 }
 
 /// Prints a name and a number if a test panics while it is there.
@@ -326,10 +334,10 @@ pub fn each(name: &str, tables: u64, mut one: impl FnMut(&mut Rng, u64)) {
 
 /// A reading call with its answer as words: the library's own, the wrapper's,
 /// or the reference's.
-pub type Read = fn(&[u8], &mut [u32], &mut [u32]) -> [u32; 4];
+pub type Read = fn(&[u8], &mut [u32], &mut [u32]) -> WrittenAnswer;
 
 pub const LIBRARY_READ: Read = |text, words, list| {
-    let mut answer = [UNANSWERED; 4];
+    let mut answer = WrittenAnswer::default().map(|_| UNANSWERED);
     raw::read_qcir(text, words, list, &mut answer);
     answer
 };

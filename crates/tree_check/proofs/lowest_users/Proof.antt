@@ -7,7 +7,7 @@ use borrow.Author.Needs.{needs}
 use Rattle.formula.specs.Words.{nodeCount}
 use Rattle.refusals.specs.Verdict.{firstTwo}
 use Rattle.tree_check.specs.Named.{usersBelow, firstUsers}
-use Rattle.tree_check.proofs.Users.{users-none, found-next, two-found}
+use Rattle.tree_check.proofs.Users.{users-none, found-next, users-stay}
 use Rattle.tree_check.proofs.lowest_users.Statement.{statement}
 use Rattle.tree_check.proofs.lowest_users.Tie as tie
 
@@ -21,6 +21,17 @@ loop-holds : tie.Need-loop-holds Inv-loop μ-loop
 unfolding firstUsers
 loop-holds c = (omega arith, sym (ap firstUsers (users-none _ _)))
 
+has-two-requires : tie.Need-has-two-requires Inv-loop μ-loop
+has-two-requires c κs = search needs
+
+as-two-requires : tie.Need-as-two-requires Inv-loop μ-loop
+as-two-requires c κs = search needs
+
+returns : tie.Need-returns Inv-loop μ-loop
+returns c =
+    let l = c .before .before .before .before .loop in
+    c .as-two .ensures _ (users-stay _ _ _ _ _ (l .inv .0) (c .before .before .has-two .ensures (c .before .if1 .taken)) (l .inv .1))
+
 node-at-requires : tie.Need-node-at-requires Inv-loop μ-loop
 node-at-requires c κs = search needs
 
@@ -30,15 +41,6 @@ cast-with-node c = search needs
 with-node-requires : tie.Need-with-node-requires Inv-loop μ-loop
 with-node-requires c κs = search needs
 
-enum-known-found : tie.Need-enum-known-found Inv-loop μ-loop
-enum-known-found c = search needs
-
-returns : tie.Need-returns Inv-loop μ-loop
-returns c =
-    let f = found-next _ _ _ _ _ _ (c .before .before .before .before .node-at .ensures) (c .before .before .before .before .before .before .loop .inv .1) (c .before .before .before .with-node .ensures) in
-    let t = c .before .before .before .before .before .loop-test .taken in
-    two-found _ _ _ _ _ _ (omega arith) (sym f ∙ c .before .found .given .1)
-
 add-i : tie.Need-add-i Inv-loop μ-loop
 add-i c = search needs
 
@@ -47,17 +49,17 @@ loop-less c = search needs
 
 loop-again : tie.Need-loop-again Inv-loop μ-loop
 loop-again c =
-    (omega arith, found-next _ _ _ _ _ _ (c .before .before .node-at .ensures) (c .before .before .before .before .loop .inv .1) (c .before .with-node .ensures))
+    (omega arith, found-next _ _ _ _ _ _ (c .before .node-at .ensures) (c .before .before .before .before .before .loop .inv .1) (c .with-node .ensures))
 
-as-two-requires : tie.Need-as-two-requires Inv-loop μ-loop
-as-two-requires c κs = search needs
+as-two-requires-2 : tie.Need-as-two-requires-2 Inv-loop μ-loop
+as-two-requires-2 c κs = search needs
 
 returns-2 : tie.Need-returns-2 Inv-loop μ-loop
 returns-2 c =
     let l = c .before .before .loop in
     let a = c .before .before .before .before .args in
     let e : l .i ≡ nodeCount (a .words .now) = omega arith in
-    c .as-two .ensures _ (l .inv .1) ∙ ap (λ (k : ℕ). firstTwo (usersBelow (a .words .now) (a .x) k)) e
+    c .as-two2 .ensures _ (l .inv .1) ∙ ap (λ (k : ℕ). firstTwo (usersBelow (a .words .now) (a .x) k)) e
 
 pub lowest-users-spec : {M : Type 1} → statement M
 lowest-users-spec =
@@ -66,13 +68,14 @@ lowest-users-spec =
     Inv-loop
     μ-loop
     loop-holds
+    has-two-requires
+    as-two-requires
+    returns
     node-at-requires
     cast-with-node
     with-node-requires
-    enum-known-found
-    returns
     add-i
     loop-less
     loop-again
-    as-two-requires
+    as-two-requires-2
     returns-2)

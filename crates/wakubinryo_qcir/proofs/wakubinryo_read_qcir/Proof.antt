@@ -1,5 +1,6 @@
 -- `wakubinryo_qcir::wakubinryo_read_qcir` meets its contract.
 -- Assumes nothing.
+use Rattle.qcir.proofs.Answers.{reading-plain}
 use Rattle.wakubinryo_qcir.proofs.Answers.{read-said}
 use borrow.Author.Needs.{needs}
 use Rattle.wakubinryo_qcir.proofs.wakubinryo_read_qcir.Statement.{statement}
@@ -9,7 +10,7 @@ read-requires : tie.Need-read-requires
 read-requires c κs = search needs
 
 put-answer-requires : tie.Need-put-answer-requires
-put-answer-requires c κs = search needs
+put-answer-requires c κs = reading-plain _ _ _ _ (c .before .before .before .before .read .ensures .reading)
 
 same-length : tie.Need-same-length
 same-length c = search needs
