@@ -548,7 +548,9 @@ fn parent(table: &Table, x: u32) -> u32 {
         [5 | 6, _, _, body] => body == x,
         _ => false,
     };
-    (0..table.len()).find(names).expect("each node has a parent") as u32
+    (0..table.len())
+        .find(names)
+        .expect("each node has a parent") as u32
 }
 
 /// A node that names another, and the field that does. None if there is none.

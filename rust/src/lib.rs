@@ -106,7 +106,12 @@ pub mod raw {
         }
     }
 
-    pub fn free_variables(words: &[u32], list: &[u32], names: &mut [u32], answer: &mut CountAnswer) {
+    pub fn free_variables(
+        words: &[u32],
+        list: &[u32],
+        names: &mut [u32],
+        answer: &mut CountAnswer,
+    ) {
         // SAFETY: as above.
         unsafe {
             ffi::wakubinryo_free_variables(
