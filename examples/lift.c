@@ -1,4 +1,5 @@
-/* Writes the prenex form of: variable 1 xor (exists 2: 2 and 1). */
+/* Writes the prenex form of: variable 1 xor (exists 2: 2 and 1). Then asks for
+ * that of a table which is no tree, and says why it is refused. */
 #include <stdio.h>
 #include <stdlib.h>
 #include "wakubinryo.h"
@@ -9,37 +10,47 @@ static void print(const char *name, const uint32_t *words, size_t count, size_t 
         printf("%u%c", (unsigned)words[i], (i + 1) % width ? ' ' : '\n');
 }
 
-static int refused(const uint32_t *answer) {
-    fprintf(stderr, "refused: %u at %u", (unsigned)answer[WAKUBINRYO_NUMBER],
-            (unsigned)answer[WAKUBINRYO_POSITION]);
+static void print_refusal(const uint32_t *answer) {
+    printf("refused: %u at %u", (unsigned)answer[WAKUBINRYO_NUMBER],
+           (unsigned)answer[WAKUBINRYO_POSITION]);
     if (answer[WAKUBINRYO_FIRST_USER] != 0)
-        fprintf(stderr, ", named by %u and %u", (unsigned)answer[WAKUBINRYO_FIRST_USER],
-                (unsigned)answer[WAKUBINRYO_SECOND_USER]);
-    fprintf(stderr, "\n");
-    return 1;
+        printf(", named by %u and %u", (unsigned)answer[WAKUBINRYO_FIRST_USER],
+               (unsigned)answer[WAKUBINRYO_SECOND_USER]);
+    printf("\n");
+}
+
+static void lift(const uint32_t *words, size_t words_len, const uint32_t *list, size_t list_len) {
+    uint32_t answer[WAKUBINRYO_SIZES_ANSWER];
+    wakubinryo_measure(words, words_len, list, list_len, answer);
+    if (answer[WAKUBINRYO_NUMBER] != 0) {
+        print_refusal(answer);
+        return;
+    }
+    size_t nodes = answer[WAKUBINRYO_NODES], nodes_len = WAKUBINRYO_NODE_WORDS * nodes;
+    size_t blocks = answer[WAKUBINRYO_BLOCKS], prefix_len = WAKUBINRYO_PREFIX_WORDS * blocks;
+    size_t variables = answer[WAKUBINRYO_VARIABLES];
+    uint32_t *out = malloc((nodes_len + prefix_len + variables) * sizeof *out);
+    if (out == NULL) {
+        perror("malloc");
+        exit(EXIT_FAILURE);
+    }
+    uint32_t *prefix = out + nodes_len, *names = prefix + prefix_len;
+    /* The buffers are as long as was measured, so this is done. */
+    wakubinryo_lift(words, words_len, list, list_len, out, nodes_len, prefix, prefix_len, names,
+                    variables, answer);
+    print("nodes", out, nodes, WAKUBINRYO_NODE_WORDS);
+    print("prefix", prefix, blocks, WAKUBINRYO_PREFIX_WORDS);
+    print("variables", names, variables, 1);
+    free(out);
 }
 
 int main(void) {
     const uint32_t words[] = {2, 1, 0, 0,  2, 2, 0, 0,  2, 1, 0, 0,
                               4, 8, 1, 2,  5, 0, 1, 3,  4, 6, 0, 4};
     const uint32_t list[] = {2};
-    uint32_t answer[WAKUBINRYO_SIZES_ANSWER];
-    wakubinryo_measure(words, 24, list, 1, answer);
-    if (answer[WAKUBINRYO_NUMBER] != 0)
-        return refused(answer);
-    size_t nodes = answer[WAKUBINRYO_NODES], blocks = answer[WAKUBINRYO_BLOCKS];
-    size_t variables = answer[WAKUBINRYO_VARIABLES];
-    size_t nodes_len = WAKUBINRYO_NODE_WORDS * nodes, prefix_len = WAKUBINRYO_PREFIX_WORDS * blocks;
-    uint32_t *out = malloc((nodes_len + prefix_len + variables) * sizeof *out);
-    if (out == NULL)
-        return 1;
-    uint32_t *prefix = out + nodes_len, *names = prefix + prefix_len;
-    wakubinryo_lift(words, 24, list, 1, out, nodes_len, prefix, prefix_len, names, variables, answer);
-    if (answer[WAKUBINRYO_NUMBER] != 0)
-        return free(out), refused(answer);
-    print("nodes", out, nodes, WAKUBINRYO_NODE_WORDS);
-    print("prefix", prefix, blocks, WAKUBINRYO_PREFIX_WORDS);
-    print("variables", names, variables, 1);
-    free(out);
+    lift(words, 24, list, 1);
+    /* Node 1 names node 0 twice. */
+    const uint32_t shared[] = {2, 1, 0, 0,  4, 9, 0, 0};
+    lift(shared, 8, list, 1);
     return 0;
 }

@@ -28,10 +28,11 @@ variables
 4
 3
 5
+refused: 8 at 0, named by 1 and 1
 ";
 
 #[test]
-fn c_example_prints_the_form() {
+fn c_example_prints_a_form_and_a_refusal() {
     let repository = Path::new(env!("CARGO_MANIFEST_DIR")).join("..");
     let libraries = Path::new(env!("WAKUBINRYO_LIB_DIR"));
     let program = Path::new(env!("CARGO_TARGET_TMPDIR")).join("lift");

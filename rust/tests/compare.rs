@@ -2,7 +2,7 @@
 
 mod common;
 
-use common::{assert_same, each, Case, Prefill};
+use common::{assert_same, each, some_nodes, Case, Prefill};
 use std::collections::HashMap;
 use std::ops::RangeInclusive;
 use wakubinryo::generate::{accepted, damaged, mutated};
@@ -94,11 +94,7 @@ fn tables_changed_anywhere() {
     let mut refused = 0;
     let mut counts = [0; 9];
     each("changed tables", 60_000, |rng, number| {
-        let nodes = match number % 200 {
-            0 => rng.between(300, 4096),
-            1..=19 => rng.between(40, 300),
-            _ => rng.between(1, 30),
-        };
+        let nodes = some_nodes(rng, number);
         let profile = Profile::random(rng, nodes);
         let table = mutated(rng, &profile);
         let spare = rng.between(1, 60);

@@ -2,7 +2,7 @@
 
 mod common;
 
-use common::{assert_refused, assert_same, assert_used_by, each, Prefill};
+use common::{assert_refused, assert_same, assert_used_by, each, some_nodes, Prefill};
 use wakubinryo::generate::{shared, Profile, Table};
 use wakubinryo::Reason::*;
 use wakubinryo::{measure, Node, Refusal};
@@ -67,11 +67,7 @@ fn the_lowest_node_and_its_lowest_users() {
 fn tables_with_shared_nodes() {
     let [mut nobody, mut twice, mut two] = [0, 0, 0];
     each("shared nodes", 60_000, |rng, number| {
-        let nodes = match number % 200 {
-            0 => rng.between(300, 4096),
-            1..=19 => rng.between(40, 300),
-            _ => rng.between(2, 30),
-        };
+        let nodes = some_nodes(rng, number);
         let profile = Profile::random(rng, nodes);
         let table = shared(rng, &profile);
         let prefill = [Prefill::ALL[number as usize % 4]];

@@ -11,13 +11,13 @@ use lib.ListN.{length, getD, replicate, length-append, length-replicate, getD-re
 use lib.Seq.{getD-append-add}
 use borrow.Author.Tests.{eqb-true, eqb-false, eq-eqb, ne-eqb, ltb-true, ltb-false, lt-ltb, le-ltb}
 use Rattle.lists.specs.Choice.{pick, pick-yes, pick-no, Is, is-true, is-false, look}
-use Rattle.lists.specs.Members.{times}
+use Rattle.lists.specs.Members.{times, Ascending}
 use Rattle.lists.specs.Parts.{upTo, sum}
-use Rattle.lists.proofs.Members.{times-append}
+use Rattle.lists.proofs.Members.{times-append, ascending-one}
 use Rattle.lists.proofs.Parts.{length-upTo, sum-cong}
 use Rattle.formula.specs.Node.{Table, operands}
 use Rattle.formula.specs.Tree.{users, timesNamed}
-use Rattle.formula.specs.Laws.{UsersNamed, UsersAscending, UsersCounted}
+use Rattle.formula.specs.Laws.{UsersRead, OneListOfUsers, UsersCounted}
 
 one-more : (b : Bool) (k r : ℕ) → r ≡ pick b k 0 → pick b 1 0 + r ≡ pick b (suc k) 0
 unfolding pick
@@ -98,7 +98,7 @@ module _ (c : ℕ → ℕ) where
   repeated-below zero k h = absurd (not-suc-le-zero h)
   repeated-below (suc n) k h = at (λ x. x < suc n) n k h (λ l. omega (arith, repeated-below n k l)) (λ l. omega arith)
 
-  repeated-ascending : (n k m : ℕ) → k ≤ m → m < length (repeated n) → getD (repeated n) k 0 ≤ getD (repeated n) m 0
+  repeated-ascending : (n : ℕ) → Ascending (repeated n)
   unfolding upTo
   repeated-ascending zero k m l h = absurd (not-suc-le-zero h)
   repeated-ascending (suc n) k m l h =
@@ -106,13 +106,14 @@ module _ (c : ℕ → ℕ) where
       (λ hm. at (λ x. x ≤ getD (repeated n) m 0) n k (omega arith) (λ hk. repeated-ascending n k m l hm) (λ hk. absurd (omega arith)))
       (λ hm. at (λ x. x ≤ n) n k (omega arith) (λ hk. omega (arith, repeated-below n k hk)) (λ hk. omega arith))
 
-pub users-named : UsersNamed
+pub users-read : UsersRead
 unfolding users
-users-named t i j = repeated-times (λ j. times i (operands (t .node j))) (t .size) j
+users-read t i =
+    let c : ℕ → ℕ = λ j. times i (operands (t .node j)) in
+    record { named = repeated-times c (t .size); ascending = repeated-ascending c (t .size) }
 
-pub users-ascending : UsersAscending
-unfolding users
-users-ascending t i = repeated-ascending (λ j. times i (operands (t .node j))) (t .size)
+pub one-list-of-users : OneListOfUsers
+one-list-of-users t i us us' p q = ascending-one us us' (p .ascending) (q .ascending) (λ j. p .named j ∙ sym (q .named j))
 
 pub users-counted : UsersCounted
 unfolding users timesNamed

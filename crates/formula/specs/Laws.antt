@@ -6,16 +6,13 @@ use mathlib.Core.List.{List, []}
 use mathlib.Core.Logic.{_↔_}
 use mathlib.Core.Path.{_≡_}
 use Prim.Native.Nat.{ℕ, _-_, _/_, _<_, _≤_}
-use lib.Dec.{ltb}
-use lib.ListN.{length, getD, drop}
-use Rattle.lists.specs.Choice.{pick}
-use Rattle.lists.specs.Members.{times}
-use Rattle.formula.specs.Node.{exists, for-all, Table, operands}
+use lib.ListN.{length, drop}
+use Rattle.formula.specs.Node.{exists, for-all, Table}
 use Rattle.formula.specs.Words.{nodeCount, tableOf}
 use Rattle.formula.specs.Valuation.{Valuation, quant}
 use Rattle.formula.specs.Truth.{operatorValue, value, truth, freeAt, free}
 use Rattle.formula.specs.Form.{Block, prefixWidth, blockAt, blocksOf, quantify, formTruth, formFree}
-use Rattle.formula.specs.Tree.{Tree, users, timesNamed}
+use Rattle.formula.specs.Tree.{Tree, UsersOf, users, timesNamed}
 use Rattle.formula.specs.Meaning.{UnderSome, UnderEvery, TableMeaning, BlockIs, PrefixMeaning}
 
 -- Operators, "shown once for all sixteen". Every function of two arguments is an operator (every-operator),
@@ -106,14 +103,14 @@ FormCoincidence =
     (ns ps xs : List ℕ) (v u : Valuation) → ((x : ℕ) → formFree ns ps xs x ≡ true → v x ≡ u x)
     → formTruth ns ps xs v ≡ formTruth ns ps xs u
 
--- Users. A node stands in the list of the users of node i as often as it names node i, and nothing else stands there (users-named);
-abbrev pub UsersNamed : Type 0
-UsersNamed = (t : Table) (i j : ℕ) → times j (users t i) ≡ pick (ltb j (t .size)) (times i (operands (t .node j))) 0
+-- Users. `users` lists the users of a node (users-read),
+abbrev pub UsersRead : Type 0
+UsersRead = (t : Table) (i : ℕ) → UsersOf t i (users t i)
 
--- the list is ascending (users-ascending),
-abbrev pub UsersAscending : Type 0
-UsersAscending = (t : Table) (i k m : ℕ) → k ≤ m → m < length (users t i) → getD (users t i) k 0 ≤ getD (users t i) m 0
+-- no other list does (one-list-of-users),
+abbrev pub OneListOfUsers : Type 0
+OneListOfUsers = (t : Table) (i : ℕ) (us us' : List ℕ) → UsersOf t i us → UsersOf t i us' → us ≡ us'
 
--- and as long as node i is named often (users-counted).
+-- and it is as long as the node is named often (users-counted).
 abbrev pub UsersCounted : Type 0
 UsersCounted = (t : Table) (i : ℕ) → length (users t i) ≡ timesNamed t i

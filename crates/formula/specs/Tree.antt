@@ -4,17 +4,25 @@ use mathlib.Core.Bool.{true}
 use mathlib.Core.List.{List}
 use mathlib.Core.Path.{_≡_}
 use Prim.Native.Nat.{ℕ, suc, _<_}
+use lib.Dec.{ltb}
 use lib.ListN.{length, replicate}
-use Rattle.lists.specs.Members.{mem, times, distinct}
+use Rattle.lists.specs.Choice.{pick}
+use Rattle.lists.specs.Members.{mem, times, distinct, Ascending}
 use Rattle.lists.specs.Parts.{upTo, sum}
 use Rattle.formula.specs.Node.{Table, operands, bound}
 
--- The users of node i: the nodes that name it, ascending, each standing once for each time that it names node i ("a parent naming it
--- twice stands twice").
+-- What holds of the list of the users of node i, the nodes that name it:
+pub record UsersOf (t : Table) (i : ℕ) (us : List ℕ) : Type 0 where
+  -- a node stands there once for each time that it names node i ("a parent naming it twice stands twice"), and nothing else does
+  pub named : (j : ℕ) → times j us ≡ pick (ltb j (t .size)) (times i (operands (t .node j))) 0
+  -- the lowest come first
+  pub ascending : Ascending us
+
+-- This list, of which there is one (specs/Laws.antt).
 unfoldable pub users : Table → ℕ → List ℕ
 users t i = upTo (λ j. replicate (times i (operands (t .node j))) j) (t .size)
 
--- How often the nodes of a table name node i: the length of that list (specs/Laws.antt: UsersCounted).
+-- How often the nodes of a table name node i: the length of that list (UsersCounted).
 unfoldable pub timesNamed : Table → ℕ → ℕ
 timesNamed t i = sum (λ j. times i (operands (t .node j))) (t .size)
 

@@ -3,14 +3,14 @@
 use mathlib.Core.Path.{_≡_, refl, sym, _∙_, ap, subst}
 use mathlib.Core.Bool.{Bool, true, false, not, _||_, true≢false, or-false}
 use mathlib.Core.List.{List, [], _∷_, _++_, flatMap}
-use Prim.Native.Nat.{ℕ, zero, suc, _+_, _<_}
+use Prim.Native.Nat.{ℕ, zero, suc, _+_, _<_, _≤_}
 use native.Mathlib.Omega.{arith}
 use native.Mathlib.Nat.{le-of-suc-le-suc, not-suc-le-zero}
 use lib.Dec.{eqb}
 use lib.ListN.{length, getD}
 use borrow.Author.Tests.{eqb-true, eq-eqb, ne-eqb, not-true}
-use Rattle.lists.specs.Choice.{pick-yes, pick-no, Is, is-true, is-false, look, clash, and-left, and-right, and-both, or-left, or-right, or-neither-left, or-neither-right, or-neither, absent, same-test}
-use Rattle.lists.specs.Members.{mem, all, distinct, times, place}
+use Rattle.lists.specs.Choice.{pick, pick-yes, pick-no, Is, is-true, is-false, look, clash, and-left, and-right, and-both, or-left, or-right, or-neither-left, or-neither-right, or-neither, absent, same-test}
+use Rattle.lists.specs.Members.{mem, all, distinct, times, place, Ascending}
 
 pub or-group : (a b c d : Bool) → b ≡ (c || d) → (a || b) ≡ ((a || c) || d)
 or-group true b c d h = refl
@@ -176,3 +176,37 @@ times-append x (y ∷ xs) ys = omega (arith, times-append x xs ys)
 
 pub eqb-swap : (x y : ℕ) → eqb x y ≡ eqb y x
 eqb-swap x y = same-test (eqb x y) (eqb y x) (λ q. eq-eqb y x (sym (eqb-true x y q))) (λ q. eq-eqb x y (sym (eqb-true y x q)))
+
+mem-times : (x : ℕ) (xs : List ℕ) → 0 < times x xs → mem x xs ≡ true
+mem-times x xs h = go (look (mem x xs))
+  where
+    go : Is (mem x xs) → mem x xs ≡ true
+    go (is-true m) = m
+    go (is-false m) = absurd (omega (arith, times-zero x xs m))
+
+times-head : (x : ℕ) (xs : List ℕ) → 0 < times x (x ∷ xs)
+times-head x xs = times-positive x (x ∷ xs) (mem-head x xs)
+
+-- nothing in an ascending list is lower than its first element
+head-lowest : (x y : ℕ) (xs : List ℕ) → Ascending (x ∷ xs) → 0 < times y (x ∷ xs) → x ≤ y
+head-lowest x y xs up h =
+    let m : mem y (x ∷ xs) ≡ true = mem-times y (x ∷ xs) h in
+    let e : getD (x ∷ xs) (place y (x ∷ xs)) 0 ≡ y = getD-place y (x ∷ xs) 0 m in
+    let l : x ≤ getD (x ∷ xs) (place y (x ∷ xs)) 0 = up 0 (place y (x ∷ xs)) (omega arith) (place-lt y (x ∷ xs) m) in omega arith
+
+ascending-tail : (x : ℕ) (xs : List ℕ) → Ascending (x ∷ xs) → Ascending xs
+ascending-tail x xs up k m l h = up (suc k) (suc m) (omega arith) (omega arith)
+
+-- An ascending list is known by how often each number stands in it.
+pub ascending-one : (xs ys : List ℕ) → Ascending xs → Ascending ys → ((j : ℕ) → times j xs ≡ times j ys) → xs ≡ ys
+unfolding times
+ascending-one [] [] p q e = refl
+ascending-one [] (y ∷ ys) p q e = absurd (omega (arith, e y, times-head y ys))
+ascending-one (x ∷ xs) [] p q e = absurd (omega (arith, e x, times-head x xs))
+ascending-one (x ∷ xs) (y ∷ ys) p q e =
+    let below : x ≤ y = head-lowest x y xs p (omega (arith, e y, times-head y ys)) in
+    let above : y ≤ x = head-lowest y x ys q (omega (arith, e x, times-head x xs)) in
+    let heads : x ≡ y = omega arith in
+    let rest : (j : ℕ) → times j xs ≡ times j ys =
+    λ j. let same : pick {A = ℕ} (eqb j x) 1 0 ≡ pick (eqb j y) 1 0 = ap (λ (z : ℕ). pick (eqb j z) 1 0) heads in omega (arith, e j) in
+    let tails : xs ≡ ys = ascending-one xs ys (ascending-tail x xs p) (ascending-tail y ys q) rest in rw (heads, tails)

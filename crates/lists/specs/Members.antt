@@ -1,9 +1,10 @@
--- Membership in a list of numbers, as a test.
+-- Membership in a list of numbers, as a test, and the order of its elements.
 -- Assumes nothing.
 use mathlib.Core.Bool.{Bool, true, false, not, _&&_, _||_}
 use mathlib.Core.List.{List, [], _∷_}
-use Prim.Native.Nat.{ℕ, suc, _+_}
+use Prim.Native.Nat.{ℕ, suc, _+_, _≤_, _<_}
 use lib.Dec.{eqb}
+use lib.ListN.{length, getD}
 use Rattle.lists.specs.Choice.{pick}
 
 -- x stands in the list
@@ -30,3 +31,7 @@ times x (y ∷ ys) = pick (eqb x y) 1 0 + times x ys
 unfoldable pub place : ℕ → List ℕ → ℕ
 place x [] = 0
 place x (y ∷ ys) = pick (eqb x y) 0 (suc (place x ys))
+
+-- no element is higher than one that comes after it
+abbrev pub Ascending : List ℕ → Type 0
+Ascending xs = (k m : ℕ) → k ≤ m → m < length xs → getD xs k 0 ≤ getD xs m 0

@@ -35,10 +35,11 @@ use refusals::TOO_LARGE;
 use refusals::TOO_MANY_VARIABLES;
 use refusals::Verdict;
 
-// Refuses a table by document 01's refusals 1 to 8, in that order, or accepts it.
+// Refuses a table by document 01's refusals 1 to 8, in that order, or accepts it. Refusal 8 names two
+// users.
 //
-// The contract rules out a checker that refuses everything, and one that accepts whatever has no
-// refusal from 3 to 7, tree or not.
+// The contract rules out a checker that refuses everything, one that accepts whatever has no refusal
+// from 3 to 7, tree or not, and, by that of tree_check, one that names the two highest users.
 pub fn check(words: &[u32], list: &[u32]) -> Verdict
     ensures verdict { λ r. ⌜ r ≡ verdict (now (words .entry)) (now (list .entry)) ⌝ }
 {

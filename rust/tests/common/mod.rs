@@ -332,6 +332,15 @@ pub fn each(name: &str, tables: u64, mut one: impl FnMut(&mut Rng, u64)) {
     }
 }
 
+/// How many nodes the table of this number has: few, but for some.
+pub fn some_nodes(rng: &mut Rng, number: u64) -> usize {
+    match number % 200 {
+        0 => rng.between(300, 4096),
+        1..=19 => rng.between(40, 300),
+        _ => rng.between(1, 30),
+    }
+}
+
 /// A reading call with its answer as words: the library's own, the wrapper's,
 /// or the reference's.
 pub type Read = fn(&[u8], &mut [u32], &mut [u32]) -> WrittenAnswer;
