@@ -1,14 +1,15 @@
 -- Laws of the users of a node and of the first two of them.
 -- Assumes nothing.
-use mathlib.Core.Path.{_≡_, refl, sym, _∙_, ap, subst}
+use mathlib.Core.Path.{_≡_, refl, sym, _∙_, ap}
 use mathlib.Core.Bool.{Bool, true, false, _&&_, _||_, or-false}
 use mathlib.Core.List.{List, [], _∷_, _++_, append-assoc, append-nil}
-use Prim.Native.Nat.{ℕ, zero, suc, _+_, _-_, _≤_}
+use Prim.Native.Nat.{ℕ, zero, suc, _+_, _-_, _≤_, _<_}
 use native.Mathlib.Nat.{zero-add, suc-add}
 use native.Mathlib.Omega.{arith}
-use lib.Dec.{eqb}
+use lib.Dec.{eqb, ltb}
 use lib.ListN.{replicate, replicate-append-replicate}
-use Rattle.lists.specs.Choice.{pick}
+use borrow.Author.Tests.{ltb-true, ltb-false}
+use Rattle.lists.specs.Choice.{pick, Is, is-true, is-false, look}
 use Rattle.lists.specs.Members.{times}
 use Rattle.lists.specs.Parts.{upTo}
 use Rattle.lists.proofs.Overwrite.{upTo-next}
@@ -17,63 +18,62 @@ use Rattle.formula.specs.Words.{nodeCount, isBlockKind, wordsAt, nodeAt, tableO
 use Rattle.formula.specs.declared.NodeWords.{NodeWords}
 use Rattle.formula.specs.Tree.{users}
 use Rattle.formula.proofs.Nodes.{Kind, kind-of, kind-constant, kind-variable, kind-negation, kind-operator, kind-exists, kind-for-all, kind-none}
-use Rattle.refusals.specs.declared.Users.{Users}
 use Rattle.refusals.specs.Verdict.{firstTwo}
 use Rattle.tree_check.specs.declared.FirstUsers.{FirstUsers}
-use Rattle.tree_check.specs.declared.FirstUsers.the-variants.{Nobody, One, Two}
 use Rattle.tree_check.specs.Named.{namedBy, usersBelow, firstUsers}
 use Rattle.tree_check.proofs.Named.{operands-are}
 
--- The first users as two numbers.
-abbrev pub two : FirstUsers → Users
-two Nobody = record { first = 0; second = 0 }
-two (One a) = record { first = a; second = 0 }
-two (Two a b) = record { first = a; second = b }
-
-pub two-first : (us : List ℕ) → two (firstUsers us) ≡ firstTwo us
+-- the first users as two numbers
+two-first : (us : List ℕ) → record { first = firstUsers us .first; second = firstUsers us .second } ≡ firstTwo us
 unfolding firstUsers firstTwo
 two-first [] = refl
 two-first (a ∷ []) = refl
 two-first (a ∷ b ∷ us) = refl
 
--- The first users with one user more.
-abbrev pub more : ℕ → FirstUsers → FirstUsers
-more i Nobody = One i
-more i (One a) = Two a i
-more i (Two a b) = Two a b
-
-more-first : (us : List ℕ) (i : ℕ) → more i (firstUsers us) ≡ firstUsers (us ++ i ∷ [])
+-- The first users of a list with one user more, by how many there were.
+pub more-none : (us : List ℕ) (i : ℕ) → firstUsers us .count ≡ 0 → record { count = 1; first = i; second = 0 } ≡ firstUsers (us ++ i ∷ [])
 unfolding firstUsers
-more-first [] i = refl
-more-first (a ∷ []) i = refl
-more-first (a ∷ b ∷ us) i = refl
+more-none [] i e = refl
+more-none (a ∷ []) i e = absurd (omega arith)
+more-none (a ∷ b ∷ us) i e = absurd (omega arith)
 
--- How many there are of them.
-abbrev size : FirstUsers → ℕ
-size Nobody = 0
-size (One a) = 1
-size (Two a b) = 2
+pub more-one : (us : List ℕ) (i : ℕ) → firstUsers us .count ≡ 1 → record { count = 2; first = firstUsers us .first; second = i } ≡ firstUsers (us ++ i ∷ [])
+unfolding firstUsers
+more-one [] i e = absurd (omega arith)
+more-one (a ∷ []) i e = refl
+more-one (a ∷ b ∷ us) i e = absurd (omega arith)
 
--- two users stay the first
-two-stay : (us vs : List ℕ) → 2 ≤ size (firstUsers us) → firstUsers us ≡ firstUsers (us ++ vs)
+two-stay : (us vs : List ℕ) → 2 ≤ firstUsers us .count → firstUsers us ≡ firstUsers (us ++ vs)
 unfolding firstUsers
 two-stay [] vs h = absurd (omega arith)
 two-stay (a ∷ []) vs h = absurd (omega arith)
 two-stay (a ∷ b ∷ us) vs h = refl
 
-pub two-known : (f : FirstUsers) (a b : ℕ) → f ≡ Two a b → (us vs : List ℕ) → f ≡ firstUsers us → f ≡ firstUsers (us ++ vs)
-two-known f a b e us vs h =
-    let s : size (firstUsers us) ≡ 2 = ap size (sym h ∙ e) in h ∙ two-stay us vs (omega arith)
-
--- The first users of a list that node i is put to, if it is a user.
-module _ (us : List ℕ) (names : Bool) (i : ℕ) where
-  pub none-more : (f : FirstUsers) → names ≡ false → f ≡ firstUsers us → f ≡ firstUsers (us ++ replicate (pick names 1 0) i)
+-- The users that node i is put to, if it is one.
+module _ (us : List ℕ) (names : Bool) (i : ℕ) (f : FirstUsers) (h : f ≡ firstUsers us) where
+  -- whether it is put to them
+  put : names ≡ true → us ++ i ∷ [] ≡ us ++ replicate (pick names 1 0) i
   unfolding pick
-  none-more f e h = rw e (h ∙ ap firstUsers (sym (append-nil us)))
+  put e = rw e
 
-  pub one-more : (f : FirstUsers) → names ≡ true → f ≡ firstUsers us → more i f ≡ firstUsers (us ++ replicate (pick names 1 0) i)
+  counted : firstUsers us .count ≡ f .count
+  counted = ap (λ (g : FirstUsers). g .count) (sym h)
+
+  pub put-none : names ≡ false → f ≡ firstUsers (us ++ replicate (pick names 1 0) i)
   unfolding pick
-  one-more f e h = rw e (ap (more i) h ∙ more-first us i)
+  put-none e = rw e (h ∙ ap firstUsers (sym (append-nil us)))
+
+  pub put-first : names ≡ true → f .count ≡ 0 → record { count = 1; first = i; second = 0 } ≡ firstUsers (us ++ replicate (pick names 1 0) i)
+  put-first e z = more-none us i (counted ∙ z) ∙ ap firstUsers (put e)
+
+  pub put-second : names ≡ true → f .count ≡ 1 → record { count = 2; first = f .first; second = i } ≡ firstUsers (us ++ replicate (pick names 1 0) i)
+  put-second e o =
+      ap (λ (g : FirstUsers). record { count = 2; first = g .first; second = i }) h ∙ more-one us i (counted ∙ o) ∙ ap firstUsers (put e)
+
+  pub put-further : names ≡ true → (f .count ≡ 0 → ⊥) → (f .count ≡ 1 → ⊥) → f ≡ firstUsers (us ++ replicate (pick names 1 0) i)
+  put-further e z o =
+      let c : firstUsers us .count ≡ f .count = counted in
+      h ∙ two-stay us (i ∷ []) (omega arith) ∙ ap firstUsers (put e)
 
 -- Whether a node with these words names x as an operator's left operand, and whether otherwise.
 abbrev asLeft : NodeWords → ℕ → Bool
@@ -132,13 +132,19 @@ module _ (ws : List ℕ) (x : ℕ) where
       let more = replicate (times x (namedBy (wordsAt ws (k + m)))) (k + m) in
       (r .0 ++ more, rw (suc-add k m) (ap (λ (us : List ℕ). us ++ more) (r .1) ∙ append-assoc (usersBelow ws x m) (r .0) more))
 
-  -- what holds of users whatever comes after them holds at every higher node
-  pub users-stay : (f : FirstUsers) (m n : ℕ) → m ≤ n
-      → ((us vs : List ℕ) → f ≡ firstUsers us → f ≡ firstUsers (us ++ vs)) → f ≡ firstUsers (usersBelow ws x m) → f ≡ firstUsers (usersBelow ws x n)
-  users-stay f m n l stay h =
-      let r = below-split m (n - m) in
-      let s : n - m + m ≡ n = omega arith in
-      stay (usersBelow ws x m) (r .0) h ∙ ap firstUsers (sym (r .1) ∙ ap (usersBelow ws x) s)
+  -- the first users below node i are those of all n nodes if these are passed, or two were found
+  pub users-known : (f : FirstUsers) (i n : ℕ) → i ≤ n → f ≡ firstUsers (usersBelow ws x i) → (i < n → 2 ≤ f .count)
+      → record { first = f .first; second = f .second } ≡ firstTwo (usersBelow ws x n)
+  users-known f i n l h two = ap (λ (g : FirstUsers). record { first = g .first; second = g .second }) (h ∙ go (look (ltb i n))) ∙ two-first (usersBelow ws x n)
+    where
+      go : Is (ltb i n) → firstUsers (usersBelow ws x i) ≡ firstUsers (usersBelow ws x n)
+      go (is-true t) =
+          let r = below-split i (n - i) in
+          let s : n - i + i ≡ n = omega arith in
+          let c : 2 ≤ f .count = two (ltb-true i n t) in
+          let e : f .count ≡ firstUsers (usersBelow ws x i) .count = ap (λ (g : FirstUsers). g .count) h in
+          two-stay (usersBelow ws x i) (r .0) (omega arith) ∙ ap firstUsers (sym (r .1) ∙ ap (usersBelow ws x) s)
+      go (is-false t) = let g : n ≤ i = ltb-false i n t in let e : i ≡ n = omega arith in ap (λ (k : ℕ). firstUsers (usersBelow ws x k)) e
 
 -- the table's users, by the words alone
 pub users-are : (ws ls : List ℕ) (x : ℕ) → users (tableOf ws ls) x ≡ usersBelow ws x (nodeCount ws)

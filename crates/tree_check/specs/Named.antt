@@ -16,7 +16,6 @@ use Rattle.refusals.specs.Verdict.{firstTwo, notATree, accepted}
 use Rattle.refusals.specs.declared.Verdict.{Verdict}
 use Rattle.acceptance.specs.Limits.{limit}
 use Rattle.tree_check.specs.declared.FirstUsers.{FirstUsers}
-use Rattle.tree_check.specs.declared.FirstUsers.the-variants.{Nobody, One, Two}
 
 -- The nodes that a node with these words names.
 unfoldable pub namedBy : NodeWords → List ℕ
@@ -44,11 +43,11 @@ pub record Room (named : List ℕ) (i : ℕ) : Type 0 where
 unfoldable pub usersBelow : List ℕ → ℕ → ℕ → List ℕ
 usersBelow ws x i = upTo (λ j. replicate (times x (namedBy (wordsAt ws j))) j) i
 
--- The first two of a list of users, as far as there are so many.
+-- The first two of a list of users, and how many of the two there are.
 unfoldable pub firstUsers : List ℕ → FirstUsers
-firstUsers [] = Nobody
-firstUsers (a ∷ []) = One a
-firstUsers (a ∷ b ∷ us) = Two a b
+firstUsers [] = record { count = 0; first = 0; second = 0 }
+firstUsers (a ∷ []) = record { count = 1; first = a; second = 0 }
+firstUsers (a ∷ b ∷ us) = record { count = 2; first = a; second = b }
 
 -- Refusal 8: of the lowest node below the last that is not named exactly once, with the first two of its users.
 unfoldable pub treeVerdict : List ℕ → Verdict

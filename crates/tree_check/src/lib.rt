@@ -72,11 +72,11 @@ fn all_once(named: &[u16], last: usize) -> bool
     once
 }
 
-// The first two users of a node, as far as there are so many.
-enum FirstUsers {
-    Nobody,
-    One(u32),
-    Two(u32, u32),
+// The first two users of a node, and how many of the two there are; 0 for each that there is not.
+struct FirstUsers {
+    count: u32,
+    first: u32,
+    second: u32,
 }
 
 // The two lowest nodes that name node x. No node is looked at after the second.
@@ -85,40 +85,19 @@ fn lowest_users(words: &[u32], x: u32) -> Users
     ensures { λ r. ⌜ r ≡ firstTwo (usersBelow (now (words .entry)) x (nodeCount (now (words .entry)))) ⌝ }
 {
     let n = words.len() / formula::WIDTH;
-    let mut found = FirstUsers::Nobody;
+    let mut found = FirstUsers {
+        count: 0,
+        first: 0,
+        second: 0,
+    };
     let mut i = 0;
-    while i < n {
-        if has_two(found) {
-            return as_two(found);
-        }
+    while (i < n) & (found.count < 2) {
         found = with_node(found, formula::node_at(words, i), x, i as u32);
         i += 1;
     }
-    as_two(found)
-}
-
-// Whether there are two: whatever users come after them, these stay the first.
-fn has_two(found: FirstUsers) -> bool
-    ensures { λ r. ⌜ (r ≡ true → (us vs : List ℕ) → found ≡ firstUsers us → found ≡ firstUsers (us ++ vs)) ⌝ }
-{
-    match found {
-        FirstUsers::Nobody => false,
-        FirstUsers::One(_) => false,
-        FirstUsers::Two(_, _) => true,
-    }
-}
-
-// 0 for each user that there is not.
-fn as_two(found: FirstUsers) -> Users
-    ensures { λ r. ⌜ ((us : List ℕ) → found ≡ firstUsers us → r ≡ firstTwo us) ⌝ }
-{
-    match found {
-        FirstUsers::Nobody => Users {
-            first: 0,
-            second: 0,
-        },
-        FirstUsers::One(first) => Users { first, second: 0 },
-        FirstUsers::Two(first, second) => Users { first, second },
+    Users {
+        first: found.first,
+        second: found.second,
     }
 }
 
@@ -143,9 +122,19 @@ fn with_user(found: FirstUsers, names: bool, i: u32) -> FirstUsers
     if !names {
         return found;
     }
-    match found {
-        FirstUsers::Nobody => FirstUsers::One(i),
-        FirstUsers::One(first) => FirstUsers::Two(first, i),
-        FirstUsers::Two(first, second) => FirstUsers::Two(first, second),
+    if found.count == 0 {
+        return FirstUsers {
+            count: 1,
+            first: i,
+            second: 0,
+        };
     }
+    if found.count == 1 {
+        return FirstUsers {
+            count: 2,
+            first: found.first,
+            second: i,
+        };
+    }
+    found
 }

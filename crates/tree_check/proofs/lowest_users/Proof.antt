@@ -1,13 +1,14 @@
 -- `tree_check::lowest_users` meets its contract: the loop's invariant: the first users among the nodes passed so far are known. The measure is what is left of the nodes.
 -- Assumes nothing.
-use mathlib.Core.Path.{_≡_, sym, _∙_, ap}
-use Prim.Native.Nat.{ℕ, _≤_, _-_}
+use mathlib.Core.Path.{_≡_, sym, ap}
+use Prim.Native.Nat.{_≤_, _<_, _-_}
 use native.Mathlib.Omega.{arith}
 use borrow.Author.Needs.{needs}
+use borrow.Author.Tests.{lt-ltb, ltb-true, ltb-false}
+use Rattle.lists.specs.Choice.{and-left}
 use Rattle.formula.specs.Words.{nodeCount}
-use Rattle.refusals.specs.Verdict.{firstTwo}
 use Rattle.tree_check.specs.Named.{usersBelow, firstUsers}
-use Rattle.tree_check.proofs.Users.{users-none, found-next, users-stay}
+use Rattle.tree_check.proofs.Users.{users-none, found-next, users-known}
 use Rattle.tree_check.proofs.lowest_users.Statement.{statement}
 use Rattle.tree_check.proofs.lowest_users.Tie as tie
 
@@ -21,45 +22,33 @@ loop-holds : tie.Need-loop-holds Inv-loop μ-loop
 unfolding firstUsers
 loop-holds c = (omega arith, sym (ap firstUsers (users-none _ _)))
 
-has-two-requires : tie.Need-has-two-requires Inv-loop μ-loop
-has-two-requires c κs = search needs
-
-as-two-requires : tie.Need-as-two-requires Inv-loop μ-loop
-as-two-requires c κs = search needs
-
-returns : tie.Need-returns Inv-loop μ-loop
-returns c =
-    let l = c .before .before .before .before .loop in
-    c .as-two .ensures _ (users-stay _ _ _ _ _ (l .inv .0) (c .before .before .has-two .ensures (c .before .if1 .taken)) (l .inv .1))
+-- Where the loop goes on, a node is left.
+goes-on : (c : tie.Then1 Inv-loop μ-loop) → c .before .before .loop .i < nodeCount (c .before .before .before .before .args .words .now)
+goes-on c = ltb-true _ _ (and-left _ _ (c .if1 .taken))
 
 node-at-requires : tie.Need-node-at-requires Inv-loop μ-loop
-node-at-requires c κs = search needs
+node-at-requires c κs = omega (arith, goes-on c)
 
 cast-with-node : tie.Need-cast-with-node Inv-loop μ-loop
-cast-with-node c = search needs
+cast-with-node c = omega (arith, goes-on (c .before))
 
 with-node-requires : tie.Need-with-node-requires Inv-loop μ-loop
 with-node-requires c κs = search needs
 
 add-i : tie.Need-add-i Inv-loop μ-loop
-add-i c = search needs
+add-i c = omega (arith, goes-on (c .before .before))
 
 loop-less : tie.Need-loop-less Inv-loop μ-loop
-loop-less c = search needs
+loop-less c = omega (arith, goes-on (c .before .before))
 
 loop-again : tie.Need-loop-again Inv-loop μ-loop
 loop-again c =
-    (omega arith, found-next _ _ _ _ _ _ (c .before .node-at .ensures) (c .before .before .before .before .before .loop .inv .1) (c .with-node .ensures))
+    (omega (arith, goes-on (c .before .before)), found-next _ _ _ _ _ _ (c .before .node-at .ensures) (c .before .before .before .before .loop .inv .1) (c .with-node .ensures))
 
-as-two-requires-2 : tie.Need-as-two-requires-2 Inv-loop μ-loop
-as-two-requires-2 c κs = search needs
-
-returns-2 : tie.Need-returns-2 Inv-loop μ-loop
-returns-2 c =
+returns : tie.Need-returns Inv-loop μ-loop
+returns c =
     let l = c .before .before .loop in
-    let a = c .before .before .before .before .args in
-    let e : l .i ≡ nodeCount (a .words .now) = omega arith in
-    c .as-two2 .ensures _ (l .inv .1) ∙ ap (λ (k : ℕ). firstTwo (usersBelow (a .words .now) (a .x) k)) e
+    users-known _ _ (l .found) (l .i) _ (l .inv .0) (l .inv .1) (λ h. ltb-false _ 2 (rw (lt-ltb _ _ h) at (c .if1 .left)))
 
 pub lowest-users-spec : {M : Type 1} → statement M
 lowest-users-spec =
@@ -68,14 +57,10 @@ lowest-users-spec =
     Inv-loop
     μ-loop
     loop-holds
-    has-two-requires
-    as-two-requires
-    returns
     node-at-requires
     cast-with-node
     with-node-requires
     add-i
     loop-less
     loop-again
-    as-two-requires-2
-    returns-2)
+    returns)
