@@ -29,7 +29,7 @@ pub data FirstThatApplies (lim : TableLimits) (ws ls : List ℕ) : Verdict → T
   none : Whole lim ws ls → ((i : ℕ) → i < nodeCount ws → nodeFault lim ws ls i ≡ 0)
       → ((k : ℕ) → suc k < nodeCount ws → notNamedOnce ws ls k ≡ false) → FirstThatApplies lim ws ls accepted
 
--- "All operations that pass on a refusal hand these two on, 0 for every other number" than 8 (users-of-eight).
+-- Request S-2, of the two users: "0 for every other number" than 8 (users-of-eight).
 abbrev pub UsersOfEight : Type 0
 UsersOfEight =
     (lim : TableLimits) (ws ls : List ℕ) → (verdictWithin lim ws ls .number ≡ 8 → ⊥) → verdictWithin lim ws ls .users ≡ noUsers

@@ -82,7 +82,8 @@ nodeFault lim ws ls i =
 unfoldable pub notNamedOnce : List ℕ → List ℕ → ℕ → Bool
 notNamedOnce ws ls i = not (eqb (timesNamed (tableOf ws ls) i) 1)
 
--- "The tree test now also gives the two lowest nodes that name it, 0 and 0 if none does; a parent naming it twice stands twice."
+-- Request S-2: "The tree test now also gives the two lowest nodes that name it, 0 and 0 if none does; a parent naming it twice stands
+-- twice."
 unfoldable pub treeRefusal : List ℕ → List ℕ → ℕ → Verdict
 treeRefusal ws ls i = notATree i (firstTwo (users (tableOf ws ls) i))
 
