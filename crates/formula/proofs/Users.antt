@@ -1,7 +1,6 @@
 -- Laws of the list of a node's users (specs/Laws.antt).
 -- Assumes nothing.
-use mathlib.Core.Path.{_≡_, refl, sym, _∙_, ap, subst}
-use mathlib.Core.Bool.{Bool, true, false}
+use mathlib.Core.Path.{_≡_, sym, _∙_, ap, subst}
 use mathlib.Core.List.{List, _++_}
 use Prim.Native.Nat.{ℕ, zero, suc, _+_, _-_, _<_, _≤_}
 use native.Mathlib.Omega.{arith}
@@ -9,30 +8,15 @@ use native.Mathlib.Nat.{not-suc-le-zero}
 use lib.Dec.{eqb, ltb}
 use lib.ListN.{length, getD, replicate, length-append, length-replicate, getD-replicate, List·getD-append}
 use lib.Seq.{getD-append-add}
-use borrow.Author.Tests.{eqb-true, eqb-false, eq-eqb, ne-eqb, ltb-true, ltb-false, lt-ltb, le-ltb}
+use borrow.Author.Tests.{eqb-true, eqb-false, ne-eqb, ltb-true, ltb-false, lt-ltb, le-ltb}
 use Rattle.lists.specs.Choice.{pick, pick-yes, pick-no, Is, is-true, is-false, look}
 use Rattle.lists.specs.Members.{times, Ascending}
 use Rattle.lists.specs.Parts.{upTo, sum}
-use Rattle.lists.proofs.Members.{times-append, ascending-one}
+use Rattle.lists.proofs.Members.{times-append, times-replicate, ascending-one}
 use Rattle.lists.proofs.Parts.{length-upTo, sum-cong}
-use Rattle.formula.specs.Node.{Table, operands}
+use Rattle.formula.specs.Node.{operands}
 use Rattle.formula.specs.Tree.{users, timesNamed}
 use Rattle.formula.specs.Laws.{UsersRead, OneListOfUsers, UsersCounted}
-
-one-more : (b : Bool) (k r : ℕ) → r ≡ pick b k 0 → pick b 1 0 + r ≡ pick b (suc k) 0
-unfolding pick
-one-more true k r e = omega arith
-one-more false k r e = omega arith
-
-pick-zero : (b : Bool) → pick {A = ℕ} b 0 0 ≡ 0
-unfolding pick
-pick-zero true = refl
-pick-zero false = refl
-
-times-replicate : (k y x : ℕ) → times x (replicate k y) ≡ pick (eqb x y) k 0
-unfolding times
-times-replicate zero y x = sym (pick-zero (eqb x y))
-times-replicate (suc k) y x = one-more (eqb x y) k (times x (replicate k y)) (times-replicate k y x)
 
 -- The numbers below n, ascending, number j standing c j times.
 module _ (c : ℕ → ℕ) where

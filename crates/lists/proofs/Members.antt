@@ -7,7 +7,7 @@ use Prim.Native.Nat.{ℕ, zero, suc, _+_, _<_, _≤_}
 use native.Mathlib.Omega.{arith}
 use native.Mathlib.Nat.{le-of-suc-le-suc, not-suc-le-zero}
 use lib.Dec.{eqb}
-use lib.ListN.{length, getD}
+use lib.ListN.{length, getD, replicate}
 use borrow.Author.Tests.{eqb-true, eq-eqb, ne-eqb, not-true}
 use Rattle.lists.specs.Choice.{pick, pick-yes, pick-no, Is, is-true, is-false, look, clash, and-left, and-right, and-both, or-left, or-right, or-neither-left, or-neither-right, or-neither, absent, same-test}
 use Rattle.lists.specs.Members.{mem, all, distinct, times, place, Ascending}
@@ -176,6 +176,21 @@ times-append x (y ∷ xs) ys = omega (arith, times-append x xs ys)
 
 pub eqb-swap : (x y : ℕ) → eqb x y ≡ eqb y x
 eqb-swap x y = same-test (eqb x y) (eqb y x) (λ q. eq-eqb y x (sym (eqb-true x y q))) (λ q. eq-eqb x y (sym (eqb-true y x q)))
+
+one-more : (b : Bool) (k r : ℕ) → r ≡ pick b k 0 → pick b 1 0 + r ≡ pick b (suc k) 0
+unfolding pick
+one-more true k r e = omega arith
+one-more false k r e = omega arith
+
+pick-zero : (b : Bool) → pick {A = ℕ} b 0 0 ≡ 0
+unfolding pick
+pick-zero true = refl
+pick-zero false = refl
+
+pub times-replicate : (k y x : ℕ) → times x (replicate k y) ≡ pick (eqb x y) k 0
+unfolding times
+times-replicate zero y x = sym (pick-zero (eqb x y))
+times-replicate (suc k) y x = one-more (eqb x y) k (times x (replicate k y)) (times-replicate k y x)
 
 mem-times : (x : ℕ) (xs : List ℕ) → 0 < times x xs → mem x xs ≡ true
 mem-times x xs h = go (look (mem x xs))

@@ -2,10 +2,10 @@
 -- Assumes nothing.
 use mathlib.Core.Path.{_≡_, refl, sym, _∙_, ap, subst}
 use mathlib.Core.Bool.{Bool, true, false, not, _||_}
-use mathlib.Core.List.{List, [], _∷_, _++_, flatMap, append-assoc}
+use mathlib.Core.List.{List, [], _∷_, _++_, flatMap, append-assoc, append-nil}
 use Prim.Native.Nat.{ℕ, zero, suc, _+_, _≤_, _<_}
 use native.Mathlib.Omega.{arith}
-use native.Mathlib.Nat.{le-of-suc-le-suc, not-suc-le-zero}
+use native.Mathlib.Nat.{zero-add, suc-add, le-of-suc-le-suc, not-suc-le-zero}
 use lib.Dec.{ltb, eqb}
 use lib.ListN.{length, getD, length-append, List·getD-append}
 use lib.Seq.{getD-at}
@@ -101,6 +101,14 @@ module _ {ℓ} {A : Type ℓ} where
   unfolding upTo sum
   length-upTo g zero = refl
   length-upTo g (suc n) = length-append (upTo g n) (g n) ∙ ap (λ (k : ℕ). k + length (g n)) (length-upTo g n)
+
+  -- the parts up to m come first among those up to a higher number
+  pub upTo-split : (g : ℕ → List A) (m k : ℕ) → (rest : List A) × (upTo g (k + m) ≡ upTo g m ++ rest)
+  unfolding upTo
+  upTo-split g m zero = ([], rw (zero-add m) (sym (append-nil (upTo g m))))
+  upTo-split g m (suc k) =
+      let r = upTo-split g m k in
+      (r .0 ++ g (k + m), rw (suc-add k m) (ap (λ (xs : List A). xs ++ g (k + m)) (r .1) ∙ append-assoc (upTo g m) (r .0) (g (k + m))))
 
   pub length-each : (f : ℕ → A) (n : ℕ) → length (upTo (λ i. f i ∷ []) n) ≡ n
   unfolding upTo

@@ -1,10 +1,7 @@
 -- The answer of a reading holds a number and a position, and no users: refusal 8 is not among a reading's.
 -- Assumes nothing.
-use mathlib.Core.Bool.{_||_}
 use mathlib.Core.List.{List}
 use Prim.Native.Nat.{ℕ}
-use lib.Dec.{ltb}
-use lib.ListN.{length}
 use Rattle.refusals.specs.Verdict.{refusal, accepted, Plain}
 use Rattle.refusals.specs.Outcome.{Outcome, refused, done}
 use Rattle.refusals.specs.declared.Verdict.{Verdict}

@@ -1,6 +1,6 @@
 -- Laws of the nodes that a node names, and of how often the nodes of a table name each other.
 -- Assumes nothing.
-use mathlib.Core.Path.{_≡_, refl, sym, _∙_, ap, subst}
+use mathlib.Core.Path.{_≡_, refl, sym, _∙_, ap}
 use mathlib.Core.Bool.{true, false, not}
 use mathlib.Core.List.{List, [], _∷_}
 use Prim.Native.Nat.{ℕ, zero, suc, _+_, _-_, _≤_, _<_}
@@ -8,8 +8,8 @@ use native.Mathlib.Numerals.{add-one}
 use native.Mathlib.Omega.{arith}
 use lib.Dec.{eqb, ltb}
 use lib.ListN.{length, getD, set, replicate, length-replicate}
-use borrow.Author.Tests.{eqb-true, lt-ltb, le-ltb, eq-eqb, ne-eqb}
-use Rattle.lists.specs.Choice.{pick, pick-yes, pick-no, Is, is-true, is-false, look, clash}
+use borrow.Author.Tests.{lt-ltb, le-ltb, eq-eqb, ne-eqb}
+use Rattle.lists.specs.Choice.{pick, pick-yes, pick-no, clash}
 use Rattle.lists.specs.Search.{lowest}
 use Rattle.lists.specs.Members.{times}
 use Rattle.lists.specs.Parts.{sum}
@@ -17,7 +17,7 @@ use Rattle.lists.proofs.Search.{lowest-cong}
 use Rattle.lists.proofs.Parts.{sum-cong, pick-le}
 use Rattle.lists.proofs.Stores.{getD-filled, set-cases}
 use Rattle.formula.specs.Node.{operands}
-use Rattle.formula.specs.Words.{nodeCount, field, isBlockKind, wordsAt, nodeOf, nodeAt, tableOf}
+use Rattle.formula.specs.Words.{nodeCount, isBlockKind, wordsAt, nodeOf, nodeAt, tableOf}
 use Rattle.formula.specs.declared.NodeWords.{NodeWords}
 use Rattle.formula.specs.Tree.{timesNamed}
 use Rattle.formula.proofs.Nodes.{Kind, kind-of, kind-constant, kind-variable, kind-negation, kind-operator, kind-exists, kind-for-all, kind-none}

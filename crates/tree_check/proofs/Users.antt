@@ -3,8 +3,7 @@
 use mathlib.Core.Path.{_≡_, refl, sym, _∙_, ap}
 use mathlib.Core.Bool.{Bool, true, false, _&&_, _||_, or-false}
 use mathlib.Core.List.{List, [], _∷_, _++_, append-assoc, append-nil}
-use Prim.Native.Nat.{ℕ, zero, suc, _+_, _-_, _≤_, _<_}
-use native.Mathlib.Nat.{zero-add, suc-add}
+use Prim.Native.Nat.{ℕ, _+_, _-_, _≤_, _<_}
 use native.Mathlib.Omega.{arith}
 use lib.Dec.{eqb, ltb}
 use lib.ListN.{replicate, replicate-append-replicate}
@@ -13,7 +12,7 @@ use Rattle.lists.specs.Choice.{pick, Is, is-true, is-false, look}
 use Rattle.lists.specs.Members.{times}
 use Rattle.lists.specs.Parts.{upTo}
 use Rattle.lists.proofs.Overwrite.{upTo-next}
-use Rattle.lists.proofs.Parts.{upTo-cong}
+use Rattle.lists.proofs.Parts.{upTo-cong, upTo-split}
 use Rattle.formula.specs.Words.{nodeCount, isBlockKind, wordsAt, nodeAt, tableOf}
 use Rattle.formula.specs.declared.NodeWords.{NodeWords}
 use Rattle.formula.specs.Tree.{users}
@@ -31,27 +30,27 @@ two-first (a ∷ []) = refl
 two-first (a ∷ b ∷ us) = refl
 
 -- The first users of a list with one user more, by how many there were.
-pub more-none : (us : List ℕ) (i : ℕ) → firstUsers us .count ≡ 0 → record { count = 1; first = i; second = 0 } ≡ firstUsers (us ++ i ∷ [])
+more-none : (us : List ℕ) (i : ℕ) → firstUsers us .count ≡ 0 → record { count = 1; first = i; second = 0 } ≡ firstUsers (us ++ i ∷ [])
 unfolding firstUsers
 more-none [] i e = refl
 more-none (a ∷ []) i e = absurd (omega arith)
 more-none (a ∷ b ∷ us) i e = absurd (omega arith)
 
-pub more-one : (us : List ℕ) (i : ℕ) → firstUsers us .count ≡ 1 → record { count = 2; first = firstUsers us .first; second = i } ≡ firstUsers (us ++ i ∷ [])
+more-one : (us : List ℕ) (i : ℕ) → firstUsers us .count ≡ 1 → record { count = 2; first = firstUsers us .first; second = i } ≡ firstUsers (us ++ i ∷ [])
 unfolding firstUsers
 more-one [] i e = absurd (omega arith)
 more-one (a ∷ []) i e = refl
 more-one (a ∷ b ∷ us) i e = absurd (omega arith)
 
+-- two users stay the first, whatever comes after them
 two-stay : (us vs : List ℕ) → 2 ≤ firstUsers us .count → firstUsers us ≡ firstUsers (us ++ vs)
 unfolding firstUsers
 two-stay [] vs h = absurd (omega arith)
 two-stay (a ∷ []) vs h = absurd (omega arith)
 two-stay (a ∷ b ∷ us) vs h = refl
 
--- The users that node i is put to, if it is one.
+-- Node i put to a list of users if it is one, where f holds the first of the list.
 module _ (us : List ℕ) (names : Bool) (i : ℕ) (f : FirstUsers) (h : f ≡ firstUsers us) where
-  -- whether it is put to them
   put : names ≡ true → us ++ i ∷ [] ≡ us ++ replicate (pick names 1 0) i
   unfolding pick
   put e = rw e
@@ -123,23 +122,15 @@ module _ (ws : List ℕ) (x : ℕ) where
       ∙ ap (λ (w : NodeWords). firstUsers (usersBelow ws x i ++ replicate (times x (namedBy w)) i)) e
       ∙ ap firstUsers (sym (users-more i))
 
-  -- those below a node come first among those below a higher one
-  below-split : (m k : ℕ) → (vs : List ℕ) × (usersBelow ws x (k + m) ≡ usersBelow ws x m ++ vs)
-  unfolding usersBelow upTo
-  below-split m zero = ([], rw (zero-add m) (sym (append-nil (usersBelow ws x m))))
-  below-split m (suc k) =
-      let r = below-split m k in
-      let more = replicate (times x (namedBy (wordsAt ws (k + m)))) (k + m) in
-      (r .0 ++ more, rw (suc-add k m) (ap (λ (us : List ℕ). us ++ more) (r .1) ∙ append-assoc (usersBelow ws x m) (r .0) more))
-
   -- the first users below node i are those of all n nodes if these are passed, or two were found
   pub users-known : (f : FirstUsers) (i n : ℕ) → i ≤ n → f ≡ firstUsers (usersBelow ws x i) → (i < n → 2 ≤ f .count)
       → record { first = f .first; second = f .second } ≡ firstTwo (usersBelow ws x n)
+  unfolding usersBelow
   users-known f i n l h two = ap (λ (g : FirstUsers). record { first = g .first; second = g .second }) (h ∙ go (look (ltb i n))) ∙ two-first (usersBelow ws x n)
     where
       go : Is (ltb i n) → firstUsers (usersBelow ws x i) ≡ firstUsers (usersBelow ws x n)
       go (is-true t) =
-          let r = below-split i (n - i) in
+          let r = upTo-split (λ j. replicate (times x (namedBy (wordsAt ws j))) j) i (n - i) in
           let s : n - i + i ≡ n = omega arith in
           let c : 2 ≤ f .count = two (ltb-true i n t) in
           let e : f .count ≡ firstUsers (usersBelow ws x i) .count = ap (λ (g : FirstUsers). g .count) h in
