@@ -193,6 +193,7 @@ pub type CountAnswer = [u32; 5];
 /// Answers of reading a file as the C interface gives them.
 pub type WrittenAnswer = [u32; 4];
 
+/// The words of an answer of measuring or lifting.
 pub fn size_words(answer: Result<Sizes, Refusal>) -> SizesAnswer {
     match answer {
         Ok(s) => [
@@ -205,6 +206,7 @@ pub fn size_words(answer: Result<Sizes, Refusal>) -> SizesAnswer {
     }
 }
 
+/// The words of an answer of listing free variables.
 pub fn count_words(answer: Result<u32, Refusal>) -> CountAnswer {
     match answer {
         Ok(written) => [0, 0, 0, 0, written],
@@ -215,6 +217,7 @@ pub fn count_words(answer: Result<u32, Refusal>) -> CountAnswer {
     }
 }
 
+/// The words of an answer of reading.
 pub fn written_words(answer: Result<Written, Refusal>) -> WrittenAnswer {
     match answer {
         Ok(Written { words, entries }) => [0, 0, words, entries],

@@ -1,4 +1,4 @@
--- The shape of a table: which node names which (document 01, "The formula table").
+-- The shape of a table: which node names which (document 01, "The formula table"; users: request S-2).
 -- Assumes nothing.
 use mathlib.Core.Bool.{true}
 use mathlib.Core.List.{List}

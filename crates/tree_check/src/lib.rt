@@ -16,7 +16,8 @@ use formula::NodeWords;
 use refusals::Users;
 use refusals::Verdict;
 
-// Refusal 8, of a table whose nodes are named as often as `named` says.
+// Refusal 8, with the two lowest users of its node, of a table whose nodes are named as often as
+// `named` says.
 pub fn check_tree(words: &[u32], named: &[u16]) -> Verdict
     requires { ⌜ (0 < nodeCount (now words)) × (nodeCount (now words) ≤ limit) ⌝ }
     requires { ⌜ Counted (now words) (now named) (nodeCount (now words)) ⌝ }
