@@ -618,8 +618,9 @@ fn too_many(rng: &mut Rng) -> (Table, Refusal) {
 pub type Family = fn(usize) -> Table;
 
 /// The families of the benchmark.
-pub const FAMILIES: [(&str, Family); 8] = [
+pub const FAMILIES: [(&str, Family); 9] = [
     ("comparator chain", comparator_chain),
+    ("parity chain", parity_chain),
     ("deep nest", deep_nest),
     ("wide row of blocks", wide_row),
     ("climb", climb),
@@ -683,13 +684,25 @@ pub fn comparator_chain(nodes: usize) -> Table {
     )
 }
 
-/// One block in another, each with a variable of its own.
-pub fn deep_nest(nodes: usize) -> Table {
+/// One block in another, each over an operator of a variable of its own and
+/// the body so far: the deepest nest with an operator in each block.
+/// `truth_table` gives the operator's by the block's number from 1 up.
+fn nest(nodes: usize, truth_table: impl Fn(u32) -> u32) -> Table {
     repeated(nodes, 1, 3, |table, body, number| {
         let variable = table.variable(number);
-        let joined = table.operator(if number % 2 == 0 { 9 } else { 6 }, variable, body);
+        let joined = table.operator(truth_table(number), variable, body);
         table.block(5 + number % 2, &[number], joined)
     })
+}
+
+/// A parity chain with a block at each link: every operator is xor.
+pub fn parity_chain(nodes: usize) -> Table {
+    nest(nodes, |_| 6)
+}
+
+/// The same nest with biconditionals and xors in turn.
+pub fn deep_nest(nodes: usize) -> Table {
+    nest(nodes, |number| if number % 2 == 0 { 9 } else { 6 })
 }
 
 /// Blocks side by side, two variables each.
@@ -892,6 +905,7 @@ mod tests {
                 assert_eq!(sizes.map(|s| s.n as usize), Ok(nodes), "{name}");
             }
             let sizes = |table: Table| reference::measure(&table.words, &table.list).unwrap();
+            assert_eq!(sizes(parity_chain(nodes)).depth as usize, (nodes - 1) / 3);
             assert_eq!(sizes(bound_climb(nodes)), sizes(climb(nodes)));
             assert_eq!(sizes(one_number_nest(nodes)), sizes(climb(nodes)));
         }

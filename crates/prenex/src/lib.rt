@@ -15,7 +15,7 @@ ghost use Rattle.prenex_form.specs.Names.{highestNumber};
 ghost use Rattle.prenex_form.specs.Levels.{levels};
 ghost use Rattle.prenex_form.specs.Matrix.{writtenNodes};
 ghost use Rattle.arrays.specs.Held.{firstCopy, Definitions, Started, Placed, Chained, Bound};
-ghost use Rattle.scopes.specs.Passes.{BlockCounts};
+ghost use Rattle.block_counts.specs.Counting.{BlockCounts};
 ghost use Rattle.first_nodes.specs.Given.{Given, Counted};
 ghost use Rattle.prenex.specs.Arrays.{Room, Written};
 ghost use Rattle.refusals.specs.Outcome.{refused as refusedOf, done as doneOf};
@@ -31,13 +31,13 @@ ghost use Rattle.prenex.specs.Outcome.{
   FormWritten,
 };
 use acceptance::LIMIT;
+use block_counts::Counts;
 use names::NameCounter;
 use prefix_writer::PREFIX_WIDTH;
 use prenex_form::Sizes;
 use refusals::ACCEPTED;
 use refusals::BUFFER_TOO_SHORT;
 use refusals::Verdict;
-use scopes::Counts;
 
 // The verdict and the sizes.
 pub struct Answer {
@@ -97,11 +97,8 @@ fn measure_accepted(words: &[u32], list: &[u32]) -> Sizes
 {
     let mut parents = [0u32; LIMIT];
     let mut levels = [0u16; LIMIT];
-    sizes_of(
-        words,
-        list,
-        scopes::fill_scopes(words, list, &mut parents, &mut levels),
-    )
+    let pass = scopes::fill_scopes(words, list, &mut parents, &mut levels);
+    sizes_of(words, list, pass.counts)
 }
 
 // The sizes of a table whose counts are known.
@@ -169,8 +166,8 @@ fn lift_accepted(
 {
     let mut parents = [0u32; LIMIT];
     let mut levels = [0u16; LIMIT];
-    let counts = scopes::fill_scopes(words, list, &mut parents, &mut levels);
-    let sizes = sizes_of(words, list, counts);
+    let pass = scopes::fill_scopes(words, list, &mut parents, &mut levels);
+    let sizes = sizes_of(words, list, pass.counts);
     if nodes.len() < formula::WIDTH * (sizes.nodes as usize) {
         return short();
     }
@@ -188,7 +185,7 @@ fn lift_accepted(
         variables,
         &parents,
         &levels,
-        counts,
+        pass.counts,
     );
     done(sizes)
 }

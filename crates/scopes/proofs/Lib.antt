@@ -1,4 +1,3 @@
 pub mod Nodes
 pub mod Stores
 pub mod Scopes
-pub mod Counting

@@ -81,10 +81,10 @@ fn main() {
     }
     println!();
     println!(
-        "                            nodes   library  reference           growth of  growth of"
+        "                                   nodes   library  reference           growth of  growth of"
     );
     println!(
-        "family               nodes  written      us         us   ratio     library  reference"
+        "family               nodes  depth  written      us         us   ratio     library  reference"
     );
     for (name, family) in FAMILIES {
         let mut benches = NODES.map(|nodes| Bench::new(family(nodes)));
@@ -97,9 +97,11 @@ fn main() {
         for bench in &mut benches {
             let [library, plain] = bench.times.medians();
             let growth = growth(before, [library, plain]);
-            let Sizes { n, nodes, .. } = bench.sizes;
+            let Sizes {
+                n, depth, nodes, ..
+            } = bench.sizes;
             let line = format!(
-                "{name:<20} {n:>5} {nodes:>8} {library:>7.1} {plain:>10.1} {:>7.2} {growth}",
+                "{name:<20} {n:>5} {depth:>6} {nodes:>8} {library:>7.1} {plain:>10.1} {:>7.2} {growth}",
                 library / plain
             );
             println!("{}", line.trim_end());

@@ -95,7 +95,7 @@ write-form-requires c κs =
       parents-hold = f .ensures .0;
       levels-hold = f .ensures .1 .0;
     } in
-    (s .pre, (a, (f .ensures .1 .1, room)))
+    (s .pre, (a, (f .ensures .1 .1 .1, room)))
 
 done-requires : tie.Need-done-requires
 done-requires c κs = search needs

@@ -8,7 +8,7 @@ use Rattle.lists.proofs.Members.{mem-head}
 use Rattle.arrays.proofs.Nodes.{nodes-few}
 use Rattle.scopes.proofs.Nodes.{operand-lt, body-read}
 use Rattle.scopes.proofs.Scopes.{inherited-small, inner-own, root-filled, inner-filled}
-use Rattle.scopes.proofs.Counting.{root-counted, inner-counted, counted-small}
+use Rattle.block_counts.proofs.Counting.{root-counted, inner-counted, counted-small}
 use Rattle.scopes.proofs.fill_block.Statement.{statement}
 use Rattle.scopes.proofs.fill_block.Tie as tie
 
@@ -22,6 +22,11 @@ slice-read-inherited : tie.Need-slice-read-inherited
 slice-read-inherited c =
     let s = c .before .before .before .before .before .before in
     omega (arith, nodes-few (s .args .words .now) (s .args .list .now) (s .pre .0))
+
+add-level : tie.Need-add-level
+add-level c =
+    let s = c .before .before .before .before .before .before in
+    omega (arith, inherited-small (s .args .words .now) (s .args .list .now) (s .pre .0) (s .args .i) (s .pre .1 .0 .0) _ _ (s .pre .1 .1 .1 .0))
 
 add-if1 : tie.Need-add-if1
 add-if1 c = search needs
@@ -56,11 +61,6 @@ returns c =
     let z = c .before .before .before .before .before .before .before .before .if1 .taken in
     let d = c .before .before .before .before .before .hand-down .ensures in
     (root-filled (s .args .words .now) (s .args .list .now) (s .pre .0) (s .args .i) (s .pre .1 .0 .0) _ _ (s .pre .1 .1 .1 .0) _ _ _ (body-read (s .args .words .now) (s .args .list .now) (s .args .i) _ r (s .pre .1 .0 .1)) (s .pre .1 .0 .1) z (d .0) (d .1), rw (c .count-root .ensures) (root-counted (s .args .words .now) (s .args .list .now) (s .pre .0) (s .args .i) (s .pre .1 .0 .0) _ (s .pre .1 .1 .1 .1) _ r (s .pre .1 .0 .1) z))
-
-add-level : tie.Need-add-level
-add-level c =
-    let s = c .before .before .before .before .before .before .before in
-    omega (arith, inherited-small (s .args .words .now) (s .args .list .now) (s .pre .0) (s .args .i) (s .pre .1 .0 .0) _ _ (s .pre .1 .1 .1 .0))
 
 mul-levels : tie.Need-mul-levels
 mul-levels c = search needs
@@ -117,6 +117,7 @@ fill-block-spec =
     node-at-requires
     mul-inherited
     slice-read-inherited
+    add-level
     add-if1
     cast-hand-down
     hand-down-requires
@@ -124,7 +125,6 @@ fill-block-spec =
     same-length
     same-length-2
     returns
-    add-level
     mul-levels
     slice-write-levels
     cast-hand-down-2

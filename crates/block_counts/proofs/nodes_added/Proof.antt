@@ -1,11 +1,11 @@
--- `scopes::nodes_added` meets its contract.
+-- `block_counts::nodes_added` meets its contract.
 -- Assumes nothing.
 use mathlib.Core.Path.{sym}
 use borrow.Author.Needs.{needs}
 use borrow.Author.Tests.{eq-eqb, ne-eqb}
 use Rattle.lists.specs.Choice.{pick-yes, pick-no}
-use Rattle.scopes.proofs.nodes_added.Statement.{statement}
-use Rattle.scopes.proofs.nodes_added.Tie as tie
+use Rattle.block_counts.proofs.nodes_added.Statement.{statement}
+use Rattle.block_counts.proofs.nodes_added.Tie as tie
 
 returns : tie.Need-returns
 returns c = sym (pick-yes _ _ _ (eq-eqb _ _ (c .if1 .taken)))

@@ -27,8 +27,8 @@ use Rattle.prenex_form.specs.Sizes.{addedBy}
 use Rattle.prenex_form.proofs.Paths.{inner-is, not-inner, inner-root, parent-lt, parent-higher, level-root, level-step, level-le-levels}
 use Rattle.prenex_form.proofs.NameLaws.{none-bound, innerBound-le}
 use Rattle.arrays.proofs.Nodes.{from-here, accepted-tree, nodes-few, count-read}
-use Rattle.scopes.specs.declared.Counts.{Counts}
-use Rattle.scopes.specs.Passes.{withRoot, withInner, Small, CountsFrom, BlockCounts}
+use Rattle.block_counts.specs.declared.Counts.{Counts}
+use Rattle.block_counts.specs.Counting.{noBlocks, withRoot, withInner, Small, CountsFrom, BlockCounts}
 
 -- sums over the nodes below i
 ones-le : (p : ℕ → Bool) (n : ℕ) → sum (λ j. pick (p j) 1 0) n ≤ n
@@ -55,17 +55,17 @@ module _ (t : Table) where
   added-below zero = omega arith
   added-below (suc n) = let r = added-below n in omega (arith, added-by-le n)
 
-  pub counts-none : (c : Counts) → c .blocks ≡ 0 → c .bound ≡ 0 → c .inner ≡ 0 → c .«inner_bound» ≡ 0 → c .added ≡ 0 → c .deepest ≡ 0
-      → CountsFrom t (t .size) c
+  -- no node is passed yet
+  pub counts-none : CountsFrom t (t .size) noBlocks
   unfolding blockCount boundCount
-  counts-none c b q n m a d =
+  counts-none =
       record {
-        blocks-is = omega (arith, b);
-        bound-is = omega (arith, q);
-        inner-is = omega (arith, n);
-        inner-bound-is = omega (arith, m);
-        added-is = omega (arith, a);
-        deepest-le = omega (arith, d);
+        blocks-is = omega arith;
+        bound-is = omega arith;
+        inner-is = omega arith;
+        inner-bound-is = omega arith;
+        added-is = omega arith;
+        deepest-le = omega arith;
         deepest-from = λ x k l. absurd (omega arith);
       }
 

@@ -1,11 +1,11 @@
--- `scopes::count_inner` meets its contract.
+-- `block_counts::count_inner` meets its contract.
 -- Assumes nothing.
 use mathlib.Core.Path.{_≡_}
 use Prim.Native.Nat.{max}
 use native.Mathlib.Omega.{arith}
 use borrow.Author.Needs.{needs}
-use Rattle.scopes.proofs.count_inner.Statement.{statement}
-use Rattle.scopes.proofs.count_inner.Tie as tie
+use Rattle.block_counts.proofs.count_inner.Statement.{statement}
+use Rattle.block_counts.proofs.count_inner.Tie as tie
 
 add-c : tie.Need-add-c
 add-c c = search needs
