@@ -24,10 +24,12 @@ pub struct Pass {
 }
 
 // The parent block and the level of each node, the number of nodes visited, and the counts. Each node
-// hands down to its operands, so one pass from the root down suffices, and nothing climbs.
+// hands down to its operands, so one pass from the root down suffices, and nothing climbs. The contract
+// has each node's level by its definition on the node's path (`level`), and the visits as the number of
+// nodes.
 //
-// The contract rules out a pass that skips a node and one that counts a node twice; and one that adds
-// a level at the root block and one that takes the level of another node than the parent.
+// It rules out a pass that skips a node, one that counts a node twice, one that adds a level at the
+// root block, and one that takes the level of another node than the parent.
 pub fn fill_scopes(words: &[u32], list: &[u32], parents: &mut [u32], levels: &mut [u16]) -> Pass
     requires { ⌜ verdict (now words) (now list) ≡ accepted ⌝ }
     requires { ⌜ (length (now parents) ≡ limit) × (length (now levels) ≡ limit) ⌝ }
@@ -91,7 +93,8 @@ fn fill_node(
     Pass { visited, counts }
 }
 
-// The same of a block: it is its body's parent block, and an inner one is one level below its parent.
+// The same of a block, but for the visit: it is its body's parent block. An inner one is one level below
+// its parent; the root adds no level.
 fn fill_block(
     words: &[u32],
     list: &[u32],
