@@ -107,8 +107,8 @@ pub fn form_value(
     }
 }
 
-/// The numbers with a free occurrence: a variable node that no block above it
-/// covers.
+/// The free variables: numbers with a free occurrence, which is a variable node
+/// that no block above it covers.
 pub fn free_occurrences(words: &[u32], list: &[u32]) -> BTreeSet<u32> {
     // The nearest block above each node: nodes are named by higher ones.
     let mut above = vec![None; words.len() / WIDTH];

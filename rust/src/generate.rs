@@ -183,6 +183,19 @@ impl Profile {
             ..Profile::random(rng, nodes)
         }
     }
+
+    /// Few numbers and many small blocks: most numbers are free in one place
+    /// and bound in another.
+    pub fn few_numbers(rng: &mut Rng, nodes: usize) -> Profile {
+        let many = rng.between(1, 3 + nodes / 12) as u32;
+        let highest = rng.pick(&[many, 4095, 4096, 4096 + many / 2, HIGHEST]);
+        Profile {
+            numbers: (highest + 1 - many..=highest).collect(),
+            weights: rng.pick(&[[2, 1, 2, 2], [3, 0, 3, 5], [2, 1, 2, 8]]),
+            most_count: rng.between(1, 3),
+            ..Profile::random(rng, nodes)
+        }
+    }
 }
 
 /// Different variable numbers: the lowest, the highest, or spread out.
@@ -618,7 +631,7 @@ fn too_many(rng: &mut Rng) -> (Table, Refusal) {
 pub type Family = fn(usize) -> Table;
 
 /// The families of the benchmark.
-pub const FAMILIES: [(&str, Family); 9] = [
+pub const FAMILIES: [(&str, Family); 10] = [
     ("comparator chain", comparator_chain),
     ("parity chain", parity_chain),
     ("deep nest", deep_nest),
@@ -626,9 +639,13 @@ pub const FAMILIES: [(&str, Family); 9] = [
     ("climb", climb),
     ("row, one number", one_number_row),
     ("row, leaves first", leaves_first_row),
+    ("row, also free", also_free_row),
     ("climb, leaves bound", bound_climb),
     ("nest, one number", one_number_nest),
 ];
+
+/// One family more for listing free variables, with the highest numbers.
+pub const HIGH_LEAVES: (&str, Family) = ("free leaves, high", high_leaves);
 
 /// Puts nots on the root until the table has `nodes` nodes.
 fn fill_up(mut table: Table, nodes: usize) -> Table {
@@ -740,6 +757,18 @@ pub fn leaves_first_row(nodes: usize) -> Table {
     fill_up(table, nodes)
 }
 
+/// Blocks side by side that all bind the same number, and between them leaves
+/// where it is free.
+pub fn also_free_row(nodes: usize) -> Table {
+    repeated(nodes, 1, 5, |table, row, _| {
+        let bound = table.variable(1);
+        let block = table.block(5, &[1], bound);
+        let row = table.operator(8, row, block);
+        let free = table.variable(1);
+        table.operator(8, row, free)
+    })
+}
+
 /// Many leaves under a nest of blocks: half of the nodes are blocks. `leaf`
 /// gives the number at each leaf from 0 up, `bound` the one that each block
 /// from 1 up binds.
@@ -797,16 +826,21 @@ pub fn largest_form() -> Table {
     table
 }
 
-/// As many leaves as a table can have, all of them free variables with numbers
-/// of their own, the highest there are.
-pub fn most_free_variables() -> Table {
+/// As many leaves as there may be, all of them free variables with numbers of
+/// their own, the highest there are.
+pub fn high_leaves(nodes: usize) -> Table {
     let mut table = Table::default();
     let mut joined = table.variable(HIGHEST);
-    for k in 1..LIMIT as u32 / 2 {
+    for k in 1..=(nodes as u32 - 1) / 2 {
         let leaf = table.variable(HIGHEST - k);
         joined = table.operator(6, joined, leaf);
     }
-    table
+    fill_up(table, nodes)
+}
+
+/// A table with the most free variables.
+pub fn most_free_variables() -> Table {
+    high_leaves(LIMIT - 1)
 }
 
 #[cfg(test)]
@@ -899,7 +933,7 @@ mod tests {
     #[test]
     fn families_have_the_nodes_asked_for() {
         for nodes in [1024, 2048, 4096] {
-            for (name, family) in FAMILIES {
+            for (name, family) in FAMILIES.into_iter().chain([HIGH_LEAVES]) {
                 let table = family(nodes);
                 let sizes = reference::measure(&table.words, &table.list);
                 assert_eq!(sizes.map(|s| s.n as usize), Ok(nodes), "{name}");
@@ -908,6 +942,7 @@ mod tests {
             assert_eq!(sizes(parity_chain(nodes)).depth as usize, (nodes - 1) / 3);
             assert_eq!(sizes(bound_climb(nodes)), sizes(climb(nodes)));
             assert_eq!(sizes(one_number_nest(nodes)), sizes(climb(nodes)));
+            assert_eq!(sizes(also_free_row(nodes)).b as usize, (nodes - 1) / 5);
         }
     }
 }

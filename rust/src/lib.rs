@@ -180,8 +180,8 @@ pub fn lift(
     sizes(answer)
 }
 
-/// Writes the numbers that stand at a variable node and in no block's range,
-/// ascending, and says how many they are.
+/// Writes the numbers with a variable node that no block above it covers,
+/// ascending and once each, and says how many they are.
 pub fn free_variables(words: &[u32], list: &[u32], names: &mut [u32]) -> Result<u32, Refusal> {
     let mut answer = CountAnswer::default();
     raw::free_variables(words, list, names, &mut answer);

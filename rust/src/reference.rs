@@ -45,6 +45,14 @@ impl NumberSet {
         *word |= bit;
         new
     }
+
+    fn remove(&mut self, number: u32) {
+        self.0[number as usize / 64] &= !(1 << (number % 64));
+    }
+
+    fn contains(&self, number: u32) -> bool {
+        self.0[number as usize / 64] >> (number % 64) & 1 == 1
+    }
 }
 
 /// What checking a table finds out on its way.
@@ -531,29 +539,73 @@ fn write_prefix(
     }
 }
 
-/// Writes the numbers that stand at a variable node and in no block's range,
-/// ascending, and says how many they are.
-pub fn free_variables(words: &[u32], list: &[u32], names: &mut [u32]) -> Result<u32, Refusal> {
-    let table = check(words, list)?.table;
-    let mut free = NumberSet::new();
-    for &[kind, number, _, _] in table {
-        if kind == VARIABLE {
-            free.insert(number);
-        }
-    }
-    for &[kind, first, count, _] in table {
-        if kind == EXISTS || kind == FOR_ALL {
-            for &number in &list[first as usize..][..count as usize] {
-                free.0[number as usize / 64] &= !(1 << (number % 64));
+/// Calls `found` with the number at each variable node that no block above it
+/// covers.
+fn each_free_leaf(summary: &Summary, list: &[u32], mut found: impl FnMut(u32)) {
+    let table = summary.table;
+    if summary.sizes.b == 0 {
+        for &[kind, number, _, _] in table {
+            if kind == VARIABLE {
+                found(number);
             }
         }
+        return;
     }
-    let written: u32 = free.0.iter().map(|word| word.count_ones()).sum();
+    // From the root down, with the numbers that the blocks above cover at hand:
+    // as a set, and in the order in which they came to it.
+    let mut covered = NumberSet::new();
+    let mut order = Vec::with_capacity(summary.sizes.q as usize);
+    // Left operands to come, each with how many numbers are covered above it.
+    let mut lefts = Vec::with_capacity(table.len() / 2);
+    let mut i = table.len() as u32 - 1;
+    loop {
+        let [kind, a, b, c] = table[i as usize];
+        i = match kind {
+            NOT => a,
+            OPERATOR => {
+                lefts.push((b, order.len() as u32));
+                c
+            }
+            EXISTS | FOR_ALL => {
+                for &number in &list[a as usize..][..b as usize] {
+                    if covered.insert(number) {
+                        order.push(number);
+                    }
+                }
+                c
+            }
+            _ => {
+                if kind == VARIABLE && !covered.contains(a) {
+                    found(a);
+                }
+                let Some((left, above)) = lefts.pop() else {
+                    return;
+                };
+                for &number in &order[above as usize..] {
+                    covered.remove(number);
+                }
+                order.truncate(above as usize);
+                left
+            }
+        };
+    }
+}
+
+/// Writes the numbers with a variable node that no block above it covers,
+/// ascending and once each, and says how many they are.
+pub fn free_variables(words: &[u32], list: &[u32], names: &mut [u32]) -> Result<u32, Refusal> {
+    let summary = check(words, list)?;
+    let mut free = NumberSet::new();
+    let mut written = 0;
+    each_free_leaf(&summary, list, |number| {
+        written += u32::from(free.insert(number));
+    });
     if names.len() < written as usize {
         return Err(Reason::BufferTooShort.at(0));
     }
     let mut out = names.iter_mut();
-    for (i, &word) in free.0.iter().enumerate() {
+    let used = &free.0[..=summary.highest as usize / 64];
+    for (i, &word) in used.iter().enumerate() {
         let mut left = word;
         while left != 0 {
             *out.next().expect("counted above") = 64 * i as u32 + left.trailing_zeros();

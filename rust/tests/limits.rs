@@ -3,10 +3,11 @@
 mod common;
 
 use common::{assert_free_variables, assert_same, reference_form, reference_free_variables};
-use common::{library_measure, Prefill, LIBRARY_FREE_VARIABLES, LIBRARY_LIFT, TOO_SHORT};
+use common::{each, library_measure, some_nodes};
+use common::{Prefill, LIBRARY_FREE_VARIABLES, LIBRARY_LIFT, TOO_SHORT};
 use std::thread;
 use wakubinryo::answer::{count_words, size_words};
-use wakubinryo::generate::{largest_form, most_free_variables, Table};
+use wakubinryo::generate::{accepted, largest_form, most_free_variables, Profile, Table};
 use wakubinryo::{PrenexForm, Sizes};
 
 #[test]
@@ -47,6 +48,32 @@ fn the_most_free_variables() {
         assert_free_variables(call, &table, 2047, prefill, Err(TOO_SHORT), &[]);
     }
     assert!(assert_same(&table, &Prefill::ALL, 3).is_ok());
+}
+
+/// No more than (n + 1) / 2 of n nodes are leaves, so a buffer for that many
+/// names is always long enough.
+#[test]
+fn one_free_variable_in_two_nodes() {
+    let mut full = 0;
+    each("tables by their leaves", 10_000, |rng, number| {
+        let nodes = some_nodes(rng, number);
+        let profile = Profile::random(rng, nodes);
+        let table = accepted(rng, &profile);
+        let (answer, names) = reference_free_variables(&table);
+        let most = nodes.div_ceil(2);
+        assert!(names.len() <= most, "{} of {nodes} nodes", names.len());
+        let prefill = Prefill::ALL[number as usize % 4];
+        assert_free_variables(
+            LIBRARY_FREE_VARIABLES,
+            &table,
+            most,
+            prefill,
+            answer,
+            &names,
+        );
+        full += u32::from(names.len() == most);
+    });
+    assert!(full > 300, "only {full} with as many as there may be");
 }
 
 /// The stack that include/wakubinryo.h says is enough for a call.

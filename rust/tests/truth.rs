@@ -11,36 +11,50 @@ use wakubinryo::{free_variables, measure, prenex_form, PrenexForm, WIDTH};
 /// The number of variables that brute force is asked to go through.
 const MOST: usize = 16;
 
-/// Compares the values of table and form under all valuations of the numbers
-/// with a free occurrence. False if there were too many variables.
-fn assert_same_truth(table: &Table) -> bool {
+/// The free variables that the library lists, which are those of the
+/// definition.
+fn listed(table: &Table) -> BTreeSet<u32> {
+    let mut names = vec![0; 4096];
+    let written = free_variables(&table.words, &table.list, &mut names).expect("accepted");
+    names.truncate(written as usize);
+    let expected = brute::free_occurrences(&table.words, &table.list);
+    assert!(names.iter().eq(&expected), "{names:?}: {table:?}");
+    expected
+}
+
+/// Compares the values of table and form under all valuations of the free
+/// variables, and gives the numbers on which they depend. None if there were
+/// too many variables.
+fn assert_same_truth(table: &Table) -> Option<BTreeSet<u32>> {
     let form = prenex_form(&table.words, &table.list).expect("accepted");
-    let free: Vec<u32> = brute::free_occurrences(&table.words, &table.list)
-        .into_iter()
-        .collect();
+    let free = listed(table);
     let at_nodes = brute::variables_at_nodes(&table.words);
     let of_table: Vec<u32> = at_nodes.iter().copied().collect();
     let of_form: Vec<u32> = brute::variables_at_nodes(&form.nodes).into_iter().collect();
     if of_table.len() > MOST || of_form.len() > MOST {
-        return false;
+        return None;
     }
     let table_truth = brute::table_function(&table.words, &table.list, &of_table);
     let form_truth = brute::form_function(&form.nodes, &form.prefix, &form.variables, &of_form);
-    for valuation in brute::valuations(&free) {
+    let over: Vec<u32> = free.iter().copied().collect();
+    for valuation in brute::valuations(&over) {
         assert_eq!(
             table_truth.value(&valuation),
             form_truth.value(&valuation),
             "under {valuation:?}: {table:?}"
         );
     }
-    // What is given to any other number changes neither.
-    for &variable in of_table.iter().chain(&of_form) {
-        if !free.contains(&variable) {
-            assert!(!table_truth.depends_on(variable));
-            assert!(!form_truth.depends_on(variable));
-        }
-    }
-    true
+    // What is given to a number that is not listed changes neither value.
+    let of_both = of_table.into_iter().chain(of_form);
+    let relevant: BTreeSet<u32> = of_both
+        .filter(|&variable| {
+            let relevant = table_truth.depends_on(variable);
+            assert_eq!(relevant, form_truth.depends_on(variable));
+            relevant
+        })
+        .collect();
+    assert!(relevant.is_subset(&free), "{relevant:?}: {table:?}");
+    Some(relevant)
 }
 
 /// Size bounds and shape of the form that the library writes.
@@ -95,39 +109,42 @@ fn assert_well_formed(table: &Table) {
     assert!(bound.is_disjoint(&brute::variables_at_nodes(&table.words)));
     assert!(bound.is_disjoint(&brute::variables_in_ranges(&table.words, &table.list)));
 
-    // The form's other variables are those with a free occurrence in the table.
+    // The form's other variables are the table's free variables.
     let free = &brute::variables_at_nodes(&nodes) - &bound;
     assert_eq!(free, brute::free_occurrences(&table.words, &table.list));
-}
-
-/// The free variables as the definition says.
-fn assert_free_variables(table: &Table) {
-    let expected = &brute::variables_at_nodes(&table.words)
-        - &brute::variables_in_ranges(&table.words, &table.list);
-    let mut names = vec![0; 4096];
-    let written = free_variables(&table.words, &table.list, &mut names).expect("accepted");
-    assert!(names[..written as usize].iter().eq(&expected));
 }
 
 #[test]
 fn truth_is_kept() {
     let mut compared = 0;
     let mut with_blocks = 0;
+    let mut free_and_bound = 0;
+    let mut relevant_and_bound = 0;
     each("tiny tables", 60_000, |rng, _| {
         let profile = Profile::tiny(rng);
         let table = accepted(rng, &profile);
         assert_well_formed(&table);
-        assert_free_variables(&table);
-        if assert_same_truth(&table) {
+        let bound = brute::variables_in_ranges(&table.words, &table.list);
+        free_and_bound += u32::from(!listed(&table).is_disjoint(&bound));
+        if let Some(relevant) = assert_same_truth(&table) {
             compared += 1;
             let sizes = measure(&table.words, &table.list).expect("accepted");
             with_blocks += u32::from(sizes.b > 1);
+            relevant_and_bound += u32::from(!relevant.is_disjoint(&bound));
         }
     });
     assert!(compared > 45_000, "only {compared} compared");
     assert!(
         with_blocks > 15_000,
         "only {with_blocks} with several blocks"
+    );
+    assert!(
+        free_and_bound > 15_000,
+        "only {free_and_bound} with a number both free and bound"
+    );
+    assert!(
+        relevant_and_bound > 6_000,
+        "only {relevant_and_bound} depend on a number both free and bound"
     );
 }
 
@@ -152,11 +169,11 @@ fn truth_is_kept_below_every_operator() {
                     let l = side(left, kinds[0], 0);
                     let r = side(right, kinds[1], 1);
                     let body = table.push([4, truth_table, l, r]);
-                    assert!(assert_same_truth(&table));
+                    assert!(assert_same_truth(&table).is_some());
                     // The same below a quantifier over what was free.
                     table.list.push(1);
                     table.push([kinds[1], 2, 1, body]);
-                    assert!(assert_same_truth(&table));
+                    assert!(assert_same_truth(&table).is_some());
                 }
             }
         }
@@ -206,12 +223,12 @@ fn large_forms_are_well_formed() {
         let profile = Profile::random(rng, nodes);
         let table = accepted(rng, &profile);
         assert_well_formed(&table);
-        assert_free_variables(&table);
+        listed(&table);
     });
     for (name, family) in FAMILIES {
         let _case = Case(name, 4096);
         assert_well_formed(&family(4096));
-        assert_free_variables(&family(4096));
+        listed(&family(4096));
     }
     assert_well_formed(&largest_form());
 }

@@ -74,7 +74,7 @@ module _ {ws ls : List ℕ} {i start first n : ℕ} (b : BlockAt ws ls i start f
   unfolding tableOf bound
   bound-by = rw (b .first-is, b .count-is) (ap bound (node-block ws ls i (b .is-block)))
 
-  counted : count t i ≡ n
+  pub counted : count t i ≡ n
   unfolding count
   counted = ap length bound-by ∙ range-length ls first n fits
 

@@ -4,5 +4,6 @@ pub mod Opened
 pub mod Blocks
 pub mod Search
 pub mod Todo
+pub mod Steps
 pub mod Walked
 pub mod Outside

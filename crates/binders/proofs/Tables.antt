@@ -7,8 +7,9 @@ use Prim.Native.Nat.{ℕ, _+_, _*_, _≤_, _<_}
 use native.Mathlib.Omega.{arith}
 use lib.ListN.{length}
 use Rattle.lists.specs.Choice.{clash, Is, is-true, is-false, look}
-use Rattle.formula.specs.Node.{Node, constant, variable, negation, operator, block, isBlock}
+use Rattle.formula.specs.Node.{Node, constant, variable, negation, operator, block, isBlock, bound}
 use Rattle.formula.specs.Words.{width, nodeCount, field, nodeAt, tableOf}
+use Rattle.formula.specs.Tree.{count}
 use Rattle.formula.proofs.Nodes.{node-variable}
 use Rattle.refusals.specs.Verdict.{accepted}
 use Rattle.acceptance.specs.Verdict.{verdict}
@@ -42,6 +43,11 @@ module _ (ws ls : List ℕ) (i : ℕ) where
 
   pub kind-no-block : field ws i 0 ≡ 2 → isBlock (nodeAt ws ls i) ≡ false
   kind-no-block e = variable-no-block (nodeAt ws ls i) (field ws i 1) (node-variable ws ls i e)
+
+  -- a variable node binds nothing
+  pub kind-none : field ws i 0 ≡ 2 → 0 ≡ count (tableOf ws ls) i
+  unfolding count tableOf bound
+  kind-none e = sym (ap (λ (nd : Node). length (bound nd)) (node-variable ws ls i e))
 
   pub kind-block : (field ws i 0 ≡ 2 → ⊥) → isMember (nodeAt ws ls i) ≡ true → isBlock (nodeAt ws ls i) ≡ true
   kind-block n h = go (look (isBlock (nodeAt ws ls i)))

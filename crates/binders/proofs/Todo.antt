@@ -2,7 +2,7 @@
 -- Assumes nothing.
 use mathlib.Core.Path.{_≡_, refl, sym, _∙_, ap, subst}
 use mathlib.Core.Bool.{Bool, true, false}
-use mathlib.Core.List.{List, [], _∷_, _++_, append-assoc}
+use mathlib.Core.List.{List, [], _∷_, _++_, append-assoc, append-nil}
 use Prim.Native.Nat.{ℕ, zero, suc, _+_, _≤_, _<_}
 use native.Mathlib.Omega.{arith}
 use lib.Dec.{ltb}
@@ -60,11 +60,11 @@ module _ (t : Table) (tree : Tree t) where
       let l = enclosing-higher t tree b (ltb-true b (t .size) e) in
       ap (λ (r : List ℕ). b ∷ (rest t (enclosing t b) (suc b) ++ r)) (around-fuel f g (enclosing t b) (omega arith) (omega arith)))
 
-  within-once : (i : ℕ) → i < t .size → isBlock (t .node i) ≡ false → within (t .size) t i ≡ i ∷ []
+  pub within-once : (i : ℕ) → i < t .size → isBlock (t .node i) ≡ false → within (t .size) t i ≡ i ∷ []
   unfolding within
   within-once i h e = within-fuel (t .size) (suc (t .size)) i h (omega arith) ∙ pick-no _ _ _ e
 
-  within-block : (i : ℕ) → i < t .size → isBlock (t .node i) ≡ true → within (t .size) t i ≡ i ∷ (rest t i 0 ++ (i ∷ []))
+  pub within-block : (i : ℕ) → i < t .size → isBlock (t .node i) ≡ true → within (t .size) t i ≡ i ∷ (rest t i 0 ++ (i ∷ []))
   unfolding within rest
   within-block i h e = within-fuel (t .size) (suc (t .size)) i h (omega arith) ∙ pick-yes _ _ _ e
 
@@ -189,6 +189,13 @@ module _ (t : Table) (tree : Tree t) where
       let m : mem i (rest t (p .scope) 0) ≡ true =
       subst (λ b. mem i (rest t b 0) ≡ true) (sym s) (climb (t .size) i i (omega arith) h e (within-self i h)) in
       mem-left i _ _ (subst (λ r. mem i r ≡ true) (sym (rest-link (p .scope) 0 (p .link) l)) m)
+
+  pub todo-start : (p : Place) → p .scope ≡ t .size → p .link ≡ link (member t (p .scope)) 0 (t .size) → todo t p ≡ rest t (t .size) 0
+  unfolding todo
+  todo-start p s l =
+      ap (λ (r : List ℕ). r ++ around (t .size) t (p .scope)) (rest-link (p .scope) 0 (p .link) l)
+      ∙ ap (λ (r : List ℕ). rest t (p .scope) 0 ++ r) (around-end (p .scope) (omega arith))
+      ∙ append-nil (rest t (p .scope) 0) ∙ ap (λ (b : ℕ). rest t b 0) s
 
   pub todo-end : (p : Place) → p .scope ≡ t .size → p .link ≡ 0 → todo t p ≡ []
   unfolding todo from

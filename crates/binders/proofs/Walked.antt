@@ -14,19 +14,23 @@ use Rattle.lists.specs.Choice.{Is, is-true, is-false, look, clash, or-cases, an
 use Rattle.lists.specs.Members.{mem}
 use Rattle.formula.specs.Node.{variable, Table, isBlock}
 use Rattle.formula.specs.Words.{width, nodeCount, field, nodeAt, tableOf}
-use Rattle.formula.specs.Tree.{Tree, boundBelow}
+use Rattle.formula.specs.Tree.{Tree, count, boundBelow}
 use Rattle.acceptance.specs.Limits.{limit}
 use Rattle.acceptance.proofs.Accepted.{accepted-holds}
+use Rattle.prenex_form.specs.Names.{boundCount}
+use Rattle.prenex_form.proofs.Limits.{bound-limit}
 use Rattle.arrays.specs.Link.{link}
 use Rattle.arrays.specs.Held.{enclosing, isMember, member, boundEntry, Bindings}
 use Rattle.arrays.proofs.Link.{link-le, link-some}
 use Rattle.arrays.proofs.Enclosing.{enclosing-le, enclosing-block}
 use Rattle.arrays.proofs.Members.{block-member}
+use Rattle.arrays.proofs.Entries.{boundBelow-end}
 use Rattle.binders.specs.declared.Place.{Place}
 use Rattle.binders.specs.Scope.{Open}
-use Rattle.binders.specs.Walk.{Scopes, todo, Walking, Unfinished}
-use Rattle.binders.proofs.Tables.{variable-no-block, variable-member, kind-no-block, node-within}
+use Rattle.binders.specs.Walk.{Scopes, todo, Walking, Unfinished, stepsLeft, walkSteps}
+use Rattle.binders.proofs.Tables.{variable-no-block, variable-member, kind-no-block, kind-none, node-within}
 use Rattle.binders.proofs.Todo.{todo-leave, todo-pass, todo-enter, todo-all, todo-end}
+use Rattle.binders.proofs.Steps.{walkSteps-le, steps-next, steps-start, steps-end}
 
 -- every variable node has its binding or is still to come by
 abbrev Known : Table → List ℕ → List ℕ → Type 0
@@ -48,9 +52,6 @@ known-next t bs cs left left' h e here other known i x l v = go (look (eqb i h))
     go (is-false q) (inr k) =
         let m : (eqb i h || mem i left') ≡ true = subst (λ (r : List ℕ). mem i r ≡ true) e k in
         inr (or-cases (eqb i h) (mem i left') m (λ y. clash y q) (λ y. y))
-
-shorter : (left left' : List ℕ) (h : ℕ) → left ≡ h ∷ left' → length left' < length left
-shorter left left' h e = rw e (omega arith)
 
 -- Node i is one of the table's, so each array has a place for it.
 pub record Indexed (ws parents firsts nexts starts : List ℕ) (i : ℕ) : Type 0 where
@@ -81,10 +82,11 @@ module _ (ws ls : List ℕ) (q : Place) (b j : ℕ) (s : q .scope ≡ b) (l : q 
         found = k;
       }
 
--- What a step from p to q comes to.
+-- What a step from p to q comes to: the steps that it takes are no longer left.
 abbrev pub Stepped : List ℕ → List ℕ → List ℕ → List ℕ → List ℕ → Place → Place → Type 0
 Stepped ws ls bindings heads links p q =
-    Walking ws ls bindings heads links q × (length (todo (tableOf ws ls) q) < length (todo (tableOf ws ls) p))
+    Walking ws ls bindings heads links q
+    × ((q .steps + stepsLeft (tableOf ws ls) q ≡ p .steps + stepsLeft (tableOf ws ls) p) × (p .steps < q .steps))
 
 -- What a place tells: the block that it leaves, or the node that it comes by.
 module _ {ws ls bindings heads links : List ℕ} {p : Place} (w : Walking ws ls bindings heads links p) where
@@ -145,27 +147,28 @@ module _ {ws ls parents firsts nexts starts : List ℕ} (s : Scopes ws ls parent
   -- A step from p to q, where the working arrays change so that they hold the entries of q's scope.
   module _ {bindings heads links : List ℕ} {p : Place} (w : Walking ws ls bindings heads links p) (q : Place) where
     -- at the end of a scope
-    pub leaves : {heads' links' : List ℕ} → p .link ≡ 0 → p .scope < nodeCount ws → q .scope ≡ getD parents (p .scope) 0
-        → q .link ≡ getD nexts (p .scope) 0 → Open (tableOf ws ls) (enclosing (tableOf ws ls) (p .scope)) 0 heads' links'
+    pub leaves : {heads' links' : List ℕ} (taken : ℕ) → p .link ≡ 0 → p .scope < nodeCount ws → q .scope ≡ getD parents (p .scope) 0
+        → q .link ≡ getD nexts (p .scope) 0 → q .steps ≡ p .steps + 1 + taken → taken ≡ count (tableOf ws ls) (p .scope)
+        → Open (tableOf ws ls) (enclosing (tableOf ws ls) (p .scope)) 0 heads' links'
         → Stepped ws ls bindings heads' links' p q
     unfolding tableOf
-    leaves z h a b o =
+    leaves taken z h a b n c o =
         let e = w .scope-block h in
         let s = a ∙ parent-scope (p .scope) h in
         let l = b ∙ next-link (p .scope) h (block-member _ e) in
         let d = todo-leave (tableOf ws ls) tree p q z h s (linked ws ls q _ _ s l) in (
           at-place ws ls q _ _ s l (w .bindings-length) (enclosing-le (tableOf ws ls) tree (p .scope)) (enclosing-block (tableOf ws ls) tree (p .scope)) o
               (known-next (tableOf ws ls) bindings bindings _ _ (p .scope) d (λ x v. clash e (variable-no-block _ x v)) (λ i n. refl) (w .found)),
-          shorter _ _ _ d,
+          steps-next (tableOf ws ls) p q (p .scope) taken d c n,
         )
 
     module _ {i : ℕ} (at : p .link ≡ suc i) where
       -- past a variable node, whose binding is r
       pub passes : (r : ℕ) → field ws i 0 ≡ 2 → ((x : ℕ) → nodeAt ws ls i ≡ variable x → r ≡ boundEntry (tableOf ws ls) i x)
-          → q .scope ≡ p .scope → q .link ≡ getD nexts i 0
+          → q .scope ≡ p .scope → q .link ≡ getD nexts i 0 → q .steps ≡ p .steps + 1
           → Stepped ws ls (set bindings i r) heads links p q
       unfolding tableOf
-      passes r k f s b =
+      passes r k f s b n =
           let h = link-lt w at in
           let l : q .link ≡ link (member (tableOf ws ls) (p .scope)) (suc i) (tableOf ws ls .size) =
           b ∙ next-link i h (link-is-member w at) ∙ ap (λ (c : ℕ). link (member (tableOf ws ls) c) (suc i) (tableOf ws ls .size)) (link-scope w at) in
@@ -174,20 +177,20 @@ module _ {ws ls parents firsts nexts starts : List ℕ} (s : Scopes ws ls parent
             at-place ws ls q _ _ s l (length-set bindings i r ∙ w .bindings-length) (w .scope-le) (w .scope-block)
                 (w .opened)
                 (known-next (tableOf ws ls) bindings (set bindings i r) _ _ i d (λ x v. getD-set-same bindings i r 0 wide ∙ f x v) (λ j n. getD-set-other bindings i j r 0 n) (w .found)),
-            shorter _ _ _ d,
+            steps-next (tableOf ws ls) p q i 0 d (kind-none ws ls i k) (omega arith),
           )
 
       -- into a block
-      pub enters : {heads' links' : List ℕ} → isBlock (tableOf ws ls .node i) ≡ true → q .scope ≡ i → q .link ≡ getD firsts i 0
-          → Open (tableOf ws ls) i 0 heads' links' → Stepped ws ls bindings heads' links' p q
+      pub enters : {heads' links' : List ℕ} (put : ℕ) → isBlock (tableOf ws ls .node i) ≡ true → q .scope ≡ i → q .link ≡ getD firsts i 0
+          → q .steps ≡ p .steps + 1 + put → put ≡ count (tableOf ws ls) i → Open (tableOf ws ls) i 0 heads' links' → Stepped ws ls bindings heads' links' p q
       unfolding tableOf
-      enters e s b o =
+      enters put e s b n c o =
           let h = link-lt w at in
           let l = b ∙ first-link i (omega arith) in
           let d = todo-enter (tableOf ws ls) tree p q i at h (w .link-member i at) e s (linked ws ls q _ _ s l) in (
             at-place ws ls q _ _ s l (w .bindings-length) (omega arith) (λ m. e) o
                 (known-next (tableOf ws ls) bindings bindings _ _ i d (λ x v. clash e (variable-no-block _ x v)) (λ j n. refl) (w .found)),
-            shorter _ _ _ d,
+            steps-next (tableOf ws ls) p q i put d c n,
           )
 
   -- the first place, outside all blocks
@@ -199,6 +202,14 @@ module _ {ws ls parents firsts nexts starts : List ℕ} (s : Scopes ws ls parent
       let l = b ∙ first-link (nodeCount ws) (omega arith) in
       at-place ws ls p _ _ s l n (omega arith) (λ h. absurd (omega arith)) o
       (λ i x h v. inr (todo-all (tableOf ws ls) tree p i s (linked ws ls p _ _ s l) h (variable-member _ x v)))
+
+  -- where all steps are left
+  pub begun-steps : (p : Place) → p .scope ≡ nodeCount ws → p .link ≡ getD firsts (nodeCount ws) 0 → p .steps ≡ 0
+      → p .steps + stepsLeft (tableOf ws ls) p ≡ walkSteps (tableOf ws ls)
+  unfolding tableOf
+  begun-steps p s b z =
+      let l = b ∙ first-link (nodeCount ws) (omega arith) in
+      omega (arith, steps-start (tableOf ws ls) tree p s (linked ws ls p _ _ s l))
 
   -- the last, where nothing is left
   pub ended : {bindings heads links : List ℕ} {p : Place} → Walking ws ls bindings heads links p → nodeCount ws ≤ p .scope
@@ -212,3 +223,21 @@ module _ {ws ls parents firsts nexts starts : List ℕ} (s : Scopes ws ls parent
           → (getD bindings i 0 ≡ boundEntry (tableOf ws ls) i x) ⊎ (mem i (todo (tableOf ws ls) p) ≡ true) → getD bindings i 0 ≡ boundEntry (tableOf ws ls) i x
       none i x e (inl k) = k
       none i x e (inr k) = clash k (ap (mem i) e)
+
+  -- and all steps have been taken
+  pub ended-steps : {bindings heads links : List ℕ} {p : Place} → Walking ws ls bindings heads links p → nodeCount ws ≤ p .scope
+      → p .link ≡ 0 → p .steps + stepsLeft (tableOf ws ls) p ≡ walkSteps (tableOf ws ls) → p .steps ≡ walkSteps (tableOf ws ls)
+  unfolding tableOf
+  ended-steps {p = p} w h z e = omega (arith, steps-end (tableOf ws ls) tree p (omega (arith, w .scope-le)) z)
+
+  pub steps-linear : walkSteps (tableOf ws ls) ≤ 2 * (nodeCount ws + boundCount (tableOf ws ls))
+  unfolding tableOf
+  steps-linear = walkSteps-le (tableOf ws ls)
+
+  -- so no sum of them wraps, also with the entries of a block
+  pub steps-few : walkSteps (tableOf ws ls) ≤ 4 * limit
+  steps-few = omega (arith, steps-linear, nodes-few, bound-limit ws ls (accepted-holds ws ls (s .accepts)))
+
+  pub count-few : (i : ℕ) → i < nodeCount ws → count (tableOf ws ls) i ≤ limit
+  unfolding tableOf
+  count-few i h = omega (arith, boundBelow-end (tableOf ws ls) i h, bound-limit ws ls (accepted-holds ws ls (s .accepts)))

@@ -4,13 +4,15 @@ use mathlib.Core.Bool.{true}
 use mathlib.Core.List.{List, [], _∷_, _++_}
 use mathlib.Core.Logic.{_⊎_}
 use mathlib.Core.Path.{_≡_}
-use Prim.Native.Nat.{ℕ, zero, suc, _<_, _≤_}
+use Prim.Native.Nat.{ℕ, zero, suc, _+_, _*_, _<_, _≤_}
 use lib.Dec.{ltb}
 use lib.ListN.{length, getD}
 use Rattle.lists.specs.Choice.{pick}
 use Rattle.lists.specs.Members.{mem}
-use Rattle.formula.specs.Node.{variable, Table, isBlock}
+use Rattle.lists.specs.Parts.{sum}
+use Rattle.formula.specs.Node.{Node, constant, variable, negation, operator, block, Table, isBlock}
 use Rattle.formula.specs.Words.{nodeCount, tableOf}
+use Rattle.formula.specs.Tree.{count}
 use Rattle.refusals.specs.Verdict.{accepted}
 use Rattle.acceptance.specs.Limits.{limit}
 use Rattle.acceptance.specs.Verdict.{verdict}
@@ -55,6 +57,27 @@ from t (suc i) = i
 -- What the walk comes by from a place on.
 unfoldable pub todo : Table → Place → List ℕ
 todo t p = rest t (p .scope) (from t (p .link)) ++ around (t .size) t (p .scope)
+
+-- The steps for a list of nodes that the walk comes by: one for each, and one for each entry of a block, put or taken away.
+unfoldable pub stepsOf : Table → List ℕ → ℕ
+stepsOf t [] = 0
+stepsOf t (i ∷ is) = suc (count t i) + stepsOf t is
+
+-- The steps that are left to take at a place.
+abbrev pub stepsLeft : Table → Place → ℕ
+stepsLeft t p = stepsOf t (todo t p)
+
+-- The steps that a node costs in all: the walk comes by a variable node once, and by a block twice, to enter and to leave it.
+unfoldable pub stepsAt : Node → ℕ
+stepsAt (constant b) = 0
+stepsAt (variable x) = 1
+stepsAt (negation a) = 0
+stepsAt (operator f a b) = 0
+stepsAt (block q xs a) = 2 * suc (length xs)
+
+-- The steps of the whole walk.
+unfoldable pub walkSteps : Table → ℕ
+walkSteps t = sum (λ i. stepsAt (t .node i)) (t .size)
 
 -- There is a node to come by, or a block to leave.
 abbrev pub Unfinished : List ℕ → List ℕ → Place → Type 0

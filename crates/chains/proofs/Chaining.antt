@@ -1,6 +1,6 @@
--- The pass that chains the nodes of an accepted table, step by step.
+-- The passes that chain the nodes of an accepted table, step by step.
 -- Assumes nothing.
-use mathlib.Core.Path.{_≡_, sym, _∙_}
+use mathlib.Core.Path.{_≡_, sym, _∙_, subst}
 use mathlib.Core.Bool.{true, false}
 use mathlib.Core.List.{List}
 use Prim.Native.Nat.{ℕ, suc, _+_, _-_, _<_, _≤_, max}
@@ -63,7 +63,7 @@ module _ (ws ls : List ℕ) (ok : verdict ws ls ≡ accepted) (i : ℕ) (h : i <
     pub level-index : getD vs i 0 < limit
     level-index = rw level-read (level-small ws ls ok i h)
 
-    pub inner-chained : (fs ns fs' ns' : List ℕ) → isBlock (nodeAt ws ls i) ≡ true → (i + 1 ≡ nodeCount ws → ⊥) → length fs ≡ limit → length ns ≡ limit
+    pub inner-chained : (fs ns fs' ns' : List ℕ) → isBlock (nodeAt ws ls i) ≡ true → i + 1 < nodeCount ws → length fs ≡ limit → length ns ≡ limit
         → LevelsFrom (tableOf ws ls) (i + 1) fs ns → fs' ≡ set fs (getD vs i 0) (suc i) → ns' ≡ set ns i (getD fs (getD vs i 0) 0)
         → LevelsFrom (tableOf ws ls) i fs' ns'
     unfolding tableOf
@@ -71,12 +71,11 @@ module _ (ws ls : List ℕ) (ok : verdict ws ls ≡ accepted) (i : ℕ) (h : i <
         chains-put (inner (tableOf ws ls)) (level (tableOf ws ls)) (nodeCount ws) i fs ns h (inner-is (tableOf ws ls) i (omega arith) ∙ e)
         (omega (arith, level-small ws ls ok i h)) (omega (arith, nodes-few ws ls ok)) (rw add-one at s) (getD vs i 0) fs' ns' level-read
 
-  outer-chained : (fs ns : List ℕ) → inner (tableOf ws ls) i ≡ false → LevelsFrom (tableOf ws ls) (i + 1) fs ns → LevelsFrom (tableOf ws ls) i fs ns
-  outer-chained fs ns o s = chains-skip (inner (tableOf ws ls)) (level (tableOf ws ls)) (tableOf ws ls .size) i fs ns o (rw add-one at s)
-
-  pub root-chained : (fs ns : List ℕ) → i + 1 ≡ nodeCount ws → LevelsFrom (tableOf ws ls) (i + 1) fs ns → LevelsFrom (tableOf ws ls) i fs ns
+  -- a node that is no block
+  pub plain-chained : (fs ns : List ℕ) → isBlock (nodeAt ws ls i) ≡ false → LevelsFrom (tableOf ws ls) (i + 1) fs ns → LevelsFrom (tableOf ws ls) i fs ns
   unfolding tableOf
-  root-chained fs ns z s = outer-chained fs ns (inner-root (tableOf ws ls) i (rw add-one at z)) s
+  plain-chained fs ns e s =
+      chains-skip (inner (tableOf ws ls)) (level (tableOf ws ls)) (nodeCount ws) i fs ns (not-inner (tableOf ws ls) i e) (rw add-one at s)
 
   -- a block's entries lie within the list, and there are no more than entries up to it
   module _ (w : NodeWords) (r : w ≡ wordsAt ws i) (e : isBlock (nodeAt ws ls i) ≡ true) where
@@ -89,7 +88,7 @@ module _ (ws ls : List ℕ) (ok : verdict ws ls ≡ accepted) (i : ℕ) (h : i <
   start-small : boundBelow (tableOf ws ls) (i + 1) ≤ limit
   start-small = omega (arith, boundBelow-grows (tableOf ws ls) (i + 1) (nodeCount ws) (omega arith), accepted-holds ws ls ok .counts-limit)
 
-  module _ (lfs lns mfs mns starts : List ℕ) (p : Passed) (s : ChainedFrom (tableOf ws ls) (i + 1) lfs lns mfs mns starts p) where
+  module _ (firsts nexts starts : List ℕ) (p : Passed) (s : ChainedFrom (tableOf ws ls) (i + 1) firsts nexts starts p) where
     -- what the nodes above were given stays
     above-same : isBlock (nodeAt ws ls i) ≡ false
         → (j : ℕ) → i ≤ j → j < tableOf ws ls .size → isBlock (tableOf ws ls .node j) ≡ true → getD starts j 0 ≡ boundBelow (tableOf ws ls) j
@@ -110,57 +109,47 @@ module _ (ws ls : List ℕ) (ok : verdict ws ls ≡ accepted) (i : ℕ) (h : i <
     highest-with x e = omega (arith, e, s .highest-is, highest-next (λ j. highestAt (nodeAt ws ls j)) i)
 
     pub plain-passed : (w : NodeWords) → w ≡ wordsAt ws i → (w .kind ≡ 2 → ⊥) → isBlock (nodeAt ws ls i) ≡ false
-        → ChainedFrom (tableOf ws ls) i lfs lns mfs mns starts p
+        → ChainedFrom (tableOf ws ls) i firsts nexts starts (record { node = i; start = p .start; highest = p .highest })
     unfolding tableOf
     plain-passed w r n e =
         let m = plain-member ws ls i w r n e in
         record {
-          level-firsts-length = s .level-firsts-length;
-          level-nexts-length = s .level-nexts-length;
-          member-firsts-length = s .member-firsts-length;
-          member-nexts-length = s .member-nexts-length;
+          firsts-length = s .firsts-length;
+          nexts-length = s .nexts-length;
           starts-length = s .starts-length;
-          levels-linked = outer-chained lfs lns (not-inner (tableOf ws ls) i e) (s .levels-linked);
-          members-linked = chains-skip (λ j. isMember (nodeAt ws ls j)) (enclosing (tableOf ws ls)) (nodeCount ws) i mfs mns m (rw add-one at (s .members-linked));
+          members-linked = chains-skip (λ j. isMember (nodeAt ws ls j)) (enclosing (tableOf ws ls)) (nodeCount ws) i firsts nexts m (rw add-one at (s .members-linked));
           start-is = above-same e;
           start-here = start-same e;
           highest-is = omega (arith, highest-with 0 (plain-highest (nodeAt ws ls i) m));
         }
 
-    module _ (mfs' mns' : List ℕ) (fl : length mfs' ≡ length mfs) (nl : length mns' ≡ length mns) (members : MembersFrom (tableOf ws ls) i mfs' mns') where
-      pub variable-passed : (w : NodeWords) → w ≡ wordsAt ws i → w .kind ≡ 2
-          → ChainedFrom (tableOf ws ls) i lfs lns mfs' mns' starts (record { start = p .start; highest = max (p .highest) (w .a) })
+    module _ (firsts' nexts' : List ℕ) (fl : length firsts' ≡ length firsts) (nl : length nexts' ≡ length nexts) (members : MembersFrom (tableOf ws ls) i firsts' nexts') where
+      pub variable-passed : (w : NodeWords) → w ≡ wordsAt ws i → w .kind ≡ 2 → (y : ℕ) → y ≡ max (p .highest) (w .a)
+          → ChainedFrom (tableOf ws ls) i firsts' nexts' starts (record { node = i; start = p .start; highest = y })
       unfolding tableOf isBlock highestAt
-      variable-passed w r k =
+      variable-passed w r k y ey =
           let v = variable-read ws ls i w r k in
           let e : isBlock (nodeAt ws ls i) ≡ false = rw v in
           record {
-            level-firsts-length = s .level-firsts-length;
-            level-nexts-length = s .level-nexts-length;
-            member-firsts-length = fl ∙ s .member-firsts-length;
-            member-nexts-length = nl ∙ s .member-nexts-length;
+            firsts-length = fl ∙ s .firsts-length;
+            nexts-length = nl ∙ s .nexts-length;
             starts-length = s .starts-length;
-            levels-linked = outer-chained lfs lns (not-inner (tableOf ws ls) i e) (s .levels-linked);
             members-linked = members;
             start-is = above-same e;
             start-here = start-same e;
-            highest-is = highest-with (w .a) (rw v);
+            highest-is = rw ey (highest-with (w .a) (rw v));
           }
 
-      pub block-passed : (lfs' lns' : List ℕ) → length lfs' ≡ length lfs → length lns' ≡ length lns → LevelsFrom (tableOf ws ls) i lfs' lns'
-          → (w : NodeWords) → w ≡ wordsAt ws i → isBlock (nodeAt ws ls i) ≡ true
+      pub block-passed : (w : NodeWords) → w ≡ wordsAt ws i → isBlock (nodeAt ws ls i) ≡ true
           → (x y : ℕ) → x ≡ maximum (range ls (w .a) (w .b)) → y ≡ max (p .highest) x
-          → ChainedFrom (tableOf ws ls) i lfs' lns' mfs' mns' (set starts i (p .start - w .b)) (record { start = p .start - w .b; highest = y })
+          → ChainedFrom (tableOf ws ls) i firsts' nexts' (set starts i (p .start - w .b)) (record { node = i; start = p .start - w .b; highest = y })
       unfolding tableOf
-      block-passed lfs' lns' fl' nl' levels w r e x y ex ey =
+      block-passed w r e x y ex ey =
           let v : p .start - w .b ≡ boundBelow (tableOf ws ls) i = omega (arith, s .start-here, start-before w r e) in
           record {
-            level-firsts-length = fl' ∙ s .level-firsts-length;
-            level-nexts-length = nl' ∙ s .level-nexts-length;
-            member-firsts-length = fl ∙ s .member-firsts-length;
-            member-nexts-length = nl ∙ s .member-nexts-length;
+            firsts-length = fl ∙ s .firsts-length;
+            nexts-length = nl ∙ s .nexts-length;
             starts-length = length-set starts i (p .start - w .b) ∙ s .starts-length;
-            levels-linked = levels;
             members-linked = members;
             start-is =
                 from-here (λ j. isBlock (nodeAt ws ls j) ≡ true → getD (set starts i (p .start - w .b)) j 0 ≡ boundBelow (tableOf ws ls) j) i (nodeCount ws)
@@ -177,34 +166,39 @@ module _ (ws ls : List ℕ) (ok : verdict ws ls ≡ accepted) (i : ℕ) (h : i <
     pub start-narrow : (w : NodeWords) → w ≡ wordsAt ws i → isBlock (nodeAt ws ls i) ≡ true → Fits w16 (p .start - w .b)
     start-narrow w r e = omega (arith, start-fits w r e .1)
 
-module _ (ws ls : List ℕ) (lfs lns mfs mns starts : List ℕ) where
-  pub passed-none : (q : ℕ) → q ≡ boundCount (tableOf ws ls) → Cleared lfs lns mfs mns starts
-      → ChainedFrom (tableOf ws ls) (nodeCount ws) lfs lns mfs mns starts (record { start = q; highest = 0 })
+module _ (ws ls : List ℕ) (firsts nexts starts : List ℕ) where
+  pub passed-none : (q : ℕ) → q ≡ boundCount (tableOf ws ls) → Cleared (suc limit) firsts nexts → length starts ≡ limit
+      → ChainedFrom (tableOf ws ls) (nodeCount ws) firsts nexts starts (record { node = nodeCount ws; start = q; highest = 0 })
   unfolding tableOf boundCount highestNumber
-  passed-none q e c =
+  passed-none q e c l =
       record {
-        level-firsts-length = c .level-firsts-length;
-        level-nexts-length = c .level-nexts-length;
-        member-firsts-length = c .member-firsts-length;
-        member-nexts-length = c .member-nexts-length;
-        starts-length = c .starts-length;
-        levels-linked = chains-start (inner (tableOf ws ls)) (level (tableOf ws ls)) (nodeCount ws) lfs lns (c .level-firsts-clear);
-        members-linked = chains-start (λ j. isMember (nodeAt ws ls j)) (enclosing (tableOf ws ls)) (nodeCount ws) mfs mns (c .member-firsts-clear);
+        firsts-length = c .firsts-length;
+        nexts-length = c .nexts-length;
+        starts-length = l;
+        members-linked = chains-start (λ j. isMember (nodeAt ws ls j)) (enclosing (tableOf ws ls)) (nodeCount ws) firsts nexts (c .firsts-clear);
         start-is = λ j k l y. absurd (omega arith);
         start-here = e;
         highest-is = omega arith;
       }
 
-  module _ (i : ℕ) (p : Passed) (z : i ≡ 0) (s : ChainedFrom (tableOf ws ls) i lfs lns mfs mns starts p) where
-    pub levels-done : LevelChains (tableOf ws ls) lfs lns
-    levels-done = chains-end (inner (tableOf ws ls)) (level (tableOf ws ls)) (tableOf ws ls .size) i lfs lns z (s .levels-linked)
-
-    pub members-done : MemberChains (tableOf ws ls) mfs mns
-    members-done = chains-end (λ j. isMember (tableOf ws ls .node j)) (enclosing (tableOf ws ls)) (tableOf ws ls .size) i mfs mns z (s .members-linked)
+  module _ (i : ℕ) (p : Passed) (z : i ≡ 0) (s : ChainedFrom (tableOf ws ls) i firsts nexts starts p) where
+    pub members-done : MemberChains (tableOf ws ls) firsts nexts
+    members-done = chains-end (λ j. isMember (tableOf ws ls .node j)) (enclosing (tableOf ws ls)) (tableOf ws ls .size) i firsts nexts z (s .members-linked)
 
     pub starts-done : Starts (tableOf ws ls) starts
     starts-done = record { start-is = λ j h y. s .start-is j (omega arith) h y }
 
     pub highest-done : p .highest ≡ highestNumber (tableOf ws ls)
     unfolding highest
-    highest-done = let s' : ChainedFrom (tableOf ws ls) 0 lfs lns mfs mns starts p = rw z at s in omega (arith, s' .highest-is)
+    highest-done = let s' : ChainedFrom (tableOf ws ls) 0 firsts nexts starts p = rw z at s in omega (arith, s' .highest-is)
+
+-- The levels, from below the root, which is no inner block.
+module _ (ws ls : List ℕ) (firsts nexts : List ℕ) (i : ℕ) where
+  pub levels-none : i + 1 ≡ nodeCount ws → Cleared limit firsts nexts → LevelsFrom (tableOf ws ls) i firsts nexts
+  unfolding tableOf
+  levels-none e c =
+      chains-skip (inner (tableOf ws ls)) (level (tableOf ws ls)) (nodeCount ws) i firsts nexts (inner-root (tableOf ws ls) i (rw add-one at e))
+      (subst (λ k. LevelsFrom (tableOf ws ls) k firsts nexts) (sym e ∙ add-one i) (chains-start (inner (tableOf ws ls)) (level (tableOf ws ls)) (nodeCount ws) firsts nexts (c .firsts-clear)))
+
+  pub levels-done : i ≡ 0 → LevelsFrom (tableOf ws ls) i firsts nexts → LevelChains (tableOf ws ls) firsts nexts
+  levels-done z s = chains-end (inner (tableOf ws ls)) (level (tableOf ws ls)) (tableOf ws ls .size) i firsts nexts z s

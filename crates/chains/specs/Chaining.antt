@@ -1,4 +1,4 @@
--- What the pass that chains the nodes of a table t starts from, and what holds after each step.
+-- What the passes that chain the nodes of a table t start from, and what holds after each step.
 -- Assumes nothing.
 use mathlib.Core.Bool.{Bool, true, _&&_}
 use mathlib.Core.List.{List}
@@ -16,15 +16,12 @@ use Rattle.arrays.specs.Held.{enclosing, isMember}
 use Rattle.arrays.specs.Link.{link}
 use Rattle.chains.specs.declared.Passed.{Passed}
 
--- The arrays that the pass fills: their lengths, and no node chained yet. There is one scope more than nodes, that outside all blocks.
-pub record Cleared (lfs lns mfs mns starts : List ℕ) : Type 0 where
-  pub level-firsts-length : length lfs ≡ limit
-  pub level-nexts-length : length lns ≡ limit
-  pub member-firsts-length : length mfs ≡ suc limit
-  pub member-nexts-length : length mns ≡ limit
-  pub starts-length : length starts ≡ limit
-  pub level-firsts-clear : (l : ℕ) → getD lfs l 0 ≡ 0
-  pub member-firsts-clear : (k : ℕ) → getD mfs k 0 ≡ 0
+-- Arrays for chains, with so many keys: their lengths, and no node chained yet. Of parent blocks there is one more than nodes, for the
+-- scope outside all blocks.
+pub record Cleared (keys : ℕ) (firsts nexts : List ℕ) : Type 0 where
+  pub firsts-length : length firsts ≡ keys
+  pub nexts-length : length nexts ≡ limit
+  pub firsts-clear : (k : ℕ) → getD firsts k 0 ≡ 0
 
 -- The numbers from i up are chained by their keys.
 pub record LinkedFrom (passes : ℕ → Bool) (key : ℕ → ℕ) (n i : ℕ) (firsts nexts : List ℕ) : Type 0 where
@@ -38,19 +35,12 @@ LevelsFrom t i firsts nexts = LinkedFrom (inner t) (level t) (t .size) i firsts 
 abbrev pub MembersFrom : Table → ℕ → List ℕ → List ℕ → Type 0
 MembersFrom t i firsts nexts = LinkedFrom (λ j. isMember (t .node j)) (enclosing t) (t .size) i firsts nexts
 
--- What it has found, with a variable node's number x.
-abbrev pub withNumber : ℕ → Passed → Passed
-withNumber x p = record { start = p .start; highest = max (p .highest) x }
-
--- The chaining pass has done the nodes from i up.
-pub record ChainedFrom (t : Table) (i : ℕ) (lfs lns mfs mns starts : List ℕ) (p : Passed) : Type 0 where
-  pub level-firsts-length : length lfs ≡ limit
-  pub level-nexts-length : length lns ≡ limit
-  pub member-firsts-length : length mfs ≡ suc limit
-  pub member-nexts-length : length mns ≡ limit
+-- The pass over the members has done the nodes from i up.
+pub record ChainedFrom (t : Table) (i : ℕ) (firsts nexts starts : List ℕ) (p : Passed) : Type 0 where
+  pub firsts-length : length firsts ≡ suc limit
+  pub nexts-length : length nexts ≡ limit
   pub starts-length : length starts ≡ limit
-  pub levels-linked : LevelsFrom t i lfs lns
-  pub members-linked : MembersFrom t i mfs mns
+  pub members-linked : MembersFrom t i firsts nexts
   pub start-is : (j : ℕ) → i ≤ j → j < t .size → isBlock (t .node j) ≡ true → getD starts j 0 ≡ boundBelow t j
   pub start-here : p .start ≡ boundBelow t i
   -- with the nodes below i it is the whole table's

@@ -1,11 +1,10 @@
-// The nodes of an accepted table chained: the inner blocks by level, the variable nodes and blocks by
-// parent block. The same pass from the root down counts the entries before each block's and finds the
-// table's highest number.
+// The nodes of an accepted table chained: the variable nodes and blocks by parent block, and the
+// inner blocks by level. The pass that chains by parent block also counts the entries before each
+// block's and finds the table's highest number.
 ghost use mathlib.Core.Bool.{true};
 ghost use mathlib.Core.Path.{_≡_};
 ghost use Prim.Native.Nat.{suc, _+_, _<_, _≤_, max};
 ghost use lib.ListN.{length, getD, set};
-ghost use Rattle.formula.specs.Node.{isBlock};
 ghost use Rattle.formula.specs.Words.{nodeCount, range, nodeAt, tableOf};
 ghost use Rattle.refusals.specs.Verdict.{accepted};
 ghost use Rattle.acceptance.specs.Limits.{limit};
@@ -18,106 +17,89 @@ ghost use Rattle.arrays.specs.Held.{
   LevelChains,
   MemberChains,
   Starts,
-  Placed,
 };
-ghost use Rattle.chains.specs.Chaining.{
-  Cleared,
-  LevelsFrom,
-  MembersFrom,
-  ChainedFrom,
-  withNumber,
-};
+ghost use Rattle.chains.specs.Chaining.{Cleared, LevelsFrom, MembersFrom, ChainedFrom};
 use formula::VARIABLE;
 
-// What the chaining pass has found of the nodes from some node up: how many entries stand before
+// What the pass over the members has found of the nodes from `node` up: how many entries stand before
 // theirs, and their highest number.
 pub struct Passed {
+    pub node: usize,
     pub start: usize,
     pub highest: u32,
 }
 
-// Chains the inner blocks by level and the variable nodes and blocks by parent block, and writes how
-// many entries stand before each block's. The result is the highest number of the table. One pass
-// from the root down puts each node before those with its key that stand above it.
-pub fn chain_nodes(
+// Chains the variable nodes and blocks by parent block, and writes how many entries stand before each
+// block's. The result is the highest number of the table. One pass from the root down puts each node
+// before those above it with its parent block.
+pub fn chain_members(
     words: &[u32],
     list: &[u32],
     parents: &[u32],
-    levels: &[u16],
-    level_firsts: &mut [u16],
-    level_nexts: &mut [u16],
-    member_firsts: &mut [u16],
-    member_nexts: &mut [u16],
+    firsts: &mut [u16],
+    nexts: &mut [u16],
     starts: &mut [u16],
     bound: usize,
 ) -> u32
     requires { ⌜ verdict (now words) (now list) ≡ accepted ⌝ }
-    requires { ⌜ Placed (now words) (now list) (now parents) (now levels) ⌝ }
+    requires { ⌜ (length (now parents) ≡ limit) × Parents (tableOf (now words) (now list)) (now parents) ⌝ }
     requires { ⌜ bound ≡ boundCount (tableOf (now words) (now list)) ⌝ }
-    requires { ⌜ Cleared (now «level_firsts») (now «level_nexts») (now «member_firsts») (now «member_nexts») (now starts) ⌝ }
-    ensures { λ r. ⌜ LevelChains (tableOf (now (words .entry)) (now (list .entry))) (now («level_firsts» .exit)) (now («level_nexts» .exit)) ⌝ }
-    ensures { λ r. ⌜ MemberChains (tableOf (now (words .entry)) (now (list .entry))) (now («member_firsts» .exit)) (now («member_nexts» .exit)) ⌝ }
-    ensures { λ r. ⌜ Starts (tableOf (now (words .entry)) (now (list .entry))) (now (starts .exit)) ⌝ }
-    ensures { λ r. ⌜ (r ≡ highestNumber (tableOf (now (words .entry)) (now (list .entry)))) × (r ≤ 65535) ⌝ }
+    requires { ⌜ Cleared (suc limit) (now firsts) (now nexts) × (length (now starts) ≡ limit) ⌝ }
+    ensures chains { λ r. ⌜ MemberChains (tableOf (now (words .entry)) (now (list .entry))) (now (firsts .exit)) (now (nexts .exit)) ⌝ }
+    ensures starts { λ r. ⌜ Starts (tableOf (now (words .entry)) (now (list .entry))) (now (starts .exit)) ⌝ }
+    ensures highest { λ r. ⌜ (r ≡ highestNumber (tableOf (now (words .entry)) (now (list .entry)))) × (r ≤ 65535) ⌝ }
 {
-    let mut i = words.len() / formula::WIDTH;
     let mut passed = Passed {
+        node: words.len() / formula::WIDTH,
         start: bound,
         highest: 0,
     };
-    while 0 < i {
-        i -= 1;
-        passed = chain_node(
-            words,
-            list,
-            parents,
-            levels,
-            level_firsts,
-            level_nexts,
-            member_firsts,
-            member_nexts,
-            starts,
-            passed,
-            i,
-        );
+    while 0 < passed.node {
+        passed = chain_node(words, list, parents, firsts, nexts, starts, passed);
     }
     passed.highest
 }
 
-// The same of node i, where the nodes above it are done.
+// The same of the node below those that are done.
 fn chain_node(
     words: &[u32],
     list: &[u32],
     parents: &[u32],
-    levels: &[u16],
-    level_firsts: &mut [u16],
-    level_nexts: &mut [u16],
-    member_firsts: &mut [u16],
-    member_nexts: &mut [u16],
+    firsts: &mut [u16],
+    nexts: &mut [u16],
     starts: &mut [u16],
     passed: Passed,
-    i: usize,
 ) -> Passed
     requires { ⌜ verdict (now words) (now list) ≡ accepted ⌝ }
-    requires { ⌜ i < nodeCount (now words) ⌝ }
-    requires { ⌜ Placed (now words) (now list) (now parents) (now levels) ⌝ }
-    requires { ⌜ ChainedFrom (tableOf (now words) (now list)) (i + 1) (now «level_firsts») (now «level_nexts») (now «member_firsts») (now «member_nexts») (now starts) passed ⌝ }
-    ensures { λ r. ⌜ ChainedFrom (tableOf (now (words .entry)) (now (list .entry))) i (now («level_firsts» .exit)) (now («level_nexts» .exit)) (now («member_firsts» .exit)) (now («member_nexts» .exit)) (now (starts .exit)) r ⌝ }
+    requires { ⌜ (length (now parents) ≡ limit) × Parents (tableOf (now words) (now list)) (now parents) ⌝ }
+    requires { ⌜ (0 < passed .node) × (passed .node ≤ nodeCount (now words)) ⌝ }
+    requires { ⌜ ChainedFrom (tableOf (now words) (now list)) (passed .node) (now firsts) (now nexts) (now starts) passed ⌝ }
+    ensures { λ r. ⌜ ChainedFrom (tableOf (now (words .entry)) (now (list .entry))) (r .node) (now (firsts .exit)) (now (nexts .exit)) (now (starts .exit)) r ⌝ }
+    ensures { λ r. ⌜ r .node + 1 ≡ passed .node ⌝ }
 {
+    let i = passed.node - 1;
     let node = formula::node_at(words, i);
     if node.kind == VARIABLE {
-        chain_member(words, list, parents, member_firsts, member_nexts, i);
-        return with_number(passed, node.a);
+        chain_member(words, list, parents, firsts, nexts, i);
+        return Passed {
+            node: i,
+            start: passed.start,
+            highest: larger(passed.highest, node.a),
+        };
     }
     if !formula::is_block_kind(node.kind) {
-        return passed;
+        return Passed {
+            node: i,
+            start: passed.start,
+            highest: passed.highest,
+        };
     }
-    chain_member(words, list, parents, member_firsts, member_nexts, i);
-    chain_level(words, list, levels, level_firsts, level_nexts, i);
+    chain_member(words, list, parents, firsts, nexts, i);
     let before = passed.start - node.b as usize;
     starts[i] = before as u16;
     let highest = highest_entry(list, node.a as usize, node.b as usize);
     Passed {
+        node: i,
         start: before,
         highest: larger(passed.highest, highest),
     }
@@ -143,7 +125,28 @@ fn chain_member(
     put_first(firsts, nexts, block, i);
 }
 
-// Block i, if it is inner, goes before those above it that have its level.
+// Chains the inner blocks by level. A pass from below the root, which is no inner block, down puts
+// each block before those above it with its level.
+pub fn chain_levels(
+    words: &[u32],
+    list: &[u32],
+    levels: &[u16],
+    firsts: &mut [u16],
+    nexts: &mut [u16],
+)
+    requires { ⌜ verdict (now words) (now list) ≡ accepted ⌝ }
+    requires { ⌜ (length (now levels) ≡ limit) × NodeLevels (tableOf (now words) (now list)) (now levels) ⌝ }
+    requires { ⌜ Cleared limit (now firsts) (now nexts) ⌝ }
+    ensures { λ _. ⌜ LevelChains (tableOf (now (words .entry)) (now (list .entry))) (now (firsts .exit)) (now (nexts .exit)) ⌝ }
+{
+    let mut i = words.len() / formula::WIDTH - 1;
+    while 0 < i {
+        i -= 1;
+        chain_level(words, list, levels, firsts, nexts, i);
+    }
+}
+
+// The same of node i below the root, where the nodes above it are done.
 fn chain_level(
     words: &[u32],
     list: &[u32],
@@ -153,13 +156,14 @@ fn chain_level(
     i: usize,
 )
     requires { ⌜ verdict (now words) (now list) ≡ accepted ⌝ }
-    requires { ⌜ (i < nodeCount (now words)) × (isBlock (nodeAt (now words) (now list) i) ≡ true) ⌝ }
+    requires { ⌜ i + 1 < nodeCount (now words) ⌝ }
     requires { ⌜ (length (now levels) ≡ limit) × (length (now firsts) ≡ limit) × (length (now nexts) ≡ limit) ⌝ }
     requires { ⌜ NodeLevels (tableOf (now words) (now list)) (now levels) ⌝ }
     requires { ⌜ LevelsFrom (tableOf (now words) (now list)) (i + 1) (now firsts) (now nexts) ⌝ }
     ensures { λ _. ⌜ LevelsFrom (tableOf (now (words .entry)) (now (list .entry))) i (now (firsts .exit)) (now (nexts .exit)) ⌝ }
 {
-    if i + 1 >= words.len() / formula::WIDTH {
+    let node = formula::node_at(words, i);
+    if !formula::is_block_kind(node.kind) {
         return;
     }
     let level = levels[i] as usize;
@@ -174,16 +178,6 @@ fn put_first(firsts: &mut [u16], nexts: &mut [u16], key: usize, i: usize)
 {
     nexts[i] = firsts[key];
     firsts[key] = (i + 1) as u16;
-}
-
-// What the pass has found, with a variable node's number.
-fn with_number(passed: Passed, x: u32) -> Passed
-    ensures { λ r. ⌜ r ≡ withNumber x passed ⌝ }
-{
-    Passed {
-        start: passed.start,
-        highest: larger(passed.highest, x),
-    }
 }
 
 // The highest of the count entries from first on, 0 if none.

@@ -7,3 +7,4 @@ pub mod Ranges
 pub mod Reading
 pub mod Unfolding
 pub mod Users
+pub mod FreeVariables

@@ -1,17 +1,20 @@
 -- The laws on which belief in these definitions rests, as statements, so that a reader need not trust how `value`, `quant` and
--- `quantify` recurse. Each is proved under the name beside it: those of users in proofs/Users.antt, the others in proofs/Meaning.antt.
+-- `quantify` recurse. Each is proved under the name beside it: those of users in proofs/Users.antt, of free variables in
+-- proofs/FreeVariables.antt, the others in proofs/Meaning.antt.
 -- Assumes nothing.
 use mathlib.Core.Bool.{Bool, true, not, _&&_, _||_, xor, Bool·beq}
 use mathlib.Core.List.{List, []}
 use mathlib.Core.Logic.{_↔_}
 use mathlib.Core.Path.{_≡_}
-use Prim.Native.Nat.{ℕ, _-_, _/_, _<_, _≤_}
+use Prim.Native.Nat.{ℕ, suc, _*_, _-_, _/_, _<_, _≤_}
 use lib.ListN.{length, drop}
+use Rattle.lists.specs.Members.{mem, ListOf}
 use Rattle.formula.specs.Node.{exists, for-all, Table}
 use Rattle.formula.specs.Words.{nodeCount, tableOf}
 use Rattle.formula.specs.Valuation.{Valuation, quant}
 use Rattle.formula.specs.Truth.{operatorValue, value, truth, freeAt, free}
 use Rattle.formula.specs.Form.{Block, prefixWidth, blockAt, blocksOf, quantify, formTruth, formFree}
+use Rattle.formula.specs.FreeVariables.{freeVariables, formFreeVariables}
 use Rattle.formula.specs.Tree.{Tree, UsersOf, users, timesNamed}
 use Rattle.formula.specs.Meaning.{UnderSome, UnderEvery, TableMeaning, BlockIs, PrefixMeaning}
 
@@ -114,3 +117,27 @@ OneListOfUsers = (t : Table) (i : ℕ) (us us' : List ℕ) → UsersOf t i us �
 -- and it is as long as the node is named often (users-counted).
 abbrev pub UsersCounted : Type 0
 UsersCounted = (t : Table) (i : ℕ) → length (users t i) ≡ timesNamed t i
+
+-- Free variables. A number is in the list exactly if it is free, and the list ascends strictly (free-listed, form-free-listed): no
+-- other list does so (one-list, crates/lists/proofs/Passing.antt).
+abbrev pub FreeListed : Type 0
+FreeListed = (t : Table) → Tree t → ListOf (free t) (freeVariables t)
+
+abbrev pub FormFreeListed : Type 0
+FormFreeListed = (ns ps xs : List ℕ) → Tree (tableOf ns []) → ListOf (formFree ns ps xs) (formFreeVariables ns ps xs)
+
+-- Two valuations that agree on the list give the same truth value (table-by-list, form-by-list),
+abbrev pub AgreeOn : List ℕ → Valuation → Valuation → Type 0
+AgreeOn xs v u = (x : ℕ) → mem x xs ≡ true → v x ≡ u x
+
+abbrev pub TableByList : Type 0
+TableByList = (t : Table) → Tree t → (v u : Valuation) → AgreeOn (freeVariables t) v u → truth t v ≡ truth t u
+
+abbrev pub FormByList : Type 0
+FormByList =
+    (ns ps xs : List ℕ) → Tree (tableOf ns [])
+    → (v u : Valuation) → AgreeOn (formFreeVariables ns ps xs) v u → formTruth ns ps xs v ≡ formTruth ns ps xs u
+
+-- and a tree of n nodes has at most (n + 1) / 2 leaves, so no more free variables (free-few).
+abbrev pub FreeFew : Type 0
+FreeFew = (t : Table) → Tree t → 2 * length (freeVariables t) ≤ suc (t .size)

@@ -3,6 +3,7 @@ pub mod Valuation
 pub mod Truth
 pub mod Words
 pub mod Form
+pub mod FreeVariables
 pub mod Tree
 pub mod Meaning
 pub mod Laws

@@ -1,224 +1,174 @@
--- Laws of the flags: what one node, one block and one list entry change in them, and what they say in the end.
+-- Laws of the flags: what one node changes in them, and what they say in the end.
 -- Assumes nothing.
 use mathlib.Core.Path.{_≡_, refl, sym, _∙_, ap}
-use mathlib.Core.Bool.{Bool, true, false, not, _&&_, _||_, or-true, or-false, and-true, and-false}
-use mathlib.Core.List.{List, [], _∷_, _++_, append-nil}
-use Prim.Native.Nat.{ℕ, zero, suc, _+_, _≤_, _<_}
-use native.Mathlib.Numerals.{add-one}
+use mathlib.Core.Bool.{Bool, true, false, _&&_, _||_, or-true, or-false}
+use mathlib.Core.List.{List}
+use Prim.Native.Nat.{ℕ, suc, _+_, _≤_, _<_}
 use native.Mathlib.Omega.{arith}
-use lib.Dec.{eqb, leb, ltb}
-use lib.ListN.{length, getD, set, drop, replicate, length-set, length-drop, length-replicate}
-use lib.Seq.{take-suc, getD-drop}
-use borrow.Author.Tests.{eqb-true, ne-eqb, ltb-true, ltb-false, lt-ltb, le-ltb, leb-true}
-use Rattle.lists.specs.Choice.{pick, pick-yes, pick-no, Is, is-true, is-false, look, clash, and-left, and-right, or-cases, absent}
-use Rattle.lists.specs.Search.{lowest, someBelow}
-use Rattle.lists.specs.Members.{mem}
-use Rattle.lists.specs.Parts.{upTo}
-use Rattle.lists.proofs.Search.{lowest-holds, lowest-cong}
-use Rattle.lists.proofs.Members.{mem-append, mem-one, mem-getD, place-lt, all-mem}
-use Rattle.lists.proofs.Parts.{upTo-cong}
+use lib.Dec.{eqb, ltb}
+use lib.ListN.{length, getD, set, replicate, length-set, length-replicate, List·getD-eq-default}
+use lib.Seq.{set-getD}
+use borrow.Author.Tests.{eqb-true, eqb-false, eq-eqb, ne-eqb, ltb-true, ltb-false}
+use Rattle.lists.specs.Choice.{pick, pick-yes, pick-no, Is, is-true, is-false, look, clash, absent, and-left, and-right}
+use Rattle.lists.specs.Members.{ListOf}
+use Rattle.lists.specs.Parts.{sum, passing}
+use Rattle.lists.proofs.Search.{some-none, some-next}
+use Rattle.lists.proofs.Parts.{sum-cong, sum-add, sum-zero}
+use Rattle.lists.proofs.Sums.{sum-one, ones-le}
+use Rattle.lists.proofs.Passing.{passing-length, passing-lists, one-list}
 use Rattle.lists.proofs.Stores.{getD-filled, getD-set}
-use Rattle.formula.specs.Node.{bound}
-use Rattle.formula.specs.Words.{nodeCount, field, isBlockKind, range, nodeAt, tableOf}
-use Rattle.formula.proofs.Nodes.{Kind, kind-constant, kind-variable, kind-negation, kind-operator, kind-exists, kind-for-all, kind-none, kind-of, node-constant, node-variable, node-negation, node-operator, node-exists, node-for-all, node-none, is-block, node-block}
-use Rattle.formula.proofs.Ranges.{range-length, range-at}
-use Rattle.acceptance.specs.Verdict.{isNumberTo, isNumber}
-use Rattle.acceptance.specs.Accepted.{Accepted}
+use Rattle.formula.specs.Node.{variable, Table}
+use Rattle.formula.specs.Words.{nodeCount, field, nodeAt, tableOf}
+use Rattle.formula.specs.Truth.{free}
+use Rattle.formula.specs.FreeVariables.{standsAt, freeVariables}
+use Rattle.formula.specs.Tree.{Tree, Proper}
+use Rattle.formula.proofs.Nodes.{Kind, kind-constant, kind-variable, kind-negation, kind-operator, kind-exists, kind-for-all, kind-none, kind-of, node-constant, node-variable, node-negation, node-operator, node-exists, node-for-all, node-none}
+use Rattle.formula.proofs.FreeVariables.{free-listed}
+use Rattle.prenex_form.specs.Scope.{binder}
 use Rattle.prenex_form.specs.Names.{highestNumber}
-use Rattle.prenex_form.specs.FreeVariables.{standsAt, someNode, isFreeVariable, freeVariables}
-use Rattle.prenex_form.proofs.NameLaws.{none-bound, variable-le}
-use Rattle.prenex_form.proofs.Limits.{highest-limit}
-use Rattle.free_variables.specs.Steps.{variableBelow, coveredBelow, Numbered, Flagged, Cleared, Without, chosen, flagged}
+use Rattle.prenex_form.specs.FreeVariables.{standsUnbound}
+use Rattle.prenex_form.proofs.Paths.{binder-le}
+use Rattle.prenex_form.proofs.NameLaws.{variable-le}
+use Rattle.prenex_form.proofs.FreeNames.{free-unbound}
+use Rattle.arrays.specs.Held.{boundEntry, Bindings}
+use Rattle.arrays.proofs.Bound.{entry-free, entry-bound}
+use Rattle.free_variables.specs.Steps.{unboundBelow, flagged, Flagged}
 
--- Some number below n passes a test.
-
-some-none : (p : ℕ → Bool) → someBelow p 0 ≡ false
-unfolding someBelow lowest
-some-none p = refl
-
-some-next : (p : ℕ → Bool) (n : ℕ) → someBelow p (n + 1) ≡ (someBelow p n || p n)
-unfolding someBelow lowest
-some-next p n = rw add-one (first (look (ltb (lowest p n) n)))
-  where
-    second : ltb (lowest p n) n ≡ false → Is (p n) → ltb (pick (ltb (lowest p n) n) (lowest p n) (pick (p n) n (suc n))) (suc n) ≡ (ltb (lowest p n) n || p n)
-    second e (is-true t) = rw (pick-no (ltb (lowest p n) n) (lowest p n) (pick (p n) n (suc n)) e, pick-yes (p n) n (suc n) t, e, t) (lt-ltb n (suc n) (omega arith))
-    second e (is-false t) = rw (pick-no (ltb (lowest p n) n) (lowest p n) (pick (p n) n (suc n)) e, pick-no (p n) n (suc n) t, e, t) (le-ltb (suc n) (suc n) (omega arith))
-
-    first : Is (ltb (lowest p n) n) → ltb (pick (ltb (lowest p n) n) (lowest p n) (pick (p n) n (suc n))) (suc n) ≡ (ltb (lowest p n) n || p n)
-    first (is-true e) =
-        let l : lowest p n < n = ltb-true _ _ e in
-        rw (pick-yes (ltb (lowest p n) n) (lowest p n) (pick (p n) n (suc n)) e, e) (lt-ltb (lowest p n) (suc n) (omega arith))
-    first (is-false e) = second e (look (p n))
-
-module _ (ws : List ℕ) where
-  variable-none : (x : ℕ) → variableBelow ws 0 x ≡ false
-  unfolding variableBelow
-  variable-none x = some-none _
-
-  variable-next : (i x : ℕ) → variableBelow ws (i + 1) x ≡ (variableBelow ws i x || (eqb (field ws i 0) 2 && eqb x (field ws i 1)))
-  unfolding variableBelow
-  variable-next i x = some-next _ i
-
-module _ (ws ls : List ℕ) where
-  covered-none : (x : ℕ) → coveredBelow ws ls 0 x ≡ false
-  unfolding coveredBelow
-  covered-none x = some-none _
-
-  covered-next : (i x : ℕ) → coveredBelow ws ls (i + 1) x ≡ (coveredBelow ws ls i x || mem x (bound (nodeAt ws ls i)))
-  unfolding coveredBelow
-  covered-next i x = some-next _ i
-
--- Parts that are empty from m on add nothing.
-upTo-rest : (g : ℕ → List ℕ) (m n : ℕ) → m ≤ n → ((x : ℕ) → m ≤ x → g x ≡ []) → upTo g n ≡ upTo g m
-unfolding upTo
-upTo-rest g m zero h empty = let e : m ≡ zero = omega arith in rw e
-upTo-rest g m (suc n) h empty = go (look (ltb n m)) (upTo-rest g m n)
-  where
-    go : Is (ltb n m) → (m ≤ n → ((x : ℕ) → m ≤ x → g x ≡ []) → upTo g n ≡ upTo g m) → upTo g (suc n) ≡ upTo g m
-    go (is-true t) next =
-        let l : n < m = ltb-true n m t in
-        let e : m ≡ suc n = omega arith in rw e
-    go (is-false t) next =
-        let l : m ≤ n = ltb-false n m t in
-        rw (empty n l, append-nil (upTo g n)) (next l empty)
-
--- Flags after a store.
+-- Setting a flag.
 
 pick-or : (a b : Bool) → pick a true b ≡ (b || a)
 unfolding pick
 pick-or true b = sym (or-true b)
 pick-or false b = sym (or-false b)
 
-pick-and : (a b : Bool) → pick a false b ≡ (b && not a)
+count-or : (a b : Bool) → (b ≡ true → a ≡ false) → pick (pick b true a) 1 0 ≡ pick a 1 0 + pick b 1 0
 unfolding pick
-pick-and true b = sym (and-false b)
-pick-and false b = sym (and-true b)
+count-or true true h = clash refl (h refl)
+count-or false true h = refl
+count-or true false h = refl
+count-or false false h = refl
 
-set-flag : (flags : List Bool) (y : ℕ) → y < length flags → (x : ℕ) → getD (set flags y true) x false ≡ (getD flags x false || eqb x y)
-set-flag flags y h x = getD-set flags y true false h x ∙ pick-or (eqb x y) (getD flags x false)
+module _ (flags : List Bool) (y : ℕ) where
+  set-flag : y < length flags → (x : ℕ) → getD (set flags y true) x false ≡ (getD flags x false || eqb x y)
+  set-flag h x = getD-set flags y true false h x ∙ pick-or (eqb x y) (getD flags x false)
 
-unset-flag : (flags : List Bool) (y : ℕ) → y < length flags → (x : ℕ) → getD (set flags y false) x false ≡ (getD flags x false && not (eqb x y))
-unset-flag flags y h x = getD-set flags y false false h x ∙ pick-and (eqb x y) (getD flags x false)
+  -- one that is set
+  pub flag-again : getD flags y false ≡ true → length (flagged flags) ≡ length (flagged (set flags y true))
+  flag-again e = ap (λ fs. length (flagged fs)) (sym (ap (set flags y) (sym e) ∙ set-getD flags y false))
 
--- Flagging the variable nodes.
+  -- one that is not
+  pub flag-new : y < length flags → getD flags y false ≡ false → length (flagged flags) + 1 ≡ length (flagged (set flags y true))
+  unfolding flagged
+  flag-new h e =
+      let n : ℕ = length flags in
+      let was : ℕ → ℕ = λ x. pick (getD flags x false) 1 0 in
+      let is : ℕ → ℕ = λ x. pick (getD (set flags y true) x false) 1 0 in
+      let before : length (flagged flags) ≡ sum was n = passing-length (λ x. getD flags x false) n in
+      let wide : length (set flags y true) ≡ n = length-set flags y true in
+      let after : length (flagged (set flags y true)) ≡ sum is n =
+      passing-length (λ x. getD (set flags y true) x false) (length (set flags y true)) ∙ ap (sum is) wide in
+      let each : sum is n ≡ sum (λ x. was x + pick (eqb x y) 1 0) n =
+      sum-cong is (λ x. was x + pick (eqb x y) 1 0) n (λ x l.
+      ap (λ b. pick b 1 0) (getD-set flags y true false h x)
+      ∙ count-or (getD flags x false) (eqb x y) (λ q. ap (λ (z : ℕ). getD flags z false) (eqb-true x y q) ∙ e)) in
+      let both : sum (λ x. was x + pick (eqb x y) 1 0) n ≡ sum was n + sum (λ x. pick (eqb x y) 1 0) n = sum-add was (λ x. pick (eqb x y) 1 0) n in
+      let one : sum (λ x. pick (eqb x y) 1 0) n ≡ 1 = sum-one y n h in omega arith
 
-pub flags-none : (ws : List ℕ) (n : ℕ) → n ≡ 65536 → Flagged ws (replicate n false) 0 0
-flags-none ws n e =
-    record {
-      wide = length-replicate {A = Bool} n false ∙ e;
-      flag-is = λ x. getD-filled n x false ∙ sym (variable-none ws x);
-      low = omega arith;
-      under = λ x h. clash h (variable-none ws x);
-    }
+-- no flag is set beyond the last
+flag-within : (flags : List Bool) (x : ℕ) → getD flags x false ≡ true → x < length flags
+flag-within flags x e = go (look (ltb x (length flags)))
+  where
+    go : Is (ltb x (length flags)) → x < length flags
+    go (is-true t) = ltb-true x (length flags) t
+    go (is-false t) = clash e (List·getD-eq-default flags false (ltb-false x (length flags) t))
 
-module _ (ws : List ℕ) (flags : List Bool) (i end : ℕ) (m : Flagged ws flags i end) where
-  pub flags-other : (field ws i 0 ≡ 2 → ⊥) → Flagged ws flags (i + 1) end
-  flags-other n =
-      let same : (x : ℕ) → variableBelow ws (i + 1) x ≡ variableBelow ws i x =
-      λ x. variable-next ws i x ∙ rw (ne-eqb (field ws i 0) 2 n) (or-false (variableBelow ws i x)) in
+pub flagged-low : (flags : List Bool) → length (flagged flags) ≤ length flags
+unfolding flagged
+flagged-low flags = omega (arith, passing-length (λ x. getD flags x false) (length flags), ones-le (λ x. getD flags x false) (length flags))
+
+-- Flagging node by node.
+
+module _ (t : Table) where
+  unbound-none : (x : ℕ) → unboundBelow t 0 x ≡ false
+  unfolding unboundBelow
+  unbound-none x = some-none _
+
+  unbound-next : (i x : ℕ) → unboundBelow t (i + 1) x ≡ (unboundBelow t i x || (standsAt x (t .node i) && eqb (binder t i x) (t .size)))
+  unfolding unboundBelow
+  unbound-next i x = some-next _ i
+
+  pub flags-none : (n : ℕ) → highestNumber t < n → n ≤ 65536 → Flagged t (replicate n false) 0 0
+  unfolding flagged
+  flags-none n h l =
+      let wide : length (replicate n false) ≡ n = length-replicate {A = Bool} n false in
+      let none : sum (λ x. pick (getD (replicate n false) x false) 1 0) (length (replicate n false)) ≡ 0 =
+      sum-zero _ (length (replicate n false)) (λ x k. pick-no {A = ℕ} _ _ _ (getD-filled n x false)) in
       record {
-        wide = m .wide;
-        flag-is = λ x. m .flag-is x ∙ sym (same x);
-        low = m .low;
-        under = λ x h. m .under x (sym (same x) ∙ h);
+        wide = omega arith;
+        low = omega arith;
+        flag-is = λ x. getD-filled n x false ∙ sym (unbound-none x);
+        count-is = sym (passing-length (λ x. getD (replicate n false) x false) (length (replicate n false)) ∙ none);
       }
 
-  pub flags-variable : field ws i 0 ≡ 2 → (r : ℕ) → end ≤ r → field ws i 1 < r → r ≤ 65536
-      → Flagged ws (set flags (field ws i 1) true) (i + 1) r
-  flags-variable e r le lt low =
-      let y : ℕ = field ws i 1 in
-      let wide : length flags ≡ 65536 = m .wide in
-      let next : (x : ℕ) → variableBelow ws (i + 1) x ≡ (variableBelow ws i x || eqb x y) = λ x. variable-next ws i x ∙ rw e in
-      record {
-        wide = length-set flags y true ∙ m .wide;
-        flag-is = λ x. set-flag flags y (omega arith) x ∙ ap (λ b. b || eqb x y) (m .flag-is x) ∙ sym (next x);
-        low = low;
-        under = λ x h.
-            or-cases (variableBelow ws i x) (eqb x y) (sym (next x) ∙ h)
-            (λ v. omega (arith, m .under x v))
-            (λ q. omega (arith, eqb-true x y q));
-      }
+  module _ (flags : List Bool) (i count : ℕ) (m : Flagged t flags i count) where
+    pub flags-few : count ≤ 65536
+    flags-few = omega (arith, m .low, m .count-is, flagged-low flags)
 
--- Clearing what blocks cover.
+    -- a node that stands for no free number
+    pub flags-pass : ((x : ℕ) → (standsAt x (t .node i) && eqb (binder t i x) (t .size)) ≡ true → ⊥) → Flagged t flags (i + 1) count
+    flags-pass n =
+        record {
+          wide = m .wide;
+          low = m .low;
+          flag-is = λ x. m .flag-is x ∙ sym (unbound-next i x ∙ ap (λ b. unboundBelow t i x || b) (absent _ (n x)) ∙ or-false (unboundBelow t i x));
+          count-is = m .count-is;
+        }
 
-bound-range : (ws ls : List ℕ) (i : ℕ) → isBlockKind (field ws i 0) ≡ true → bound (nodeAt ws ls i) ≡ range ls (field ws i 1) (field ws i 2)
-unfolding bound
-bound-range ws ls i b = ap bound (node-block ws ls i (is-block ws ls i ∙ b))
+    module _ (y : ℕ) (h : i < t .size) (v : t .node i ≡ variable y) where
+      pub number-within : y < length flags
+      number-within = omega (arith, m .wide, variable-le t i y h v)
 
-pub cleared-none : (ws ls : List ℕ) (flags : List Bool) (end : ℕ) → Flagged ws flags (nodeCount ws) end → Cleared ws ls flags 0
-cleared-none ws ls flags end m =
-    record {
-      wide = m .wide;
-      flag-is = λ x. m .flag-is x ∙ sym (rw (covered-none ws ls x) (and-true (variableBelow ws (nodeCount ws) x)));
-    }
+      -- its number, if it has no binder
+      stands-here : binder t i y ≡ t .size → (x : ℕ) → (standsAt x (t .node i) && eqb (binder t i x) (t .size)) ≡ eqb x y
+      unfolding standsAt
+      stands-here b x = ap (λ nd. standsAt x nd && eqb (binder t i x) (t .size)) v ∙ go (look (eqb x y))
+        where
+          go : Is (eqb x y) → (eqb x y && eqb (binder t i x) (t .size)) ≡ eqb x y
+          go (is-true e) = rw e (eq-eqb (binder t i x) (t .size) (ap (binder t i) (eqb-true x y e) ∙ b))
+          go (is-false e) = rw e
 
-and-nor : (a b c : Bool) → ((a && not b) && not c) ≡ (a && not (b || c))
-and-nor true true c = refl
-and-nor true false c = refl
-and-nor false b c = refl
+      pub flags-free : binder t i y ≡ t .size → (r : ℕ) → r ≡ length (flagged (set flags y true)) → Flagged t (set flags y true) (i + 1) r
+      flags-free b r c =
+          let wide : length (set flags y true) ≡ length flags = length-set flags y true in
+          record {
+            wide = omega (arith, m .wide);
+            low = omega (arith, m .low);
+            flag-is = λ x.
+                set-flag flags y number-within x
+                ∙ ap (λ b. b || eqb x y) (m .flag-is x)
+                ∙ sym (unbound-next i x ∙ ap (λ c. unboundBelow t i x || c) (stands-here b x));
+            count-is = c;
+          }
 
-module _ (ws ls : List ℕ) (flags : List Bool) (i : ℕ) (u : Cleared ws ls flags i) where
-  cleared-next : (after : List Bool) → length after ≡ length flags
-      → Without flags (bound (nodeAt ws ls i)) after
-      → Cleared ws ls after (i + 1)
-  cleared-next after same step =
-      record {
-        wide = same ∙ u .wide;
-        flag-is = λ x.
-            step x
-            ∙ ap (λ b. b && not (mem x (bound (nodeAt ws ls i)))) (u .flag-is x)
-            ∙ and-nor (variableBelow ws (nodeCount ws) x) (coveredBelow ws ls i x) (mem x (bound (nodeAt ws ls i)))
-            ∙ ap (λ b. variableBelow ws (nodeCount ws) x && not b) (sym (covered-next ws ls i x));
-      }
+      pub flags-bound : (binder t i y ≡ t .size → ⊥) → Flagged t flags (i + 1) count
+      unfolding standsAt
+      flags-bound n =
+          flags-pass (λ x q.
+          let a : standsAt x (t .node i) ≡ true = and-left _ _ q in
+          let s : x ≡ y = eqb-true x y (sym (ap (standsAt x) v) ∙ a) in
+          n (ap (binder t i) (sym s) ∙ eqb-true _ _ (and-right (standsAt x (t .node i)) _ q)))
 
-  -- at a node that is no block
-  pub cleared-other : isBlockKind (field ws i 0) ≡ false → Cleared ws ls flags (i + 1)
-  cleared-other n =
-      let none : (x : ℕ) → mem x (bound (nodeAt ws ls i)) ≡ false =
-      λ x. absent _ (λ m. omega (arith, place-lt x _ m, none-bound (nodeAt ws ls i) (is-block ws ls i ∙ n))) in
-      cleared-next flags refl (λ x. sym (rw (none x) (and-true (getD flags x false))))
+  -- What is flagged in the end is free.
+  pub flagged-free : (tree : Tree t) (flags : List Bool) (count : ℕ) → Flagged t flags (t .size) count → flagged flags ≡ freeVariables t
+  unfolding flagged unboundBelow standsUnbound
+  flagged-free tree flags count m =
+      let flag : ℕ → Bool = λ x. getD flags x false in
+      let listed = passing-lists flag (length flags) (flag-within flags) in
+      one-list (free t) (flagged flags) (freeVariables t)
+      (record { members = λ x. listed .members x ∙ m .flag-is x ∙ sym (free-unbound t tree x); ascending = listed .ascending })
+      (free-listed t tree)
 
-  -- at a block
-  pub cleared-block : isBlockKind (field ws i 0) ≡ true → (after : List Bool) → length after ≡ length flags
-      → Without flags (range ls (field ws i 1) (field ws i 2)) after
-      → Cleared ws ls after (i + 1)
-  cleared-block b after same step = cleared-next after same (λ x. rw (bound-range ws ls i b) (step x))
-
--- One entry of a block's range.
-
-range-next : (ls : List ℕ) (first k : ℕ) → first + k < length ls → range ls first (k + 1) ≡ range ls first k ++ (getD ls (first + k) 0 ∷ [])
-unfolding range
-range-next ls first k h =
-    let l : k < length (drop first ls) = simp length-drop (omega arith) in
-    rw add-one (take-suc (drop first ls) k 0 l ∙ rw getD-drop)
-
-pub without-none : (ls : List ℕ) (first : ℕ) (before : List Bool) → Without before (range ls first 0) before
-unfolding range mem
-without-none ls first before x = sym (and-true (getD before x false))
-
-pub without-next : (ls : List ℕ) (first k : ℕ) (before flags : List Bool) → first + k < length ls → getD ls (first + k) 0 < length flags
-    → Without before (range ls first k) flags → Without before (range ls first (k + 1)) (set flags (getD ls (first + k) 0) false)
-without-next ls first k before flags h l w x =
-    let y : ℕ = getD ls (first + k) 0 in
-    let m : mem x (range ls first (k + 1)) ≡ (mem x (range ls first k) || eqb x y) =
-    ap (mem x) (range-next ls first k h) ∙ mem-append x (range ls first k) (y ∷ []) ∙ ap (λ b. mem x (range ls first k) || b) (mem-one x y) in
-    unset-flag flags y l x
-    ∙ ap (λ b. b && not (eqb x y)) (w x)
-    ∙ and-nor (getD before x false) (mem x (range ls first k)) (eqb x y)
-    ∙ ap (λ b. getD before x false && not b) (sym m)
-
--- an entry of a range stands in it
-pub entry-in-range : (ls : List ℕ) (first count k : ℕ) → first + count ≤ length ls → k < count
-    → mem (getD ls (first + k) 0) (range ls first count) ≡ true
-entry-in-range ls first count k fits h =
-    let l : length (range ls first count) ≡ count = range-length ls first count fits in
-    rw (← range-at ls first count k 0 h) (mem-getD (range ls first count) k 0 (omega arith))
-
--- Nodes of an accepted table.
-
-number-below : (x : ℕ) → isNumber x ≡ true → x < 65536
-unfolding isNumberTo
-number-below x h = let l : x ≤ 65535 = leb-true x 65535 (and-right (leb 1 x) (leb x 65535) h) in omega arith
+-- From the words and the bindings.
 
 module _ (ws ls : List ℕ) where
   stands-is : (j x : ℕ) → standsAt x (nodeAt ws ls j) ≡ (eqb (field ws j 0) 2 && eqb x (field ws j 1))
@@ -234,48 +184,49 @@ module _ (ws ls : List ℕ) where
       go (kind-for-all e) = rw (node-for-all ws ls j e, e)
       go (kind-none e1 e2 e3 e4 e5 e6) = rw (node-none ws ls j e1 e2 e3 e4 e5 e6, e2)
 
-  free-is : (x : ℕ) → isFreeVariable (tableOf ws ls) x ≡ (variableBelow ws (nodeCount ws) x && not (coveredBelow ws ls (nodeCount ws) x))
-  unfolding isFreeVariable someNode tableOf variableBelow coveredBelow someBelow
-  free-is x =
-      let n : ℕ = nodeCount ws in
-      let v = lowest-cong _ _ n (λ j h. stands-is j x) in rw v
+  pub plain-flags : (flags : List Bool) (i count : ℕ) → (field ws i 0 ≡ 2 → ⊥) → Flagged (tableOf ws ls) flags i count
+      → Flagged (tableOf ws ls) flags (i + 1) count
+  unfolding tableOf
+  plain-flags flags i count n m =
+      flags-pass (tableOf ws ls) flags i count m (λ x q.
+      n (eqb-true _ _ (and-left (eqb (field ws i 0) 2) _ (sym (stands-is i x) ∙ and-left (standsAt x (nodeAt ws ls i)) _ q))))
 
-  module _ (a : Accepted ws ls) where
-    pub numbered : Numbered ws
+  module _ (proper : Proper (tableOf ws ls)) (bindings : List ℕ) (b : Bindings (tableOf ws ls) bindings) (i : ℕ) (h : i < nodeCount ws) (k : field ws i 0 ≡ 2) where
+    variable-here : tableOf ws ls .node i ≡ variable (field ws i 1)
     unfolding tableOf
-    numbered i h e =
-        omega (arith, variable-le (tableOf ws ls) i (field ws i 1) h (node-variable ws ls i e), highest-limit ws ls a)
+    variable-here = node-variable ws ls i k
 
-    pub range-numbered : (i : ℕ) → i < nodeCount ws → isBlockKind (field ws i 0) ≡ true
-        → (x : ℕ) → mem x (range ls (field ws i 1) (field ws i 2)) ≡ true → x < 65536
-    range-numbered i h b x m =
-        number-below x (all-mem isNumber (bound (nodeAt ws ls i)) x (a .numbered i h) (rw (bound-range ws ls i b) m))
+    entry-here : getD bindings i 0 ≡ boundEntry (tableOf ws ls) i (field ws i 1)
+    unfolding tableOf
+    entry-here = b .binding-is i (field ws i 1) h variable-here
 
-    -- a number above the highest is not free
-    above-highest : (x : ℕ) → suc (highestNumber (tableOf ws ls)) ≤ x → isFreeVariable (tableOf ws ls) x ≡ false
-    unfolding tableOf variableBelow someBelow
-    above-highest x h = free-is x ∙ go (look (variableBelow ws (nodeCount ws) x))
+    bound-here : 0 < getD bindings i 0 → binder (tableOf ws ls) i (field ws i 1) ≡ nodeCount ws → ⊥
+    unfolding tableOf
+    bound-here p e = omega (arith, entry-here, entry-free (tableOf ws ls) proper i (field ws i 1) (omega arith))
+
+    free-here : getD bindings i 0 ≡ 0 → binder (tableOf ws ls) i (field ws i 1) ≡ nodeCount ws
+    unfolding tableOf
+    free-here z = go (look (ltb (binder (tableOf ws ls) i (field ws i 1)) (nodeCount ws)))
       where
-        go : Is (variableBelow ws (nodeCount ws) x) → (variableBelow ws (nodeCount ws) x && not (coveredBelow ws ls (nodeCount ws) x)) ≡ false
-        go (is-true v) =
-            let p : ℕ → Bool = λ j. eqb (field ws j 0) 2 && eqb x (field ws j 1) in
-            let j : ℕ = lowest p (nodeCount ws) in
-            let l : j < nodeCount ws = ltb-true j (nodeCount ws) v in
-            let t : p j ≡ true = lowest-holds p (nodeCount ws) l in
-            let k : field ws j 0 ≡ 2 = eqb-true _ _ (and-left (eqb (field ws j 0) 2) (eqb x (field ws j 1)) t) in
-            let q : x ≡ field ws j 1 = eqb-true _ _ (and-right (eqb (field ws j 0) 2) (eqb x (field ws j 1)) t) in
-            absurd (omega (arith, variable-le (tableOf ws ls) j (field ws j 1) l (node-variable ws ls j k)))
-        go (is-false v) = rw v
+        x : ℕ
+        x = field ws i 1
 
-    -- What is flagged in the end is free: both lists are that of the free numbers below 65536.
-    pub flagged-free : (before flags : List Bool) (end : ℕ) → Flagged ws before (nodeCount ws) end → Cleared ws ls flags (nodeCount ws)
-        → flagged flags end ≡ freeVariables (tableOf ws ls)
-    unfolding flagged chosen freeVariables
-    flagged-free before flags end m u =
-        let free : ℕ → Bool = isFreeVariable (tableOf ws ls) in
-        let g : ℕ → List ℕ = λ x. pick (free x) (x ∷ []) [] in
-        let same : (x : ℕ) → getD flags x false ≡ free x = λ x. u .flag-is x ∙ sym (free-is x) in
-        let above-end : (x : ℕ) → end ≤ x → free x ≡ false = λ x h. absent (free x) (λ f. omega (arith, m .under x (and-left _ _ (sym (free-is x) ∙ f)))) in
-        upTo-cong _ g end (λ x h. ap (λ b. pick b (x ∷ []) []) (same x))
-        ∙ sym (upTo-rest g end 65536 (m .low) (λ x h. pick-no _ _ _ (above-end x h)))
-        ∙ upTo-rest g (suc (highestNumber (tableOf ws ls))) 65536 (omega (arith, highest-limit ws ls a)) (λ x h. pick-no _ _ _ (above-highest x h))
+        go : Is (ltb (binder (tableOf ws ls) i x) (nodeCount ws)) → binder (tableOf ws ls) i x ≡ nodeCount ws
+        go (is-true l) = absurd (omega (arith, z, entry-here, entry-bound (tableOf ws ls) proper i x (ltb-true _ _ l)))
+        go (is-false l) =
+            let g : nodeCount ws ≤ binder (tableOf ws ls) i x = ltb-false (binder (tableOf ws ls) i x) (nodeCount ws) l in
+            let u : binder (tableOf ws ls) i x ≤ nodeCount ws = binder-le (tableOf ws ls) i x in omega arith
+
+    module _ (flags : List Bool) (count : ℕ) (m : Flagged (tableOf ws ls) flags i count) where
+      pub number-flag : field ws i 1 < length flags
+      unfolding tableOf
+      number-flag = number-within (tableOf ws ls) flags i count m (field ws i 1) h variable-here
+
+      pub bound-flags : 0 < getD bindings i 0 → Flagged (tableOf ws ls) flags (i + 1) count
+      unfolding tableOf
+      bound-flags p = flags-bound (tableOf ws ls) flags i count m (field ws i 1) h variable-here (bound-here p)
+
+      pub free-flags : getD bindings i 0 ≡ 0 → (r : ℕ) → r ≡ length (flagged (set flags (field ws i 1) true))
+          → Flagged (tableOf ws ls) (set flags (field ws i 1) true) (i + 1) r
+      unfolding tableOf
+      free-flags z r e = flags-free (tableOf ws ls) flags i count m (field ws i 1) h variable-here (free-here z) r e

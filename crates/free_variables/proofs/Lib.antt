@@ -1,2 +1,3 @@
 pub mod Flags
 pub mod Listing
+pub mod Room

@@ -2,21 +2,23 @@
 -- Assumes nothing.
 use mathlib.Core.Path.{_≡_, refl, sym, _∙_, ap}
 use mathlib.Core.Bool.{Bool, true, false}
-use mathlib.Core.List.{List, [], _∷_}
-use Prim.Native.Nat.{ℕ, _+_, _≤_, _<_}
+use mathlib.Core.List.{List, [], _∷_, _++_, append-nil}
+use Prim.Native.Nat.{ℕ, _+_, _-_, _≤_, _<_}
 use native.Mathlib.Omega.{arith}
-use lib.ListN.{length, getD}
-use borrow.Author.Tests.{lt-ltb, le-ltb}
-use Rattle.lists.specs.Choice.{pick, pick-yes, pick-no}
-use Rattle.lists.specs.Parts.{upTo, overwrite}
+use lib.Dec.{eqb}
+use lib.ListN.{length, getD, length-append}
+use borrow.Author.Tests.{eqb-true, eqb-false, lt-ltb, le-ltb}
+use Rattle.lists.specs.Choice.{pick, pick-yes, pick-no, Is, is-true, is-false, look}
+use Rattle.lists.specs.Parts.{upTo, passing, overwrite}
+use Rattle.lists.proofs.Parts.{upTo-split}
 use Rattle.lists.proofs.Overwrite.{overwrite-next, length-next, room-for-part}
 use Rattle.formula.specs.Words.{tableOf}
+use Rattle.formula.specs.FreeVariables.{freeVariables}
 use Rattle.refusals.specs.Verdict.{refusal, accepted}
 use Rattle.refusals.specs.Outcome.{refused, done}
 use Rattle.refusals.specs.declared.Verdict.{Verdict}
 use Rattle.refusals.proofs.Outcome.{call-next, call-refused, call-room, call-short}
 use Rattle.acceptance.specs.Verdict.{verdict}
-use Rattle.prenex_form.specs.FreeVariables.{freeVariables}
 use Rattle.free_variables.specs.Outcome.{after, listing, listed}
 use Rattle.free_variables.specs.Steps.{chosen, flagged}
 
@@ -33,33 +35,57 @@ unfolding chosen pick
 chosen-count true x = refl
 chosen-count false x = refl
 
+empty : (xs : List ℕ) → length xs ≡ 0 → xs ≡ []
+empty [] h = refl
+empty (x ∷ xs) h = absurd (omega arith)
+
 module _ (flags : List Bool) where
-  pub flagged-none : flagged flags 0 ≡ []
-  unfolding flagged upTo
+  -- the numbers below x whose flag is set
+  abbrev pub flaggedBelow : ℕ → List ℕ
+  flaggedBelow x = passing (λ y. getD flags y false) x
+
+  pub flagged-none : flaggedBelow 0 ≡ []
+  unfolding passing upTo
   flagged-none = refl
 
-  pub flagged-count : (x : ℕ) → length (flagged flags (x + 1)) ≡ length (flagged flags x) + pick (getD flags x false) 1 0
-  unfolding flagged
+  pub flagged-count : (x : ℕ) → length (flaggedBelow (x + 1)) ≡ length (flaggedBelow x) + pick (getD flags x false) 1 0
+  unfolding passing chosen
   flagged-count x =
       length-next (λ y. chosen (getD flags y false) y) x
-      ∙ ap (λ n. length (flagged flags x) + n) (chosen-count (getD flags x false) x)
+      ∙ ap (λ n. length (flaggedBelow x) + n) (chosen-count (getD flags x false) x)
 
-  -- where there is room for all, there is for those up to x
-  pub flagged-room : (x end room : ℕ) → x < end → length (flagged flags end) ≤ room → length (flagged flags (x + 1)) ≤ room
+  -- where some are left, the flags go on
+  pub flagged-on : (x : ℕ) → x ≤ length flags → length (flaggedBelow x) < length (flagged flags) → x < length flags
   unfolding flagged
-  flagged-room x end room h fits = omega (arith, room-for-part (λ y. chosen (getD flags y false) y) 0 x end room h (omega arith))
+  flagged-on x l h = go (look (eqb x (length flags)))
+    where
+      go : Is (eqb x (length flags)) → x < length flags
+      go (is-true e) = let q : length (flaggedBelow x) ≡ length (flaggedBelow (length flags)) = ap (λ (n : ℕ). length (flaggedBelow n)) (eqb-true x (length flags) e) in absurd (omega arith)
+      go (is-false e) = let q : x ≡ length flags → ⊥ = eqb-false x (length flags) e in omega arith
 
-  -- and for x itself, if its flag is set
-  pub flagged-fits : (x end room : ℕ) → x < end → length (flagged flags end) ≤ room → getD flags x false ≡ true → length (flagged flags x) < room
-  flagged-fits x end room h fits t =
-      omega (arith, flagged-room x end room h fits, flagged-count x, pick-yes {A = ℕ} (getD flags x false) 1 0 t)
+  -- where none are left, these are all
+  pub flagged-all : (x : ℕ) → x ≤ length flags → length (flagged flags) ≤ length (flaggedBelow x) → flaggedBelow x ≡ flagged flags
+  unfolding flagged passing
+  flagged-all x l h =
+      let g : ℕ → List ℕ = λ y. pick (getD flags y false) (y ∷ []) [] in
+      let k : ℕ = length flags - x in
+      let s = upTo-split g x k in
+      let q : k + x ≡ length flags = omega arith in
+      let all : upTo g (length flags) ≡ upTo g x ++ s .0 = ap (upTo g) (sym q) ∙ s .1 in
+      let none : s .0 ≡ [] = empty (s .0) (omega (arith, ap length all, length-append (upTo g x) (s .0))) in
+      sym (all ∙ ap (λ (r : List ℕ). upTo g x ++ r) none ∙ append-nil (upTo g x))
 
-  pub flagged-next : (out cur next : List ℕ) (x : ℕ) → cur ≡ overwrite out 0 (flagged flags x)
-      → next ≡ overwrite cur (length (flagged flags x)) (chosen (getD flags x false) x) → length (flagged flags (x + 1)) ≤ length out
-      → next ≡ overwrite out 0 (flagged flags (x + 1))
-  unfolding flagged
+  pub flagged-room : (x room : ℕ) → x < length flags → length (flagged flags) ≤ room → length (flaggedBelow (x + 1)) ≤ room
+  unfolding flagged passing
+  flagged-room x room h fits =
+      omega (arith, room-for-part (λ y. pick (getD flags y false) (y ∷ []) []) 0 x (length flags) room h (omega arith))
+
+  pub flagged-next : (out cur next : List ℕ) (x : ℕ) → cur ≡ overwrite out 0 (flaggedBelow x)
+      → next ≡ overwrite cur (length (flaggedBelow x)) (chosen (getD flags x false) x) → length (flaggedBelow (x + 1)) ≤ length out
+      → next ≡ overwrite out 0 (flaggedBelow (x + 1))
+  unfolding passing chosen
   flagged-next out cur next x p q fits =
-      let at : length (flagged flags x) ≡ 0 + length (flagged flags x) = omega arith in
+      let at : length (flaggedBelow x) ≡ 0 + length (flaggedBelow x) = omega arith in
       overwrite-next (λ y. chosen (getD flags y false) y) out cur next 0 x p
       (q ∙ ap (λ n. overwrite cur n (chosen (getD flags x false) x)) at) (omega arith)
 

@@ -2,28 +2,27 @@
 ghost use mathlib.Core.Bool.{true};
 ghost use mathlib.Core.Path.{_≡_};
 ghost use Prim.Native.Nat.{ℕ, _+_, _<_, _≤_};
-ghost use lib.ListN.{length};
+ghost use lib.ListN.{length, set};
 ghost use Rattle.lists.specs.Choice.{pick};
-ghost use Rattle.lists.specs.Members.{mem};
 ghost use Rattle.lists.specs.Parts.{overwrite};
-ghost use Rattle.formula.specs.Words.{nodeCount, range, tableOf};
-ghost use Rattle.acceptance.specs.Accepted.{Accepted};
-ghost use Rattle.prenex_form.specs.FreeVariables.{freeVariables};
+ghost use Rattle.formula.specs.Words.{nodeCount, tableOf};
+ghost use Rattle.formula.specs.FreeVariables.{freeVariables};
+ghost use Rattle.refusals.specs.Verdict.{accepted};
+ghost use Rattle.acceptance.specs.Limits.{limit};
+ghost use Rattle.acceptance.specs.Verdict.{verdict};
+ghost use Rattle.prenex_form.specs.Names.{highestNumber};
+ghost use Rattle.arrays.specs.Held.{Bound};
 ghost use Rattle.free_variables.specs.Outcome.{after, listing, listed};
-ghost use Rattle.free_variables.specs.Steps.{
-  Numbered,
-  Flagged,
-  Cleared,
-  Without,
-  chosen,
-  flagged,
-};
+ghost use Rattle.free_variables.specs.Steps.{Flagged, chosen, flagged};
+use acceptance::LIMIT;
 use formula::VARIABLE;
 use refusals::ACCEPTED;
 use refusals::BUFFER_TOO_SHORT;
 use refusals::Verdict;
 
-// The length of an array that a variable's number is an index of.
+// How many numbers an array has flags for: those of most tables, or all.
+const FEW_NUMBERS: usize = 4096;
+
 const NUMBERS: usize = 65536;
 
 // The verdict, and how many names were written.
@@ -32,10 +31,14 @@ pub struct Listed {
     pub count: u32,
 }
 
-// Writes a table's free variables, ascending and once each, to the start of `names`. Nothing is written unless there is
-// room for all of them.
+// Writes a table's free variables, ascending and once each, to the start of `names`: the numbers with a
+// variable node that no block above it covers. They are those that are free in the sense of truth, and
+// a form that `lift` writes has the same. Nothing is written unless there is room for all of them;
+// room for 2,048 is always enough (`RoomEnough`).
 //
-// The contract rules out a lister whose buffer is written on refusal, and one by which the highest number is left out.
+// The contract rules out a lister that writes to the buffer on refusal, one that lists a name bound
+// wherever it stands, one that counts a name at each of its nodes, one that tests the room by a lower
+// count, and, through `find_bindings`, one that leaves out a name because some block binds it.
 pub fn free_variables(words: &[u32], list: &[u32], names: &mut [u32]) -> Listed
     ensures outcome { λ r. ⌜ after r (now (names .exit))
         ≡ listed (now (words .entry)) (now (list .entry)) (now (names .entry)) ⌝ }
@@ -47,147 +50,147 @@ pub fn free_variables(words: &[u32], list: &[u32], names: &mut [u32]) -> Listed
     list_accepted(words, list, names)
 }
 
-// Lists the free variables of an accepted table. Flag x is set if x stands at a variable node, and once all are set, it is
-// taken back if a block covers x: the numbers whose flag is set in the end are free.
+// Lists the free variables of an accepted table, whose binders are found first.
 fn list_accepted(words: &[u32], list: &[u32], names: &mut [u32]) -> Listed
-    requires { ⌜ Accepted (now words) (now list) ⌝ }
+    requires { ⌜ verdict (now words) (now list) ≡ accepted ⌝ }
     ensures { λ r. ⌜ after r (now (names .exit))
         ≡ listing (now (names .entry)) (freeVariables (tableOf (now (words .entry)) (now (list .entry)))) ⌝ }
 {
-    let mut flags = [false; NUMBERS];
-    let end = flag_variables(words, &mut flags);
-    clear_bound(words, list, &mut flags);
-    list_flagged(&flags, end, names)
+    let mut bindings = [0u16; LIMIT];
+    let highest = bind_variables(words, list, &mut bindings);
+    list_unbound(words, list, &bindings, highest, names)
 }
 
-// Sets the flag of each number that stands at a variable node. The result is above all of them, so that what comes after
-// looks at no flag from there on.
-fn flag_variables(words: &[u32], flags: &mut [bool]) -> usize
-    requires { ⌜ Numbered (now words) ⌝ }
-    requires { ⌜ Flagged (now words) (now flags) 0 0 ⌝ }
-    ensures { λ r. ⌜ Flagged (now (words .entry)) (now (flags .exit)) (nodeCount (now (words .entry))) r ⌝ }
+// Writes the entry that binds each variable node's number, and one more; 0 if it is free. The result is
+// the highest number. The other arrays that this takes are given back with it, so that they and the
+// flags share the stack.
+fn bind_variables(words: &[u32], list: &[u32], bindings: &mut [u16]) -> u32
+    requires { ⌜ verdict (now words) (now list) ≡ accepted ⌝ }
+    requires { ⌜ length (now bindings) ≡ limit ⌝ }
+    ensures { λ r. ⌜ Bound (now (words .entry)) (now (list .entry)) (now (bindings .exit))
+        × (r ≡ highestNumber (tableOf (now (words .entry)) (now (list .entry)))) ⌝ }
 {
-    let mut end: usize = 0;
-    let mut i: usize = 0;
-    while i < words.len() / formula::WIDTH {
-        end = flag_node(words, flags, i, end);
-        i += 1;
-    }
-    end
+    let mut parents = [0u32; LIMIT];
+    let mut levels = [0u16; LIMIT];
+    let pass = scopes::fill_scopes(words, list, &mut parents, &mut levels);
+    let mut starts = [0u16; LIMIT];
+    let bound = pass.counts.bound as usize;
+    bindings::find_bindings(words, list, &parents, &mut starts, bindings, bound)
 }
 
-// The same of one node. `end` is above the numbers of the nodes below it.
-fn flag_node(words: &[u32], flags: &mut [bool], i: usize, end: usize) -> usize
-    requires { ⌜ Numbered (now words) ⌝ }
-    requires { ⌜ i < nodeCount (now words) ⌝ }
-    requires { ⌜ Flagged (now words) (now flags) i end ⌝ }
-    ensures { λ r. ⌜ Flagged (now (words .entry)) (now (flags .exit)) (i + 1) r ⌝ }
-{
-    let node = formula::node_at(words, i);
-    if node.kind != VARIABLE {
-        return end;
-    }
-    let x = node.a as usize;
-    flags[x] = true;
-    if x < end {
-        return end;
-    }
-    x + 1
-}
-
-// Takes back the flag of each number that a block covers.
-fn clear_bound(words: &[u32], list: &[u32], flags: &mut [bool])
-    requires { ⌜ Accepted (now words) (now list) ⌝ }
-    requires { ⌜ Cleared (now words) (now list) (now flags) 0 ⌝ }
-    ensures { λ r. ⌜ Cleared (now (words .entry)) (now (list .entry)) (now (flags .exit)) (nodeCount (now (words .entry))) ⌝ }
-{
-    let mut i: usize = 0;
-    while i < words.len() / formula::WIDTH {
-        clear_node(words, list, flags, i);
-        i += 1;
-    }
-}
-
-// The same of one node.
-fn clear_node(words: &[u32], list: &[u32], flags: &mut [bool], i: usize)
-    requires { ⌜ Accepted (now words) (now list) ⌝ }
-    requires { ⌜ i < nodeCount (now words) ⌝ }
-    requires { ⌜ Cleared (now words) (now list) (now flags) i ⌝ }
-    ensures { λ r. ⌜ Cleared (now (words .entry)) (now (list .entry)) (now (flags .exit)) (i + 1) ⌝ }
-{
-    let node = formula::node_at(words, i);
-    if !formula::is_block_kind(node.kind) {
-        return;
-    }
-    clear_range(list, flags, node.a, node.b);
-}
-
-// The same of one block's range.
-fn clear_range(list: &[u32], flags: &mut [bool], first: u32, count: u32)
-    requires { ⌜ first + count ≤ length (now list) ⌝ }
-    requires { ⌜ ((x : ℕ) → mem x (range (now list) first count) ≡ true → x < length (now flags)) ⌝ }
-    ensures { λ r. ⌜ Without (now (flags .entry)) (range (now (list .entry)) first count) (now (flags .exit)) ⌝ }
-{
-    let first = first as usize;
-    let count = count as usize;
-    let mut k: usize = 0;
-    while k < count {
-        flags[list[first + k] as usize] = false;
-        k += 1;
-    }
-}
-
-// Writes the numbers below `end` whose flag is set, ascending, if there is room for all of them.
-fn list_flagged(flags: &[bool], end: usize, names: &mut [u32]) -> Listed
-    requires { ⌜ (end ≤ length (now flags)) × (end ≤ 65536) ⌝ }
+// The same once the binders are known. Where the highest number is low, fewer flags are cleared.
+fn list_unbound(
+    words: &[u32],
+    list: &[u32],
+    bindings: &[u16],
+    highest: u32,
+    names: &mut [u32],
+) -> Listed
+    requires { ⌜ verdict (now words) (now list) ≡ accepted ⌝ }
+    requires { ⌜ Bound (now words) (now list) (now bindings) ⌝ }
+    requires { ⌜ highest ≡ highestNumber (tableOf (now words) (now list)) ⌝ }
     ensures { λ r. ⌜ after r (now (names .exit))
-        ≡ listing (now (names .entry)) (flagged (now (flags .entry)) end) ⌝ }
+        ≡ listing (now (names .entry)) (freeVariables (tableOf (now (words .entry)) (now (list .entry)))) ⌝ }
 {
-    let count = count_flagged(flags, end);
+    if (highest as usize) < FEW_NUMBERS {
+        let mut flags = [false; FEW_NUMBERS];
+        return list_flagged(words, list, bindings, &mut flags, names);
+    }
+    let mut flags = [false; NUMBERS];
+    list_flagged(words, list, bindings, &mut flags, names)
+}
+
+// The same with flags that are clear: those of the free variables are set, and counted, and then
+// written if there is room for all of them.
+fn list_flagged(
+    words: &[u32],
+    list: &[u32],
+    bindings: &[u16],
+    flags: &mut [bool],
+    names: &mut [u32],
+) -> Listed
+    requires { ⌜ verdict (now words) (now list) ≡ accepted ⌝ }
+    requires { ⌜ Bound (now words) (now list) (now bindings) ⌝ }
+    requires { ⌜ Flagged (tableOf (now words) (now list)) (now flags) 0 0 ⌝ }
+    ensures { λ r. ⌜ after r (now (names .exit))
+        ≡ listing (now (names .entry)) (freeVariables (tableOf (now (words .entry)) (now (list .entry)))) ⌝ }
+{
+    let count = flag_unbound(words, list, bindings, flags);
     if names.len() < count {
         let verdict = refusals::refusal(BUFFER_TOO_SHORT, 0);
         return Listed { verdict, count: 0 };
     }
-    write_flagged(flags, end, names);
+    write_flagged(flags, count, names);
     let verdict = refusals::accepted();
     let count = count as u32;
     Listed { verdict, count }
 }
 
-// How many flags below `end` are set.
-fn count_flagged(flags: &[bool], end: usize) -> usize
-    requires { ⌜ (end ≤ length (now flags)) × (end ≤ 65536) ⌝ }
-    ensures { λ r. ⌜ (r ≡ length (flagged (now (flags .entry)) end)) × (r ≤ end) ⌝ }
+// Sets the flag of each number with a variable node that no block binds. The result is how many.
+fn flag_unbound(words: &[u32], list: &[u32], bindings: &[u16], flags: &mut [bool]) -> usize
+    requires { ⌜ verdict (now words) (now list) ≡ accepted ⌝ }
+    requires { ⌜ Bound (now words) (now list) (now bindings) ⌝ }
+    requires { ⌜ Flagged (tableOf (now words) (now list)) (now flags) 0 0 ⌝ }
+    ensures { λ r. ⌜ Flagged (tableOf (now (words .entry)) (now (list .entry))) (now (flags .exit)) (nodeCount (now (words .entry))) r ⌝ }
 {
     let mut count: usize = 0;
-    let mut x: usize = 0;
-    while x < end {
-        count = count_one(count, flags[x]);
-        x += 1;
+    let mut i: usize = 0;
+    while i < words.len() / formula::WIDTH {
+        count = flag_node(words, list, bindings, flags, count, i);
+        i += 1;
     }
     count
 }
 
-// One more if the flag is set.
-fn count_one(count: usize, flag: bool) -> usize
-    requires { ⌜ count < 65536 ⌝ }
-    ensures { λ r. ⌜ r ≡ count + pick flag 1 0 ⌝ }
+// The same of one node. So many flags were set by the nodes below it.
+fn flag_node(
+    words: &[u32],
+    list: &[u32],
+    bindings: &[u16],
+    flags: &mut [bool],
+    count: usize,
+    i: usize,
+) -> usize
+    requires { ⌜ verdict (now words) (now list) ≡ accepted ⌝ }
+    requires { ⌜ Bound (now words) (now list) (now bindings) ⌝ }
+    requires { ⌜ i < nodeCount (now words) ⌝ }
+    requires { ⌜ Flagged (tableOf (now words) (now list)) (now flags) i count ⌝ }
+    ensures { λ r. ⌜ Flagged (tableOf (now (words .entry)) (now (list .entry))) (now (flags .exit)) (i + 1) r ⌝ }
 {
-    if !flag {
+    let node = formula::node_at(words, i);
+    if node.kind != VARIABLE {
+        return count;
+    }
+    if bindings[i] > 0 {
+        return count;
+    }
+    set_flag(flags, node.a as usize, count)
+}
+
+// Sets the flag of x. `count` is how many were set before, the result how many are.
+fn set_flag(flags: &mut [bool], x: usize, count: usize) -> usize
+    requires { ⌜ (x < length (now flags)) × (length (now flags) ≤ 65536) ⌝ }
+    requires { ⌜ count ≡ length (flagged (now flags)) ⌝ }
+    ensures { λ r. ⌜ (now (flags .exit) ≡ set (now (flags .entry)) x true) × (r ≡ length (flagged (now (flags .exit)))) ⌝ }
+{
+    let seen = flags[x];
+    flags[x] = true;
+    if seen {
         return count;
     }
     count + 1
 }
 
-// Writes the numbers below `end` whose flag is set to the start of `names`.
-fn write_flagged(flags: &[bool], end: usize, names: &mut [u32])
-    requires { ⌜ (end ≤ length (now flags)) × (end ≤ 65536) ⌝ }
-    requires { ⌜ length (flagged (now flags) end) ≤ length (now names) ⌝ }
-    ensures { λ r. ⌜ now (names .exit) ≡ overwrite (now (names .entry)) 0 (flagged (now (flags .entry)) end) ⌝ }
+// Writes the numbers whose flag is set, `count` of them, ascending to the start of `names`. It looks at
+// no flag after the last that is set.
+fn write_flagged(flags: &[bool], count: usize, names: &mut [u32])
+    requires { ⌜ (length (now flags) ≤ 65536) × (count ≡ length (flagged (now flags))) ⌝ }
+    requires { ⌜ count ≤ length (now names) ⌝ }
+    ensures { λ r. ⌜ now (names .exit) ≡ overwrite (now (names .entry)) 0 (flagged (now (flags .entry))) ⌝ }
 {
     let mut at: usize = 0;
     let mut x: usize = 0;
-    while x < end {
+    while at < count {
         at = write_one(names, at, flags[x], x as u32);
         x += 1;
     }
@@ -195,7 +198,7 @@ fn write_flagged(flags: &[bool], end: usize, names: &mut [u32])
 
 // Writes x at index `at` if its flag is set. The result is the index where the next name goes.
 fn write_one(names: &mut [u32], at: usize, flag: bool, x: u32) -> usize
-    requires { ⌜ (flag ≡ true → at < length (now names)) ⌝ }
+    requires { ⌜ at < length (now names) ⌝ }
     ensures { λ r. ⌜ (now (names .exit) ≡ overwrite (now (names .entry)) at (chosen flag x)) × (r ≡ at + pick flag 1 0) ⌝ }
 {
     if !flag {

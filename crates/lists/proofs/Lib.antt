@@ -3,3 +3,5 @@ pub mod Members
 pub mod Parts
 pub mod Overwrite
 pub mod Stores
+pub mod Passing
+pub mod Sums

@@ -1,13 +1,14 @@
--- Laws of `lowest`: it is what its name says.
+-- Laws of `lowest`: it is what its name says; and of `someBelow`, step by step.
 -- Assumes nothing.
 use mathlib.Core.Path.{_≡_, refl, _∙_}
-use mathlib.Core.Bool.{Bool, true, false}
-use Prim.Native.Nat.{ℕ, zero, suc, _≤_, _<_}
+use mathlib.Core.Bool.{Bool, true, false, _||_}
+use Prim.Native.Nat.{ℕ, zero, suc, _+_, _≤_, _<_}
+use native.Mathlib.Numerals.{add-one}
 use native.Mathlib.Omega.{arith}
 use lib.Dec.{ltb}
-use borrow.Author.Tests.{ltb-true, ltb-false}
-use Rattle.lists.specs.Choice.{pick-yes, pick-no, Is, is-true, is-false, look, clash}
-use Rattle.lists.specs.Search.{lowest}
+use borrow.Author.Tests.{ltb-true, ltb-false, lt-ltb, le-ltb}
+use Rattle.lists.specs.Choice.{pick, pick-yes, pick-no, Is, is-true, is-false, look, clash}
+use Rattle.lists.specs.Search.{lowest, someBelow}
 
 -- the three ways to go one further
 data Step (p : ℕ → Bool) (n : ℕ) : Type 0 where
@@ -94,3 +95,21 @@ pub lowest-cong : (p r : ℕ → Bool) (n : ℕ) → ((j : ℕ) → j < n → p 
 unfolding lowest
 lowest-cong p r zero same = refl
 lowest-cong p r (suc n) same = rw (lowest-cong p r n (λ j h. same j (omega arith)), same n (omega arith))
+
+pub some-none : (p : ℕ → Bool) → someBelow p 0 ≡ false
+unfolding someBelow lowest
+some-none p = refl
+
+pub some-next : (p : ℕ → Bool) (n : ℕ) → someBelow p (n + 1) ≡ (someBelow p n || p n)
+unfolding someBelow lowest
+some-next p n = rw add-one (first (look (ltb (lowest p n) n)))
+  where
+    second : ltb (lowest p n) n ≡ false → Is (p n) → ltb (pick (ltb (lowest p n) n) (lowest p n) (pick (p n) n (suc n))) (suc n) ≡ (ltb (lowest p n) n || p n)
+    second e (is-true t) = rw (pick-no (ltb (lowest p n) n) (lowest p n) (pick (p n) n (suc n)) e, pick-yes (p n) n (suc n) t, e, t) (lt-ltb n (suc n) (omega arith))
+    second e (is-false t) = rw (pick-no (ltb (lowest p n) n) (lowest p n) (pick (p n) n (suc n)) e, pick-no (p n) n (suc n) t, e, t) (le-ltb (suc n) (suc n) (omega arith))
+
+    first : Is (ltb (lowest p n) n) → ltb (pick (ltb (lowest p n) n) (lowest p n) (pick (p n) n (suc n))) (suc n) ≡ (ltb (lowest p n) n || p n)
+    first (is-true e) =
+        let l : lowest p n < n = ltb-true _ _ e in
+        rw (pick-yes (ltb (lowest p n) n) (lowest p n) (pick (p n) n (suc n)) e, e) (lt-ltb (lowest p n) (suc n) (omega arith))
+    first (is-false e) = second e (look (p n))

@@ -122,7 +122,9 @@ fn sizes_of(words: &[u32], list: &[u32], counts: Counts) -> Sizes
 }
 
 // Lifts a table's quantifiers: writes the nodes, the prefix and the variables of its prenex form to
-// the starts of three buffers.
+// the starts of three buffers. The form's free variables are the table's, so the list of them is the
+// one that listing the table's free variables writes (`same-free` in `PrenexOf`, and the law
+// `SameList`).
 //
 // The contract rules out a lift that answers done and writes nothing, and one that writes to a buffer
 // whose room is not tested.
@@ -190,7 +192,7 @@ fn lift_accepted(
     done(sizes)
 }
 
-// Finds the bindings, and goes on.
+// Finds the bindings, chains the levels, and goes on.
 fn write_form(
     words: &[u32],
     list: &[u32],
@@ -207,22 +209,13 @@ fn write_form(
     requires { ⌜ Room (now words) (now list) (now nodes) (now prefix) (now variables) ⌝ }
     ensures { λ _. ⌜ Written (now (words .entry)) (now (list .entry)) (now (nodes .entry)) (now (prefix .entry)) (now (variables .entry)) (now (nodes .exit)) (now (prefix .exit)) (now (variables .exit)) ⌝ }
 {
-    let mut firsts = [0u16; LIMIT];
-    let mut nexts = [0u16; LIMIT];
     let mut starts = [0u16; LIMIT];
     let mut bindings = [0u16; LIMIT];
     let bound = counts.bound as usize;
-    let highest = bindings::find_bindings(
-        words,
-        list,
-        parents,
-        levels,
-        &mut firsts,
-        &mut nexts,
-        &mut starts,
-        &mut bindings,
-        bound,
-    );
+    let highest = bindings::find_bindings(words, list, parents, &mut starts, &mut bindings, bound);
+    let mut firsts = [0u16; LIMIT];
+    let mut nexts = [0u16; LIMIT];
+    chains::chain_levels(words, list, levels, &mut firsts, &mut nexts);
     write_named(
         words,
         list,

@@ -9,19 +9,23 @@ use native.Mathlib.Omega.{arith}
 use native.Mathlib.Nat.{not-suc-le-zero}
 use lib.Dec.{eqb, ltb}
 use lib.ListN.{length, getD, length-append, List·getD-append}
-use borrow.Author.Tests.{eqb-true, eqb-false, eq-eqb, ne-eqb, ltb-true, ltb-false, not-true}
+use borrow.Author.Tests.{eqb-true, eqb-false, eq-eqb, ne-eqb, ltb-true, ltb-false, lt-ltb}
 use Rattle.lists.specs.Choice.{pick, pick-yes, pick-no, Is, is-true, is-false, look, clash, and-left, and-right, and-both, or-left, or-right, or-cases, absent, same-test}
 use Rattle.lists.specs.Members.{mem}
-use Rattle.lists.specs.Parts.{upTo}
-use Rattle.lists.proofs.Search.{lowest-none}
+use Rattle.lists.specs.Search.{lowest, someBelow}
+use Rattle.lists.specs.Parts.{upTo, passing}
+use Rattle.lists.proofs.Search.{lowest-none, lowest-holds, lowest-least}
 use Rattle.lists.proofs.Members.{mem-append, mem-left, mem-right, mem-one, mem-head, mem-tail, mem-getD, mem-flatMap, or-group}
-use Rattle.lists.proofs.Parts.{term-le}
+use Rattle.lists.proofs.Parts.{term-le, upTo-cong}
 use Rattle.formula.specs.Node.{Quantifier, exists, for-all, Node, constant, variable, negation, operator, block, Table, operands, isBlock, bound}
 use Rattle.formula.specs.Tree.{Tree, Proper, count}
 use Rattle.formula.specs.Truth.{nodeFree, freeAt, free}
 use Rattle.formula.specs.Form.{Block, binds, formFree}
+use Rattle.formula.specs.FreeVariables.{standsAt, highestVariable, freeVariables}
 use Rattle.formula.proofs.Unfolding.{freeAt-node}
+use Rattle.formula.proofs.FreeVariables.{Through, here, through, free-through, through-free}
 use Rattle.prenex_form.specs.Scope.{binder, inner, level, parent}
+use Rattle.prenex_form.specs.FreeVariables.{standsUnbound, FreeByBinder}
 use Rattle.prenex_form.specs.Names.{newNames, newName, copies, definitionVariable}
 use Rattle.prenex_form.specs.Levels.{blocksAt, levels, quantifierAt, levelQuantifier}
 use Rattle.prenex_form.specs.Matrix.{kept, renamed, firstNodes, equation, guard, constraint, further, constraints, levelJoin, levelNodes, nodesTo, prenexNodes, writtenNodes}
@@ -41,37 +45,13 @@ and-not false b h = clash h refl
 
 -- the free numbers of a tree
 
--- Why x is free in a node: it stands there, or it is free in an operand and the node does not bind it.
-data Through (at : ℕ → Bool) (x : ℕ) (nd : Node) : Type 0 where
-  here : nd ≡ variable x → Through at x nd
-  through : (a : ℕ) → mem a (operands nd) ≡ true → at a ≡ true → (isBlock nd && mem x (bound nd)) ≡ false → Through at x nd
-
-free-through : (at : ℕ → Bool) (x : ℕ) (nd : Node) → nodeFree at x nd ≡ true → Through at x nd
-unfolding nodeFree operands isBlock bound
-free-through at x (constant b) h = clash h refl
-free-through at x (variable y) h = here (ap variable (sym (eqb-true x y h)))
-free-through at x (negation a) h = through a (mem-head a []) h refl
-free-through at x (operator f a b) h =
-    or-cases (at a) (at b) h
-    (λ k. through a (mem-head a (b ∷ [])) k refl)
-    (λ k. through b (mem-tail b a (b ∷ []) (mem-head b [])) k refl)
-free-through at x (block q xs a) h =
-    through a (mem-head a []) (and-right (not (mem x xs)) (at a) h) (not-true (mem x xs) (and-left (not (mem x xs)) (at a) h))
-
-one-operand : (i a : ℕ) (at : ℕ → Bool) → mem i (a ∷ []) ≡ true → at i ≡ true → at a ≡ true
-one-operand i a at m h = rw (eqb-true i a (sym (mem-one i a) ∙ m)) at h
-
-through-free : (at : ℕ → Bool) (x : ℕ) (nd : Node) (i : ℕ) → mem i (operands nd) ≡ true → at i ≡ true
-    → (isBlock nd && mem x (bound nd)) ≡ false → nodeFree at x nd ≡ true
-unfolding nodeFree operands isBlock bound mem
-through-free at x (constant b) i m h n = clash m refl
-through-free at x (variable y) i m h n = clash m refl
-through-free at x (negation a) i m h n = one-operand i a at m h
-through-free at x (operator f a b) i m h n =
-    or-cases (eqb i a) (mem i (b ∷ [])) m
-    (λ e. or-left (at a) (at b) (rw (eqb-true i a e) at h))
-    (λ k. or-right (at a) (at b) (one-operand i b at k h))
-through-free at x (block q xs a) i m h n = and-both _ _ (ap not n) (one-operand i a at m h)
+stands-variable : (x : ℕ) (nd : Node) → standsAt x nd ≡ true → nd ≡ variable x
+unfolding standsAt
+stands-variable x (constant b) h = clash h refl
+stands-variable x (variable y) h = ap variable (sym (eqb-true x y h))
+stands-variable x (negation a) h = clash h refl
+stands-variable x (operator f a b) h = clash h refl
+stands-variable x (block q xs a) h = clash h refl
 
 -- x stands at a variable node, and no block above the node binds it. In a tree this is what `free` says: free-stands, stands-free.
 pub record Stands (t : Table) (x : ℕ) : Type 0 where
@@ -128,6 +108,37 @@ module _ (t : Table) (tree : Tree t) (x : ℕ) where
       free-above (s .node) (s .within) (s .unbound)
       (freeAt-node t (tree .lower) x (s .node) (s .within)
       ∙ ap (nodeFree (freeAt (t .size) t x) x) (s .variable-is) ∙ eq-eqb x x refl)
+
+  -- the same as a test
+
+  unbound-stands : standsUnbound t x ≡ true → Stands t x
+  unfolding standsUnbound someBelow
+  unbound-stands e =
+      let p : ℕ → Bool = λ i. standsAt x (t .node i) && eqb (binder t i x) (t .size) in
+      let i : ℕ = lowest p (t .size) in
+      let h : i < t .size = ltb-true i (t .size) e in
+      let m : p i ≡ true = lowest-holds p (t .size) h in
+      record {
+        node = i;
+        within = h;
+        variable-is = stands-variable x (t .node i) (and-left _ _ m);
+        unbound = eqb-true (binder t i x) (t .size) (and-right (standsAt x (t .node i)) _ m);
+      }
+
+  stands-unbound : Stands t x → standsUnbound t x ≡ true
+  unfolding standsUnbound someBelow standsAt
+  stands-unbound s =
+      let p : ℕ → Bool = λ i. standsAt x (t .node i) && eqb (binder t i x) (t .size) in
+      let here-is : standsAt x (t .node (s .node)) ≡ true = ap (standsAt x) (s .variable-is) ∙ eq-eqb x x refl in
+      let l : lowest p (t .size) ≤ s .node = lowest-least p (t .size) (s .node) (s .within) (and-both _ _ here-is (eq-eqb _ _ (s .unbound))) in
+      lt-ltb (lowest p (t .size)) (t .size) (omega (arith, s .within))
+
+  pub free-unbound : free t x ≡ standsUnbound t x
+  free-unbound = same-test (free t x) (standsUnbound t x) (λ e. stands-unbound (free-stands e)) (λ e. stands-free (unbound-stands e))
+
+pub free-by-binder : FreeByBinder
+unfolding freeVariables passing
+free-by-binder t tree = upTo-cong _ _ (suc (highestVariable t)) (λ x h. ap (λ b. pick b (x ∷ []) []) (free-unbound t tree x))
 
 -- what the prefix binds
 

@@ -13,6 +13,7 @@ use Rattle.lists.proofs.Members.{mem-nil, all-mem}
 use Rattle.lists.proofs.Parts.{highest-le}
 use Rattle.formula.specs.Node.{Node, constant, variable, negation, operator, block, isBlock, bound}
 use Rattle.formula.specs.Truth.{digit}
+use Rattle.formula.specs.FreeVariables.{standsAt}
 use Rattle.formula.specs.Words.{nodeCount, isBlockKind, wordsAt, wordsOf, nodeAt, tableOf}
 use Rattle.formula.specs.declared.NodeWords.{NodeWords}
 use Rattle.formula.proofs.Nodes.{node-constant, node-variable, node-negation, node-operator, node-exists, node-for-all}
@@ -21,7 +22,6 @@ use Rattle.acceptance.specs.Verdict.{isNumberTo, wellFormed}
 use Rattle.acceptance.specs.Accepted.{AcceptedWithin, Accepted}
 use Rattle.acceptance.proofs.Accepted.{Formed, formed-constant, formed-variable, formed-negation, formed-operator, formed-exists, formed-for-all, formed-cases}
 use Rattle.prenex_form.specs.Names.{maximum, highestAt, highestNumber, boundCount}
-use Rattle.prenex_form.specs.FreeVariables.{standsAt}
 
 -- numbers from 1 up to m
 

@@ -12,12 +12,15 @@ use Rattle.lists.specs.Search.{lowest, someBelow}
 use Rattle.lists.specs.Members.{mem, all, distinct}
 use Rattle.lists.proofs.Search.{lowest-none}
 use Rattle.lists.proofs.Parts.{sum-zero}
+use Rattle.lists.proofs.Passing.{one-list}
 use Rattle.formula.specs.Node.{Table, bound}
 use Rattle.formula.specs.Words.{width, nodeCount, wordsAt, nodeAt, tableOf}
 use Rattle.formula.specs.Truth.{free}
+use Rattle.formula.specs.FreeVariables.{standsAt, someNode, freeVariables, formFreeVariables}
 use Rattle.formula.specs.Tree.{Tree, count, boundBelow}
 use Rattle.formula.proofs.Nodes.{is-block}
 use Rattle.formula.proofs.Coincidence.{coincidence}
+use Rattle.formula.proofs.FreeVariables.{free-listed, form-free-listed}
 use Rattle.refusals.specs.Verdict.{accepted}
 use Rattle.acceptance.specs.Limits.{TableLimits, tableLimits, matrixLimits}
 use Rattle.acceptance.specs.Verdict.{verdict}
@@ -26,8 +29,7 @@ use Rattle.acceptance.proofs.Accepted.{accepted-holds, holds-within}
 use Rattle.prenex_form.specs.Matrix.{prenexNodes, writtenNodes}
 use Rattle.prenex_form.specs.Prefix.{writtenPrefix, writtenVariables}
 use Rattle.prenex_form.specs.Sizes.{sizes, SizeRule}
-use Rattle.prenex_form.specs.FreeVariables.{standsAt, someNode}
-use Rattle.prenex_form.specs.Promise.{highestName, PrenexOf, MatrixPasses, SizesOf, holds, ZeroUnused}
+use Rattle.prenex_form.specs.Promise.{highestName, PrenexOf, SameList, MatrixPasses, SizesOf, holds, ZeroUnused}
 use Rattle.prenex_form.proofs.Truth.{same-truth}
 use Rattle.prenex_form.proofs.FreeNames.{free-stands, same-free}
 use Rattle.prenex_form.proofs.Limits.{number-from, zero-within, node-within, within-formed, formed-mono, formed-plain, highest-limit, bound-limit, size-limit}
@@ -76,6 +78,14 @@ of-accepted ws ls a =
 pub prenex : (ws ls : List ℕ) → verdict ws ls ≡ accepted
     → PrenexOf (tableOf ws ls) (writtenNodes (tableOf ws ls)) (writtenPrefix (tableOf ws ls)) (writtenVariables (tableOf ws ls))
 prenex ws ls h = of-accepted ws ls (accepted-holds ws ls h)
+
+-- A prenex form of a table has the table's list of free variables.
+pub same-list : SameList
+same-list t tree ns ps xs p =
+    let of-form = form-free-listed ns ps xs (p .matrix-tree) in
+    one-list (free t) (formFreeVariables ns ps xs) (freeVariables t)
+    (record { members = λ x. of-form .members x ∙ p .same-free x; ascending = of-form .ascending })
+    (free-listed t tree)
 
 -- Measured sizes are the sizes written.
 pub sizes-written : (ws ls : List ℕ) → verdict ws ls ≡ accepted

@@ -15,6 +15,7 @@ use Rattle.formula.specs.Words.{width, nodeCount, wordsAt, tableOf}
 use Rattle.formula.specs.Valuation.{Valuation}
 use Rattle.formula.specs.Truth.{truth, free}
 use Rattle.formula.specs.Form.{prefixWidth, formTruth, formFree}
+use Rattle.formula.specs.FreeVariables.{standsAt, someNode, freeVariables, formFreeVariables}
 use Rattle.formula.specs.Tree.{Tree}
 use Rattle.refusals.specs.Verdict.{accepted}
 use Rattle.acceptance.specs.Limits.{matrixLimits}
@@ -23,7 +24,6 @@ use Rattle.prenex_form.specs.declared.Sizes.{Sizes}
 use Rattle.prenex_form.specs.Scope.{depth}
 use Rattle.prenex_form.specs.Names.{highestNumber, boundCount}
 use Rattle.prenex_form.specs.Prefix.{blockCount}
-use Rattle.prenex_form.specs.FreeVariables.{standsAt, someNode}
 
 -- F + 2 q + b, the highest name that a form may hold: q new names, at most q copies and at most b definition variables after F.
 abbrev pub highestName : Table → ℕ
@@ -39,7 +39,7 @@ pub record PrenexOf (t : Table) (ns ps xs : List ℕ) : Type 0 where
   -- "what it gives to a number that is nowhere free in the table changes neither value"
   pub table-by-free : (v u : Valuation) → SameOnFree t v u → truth t v ≡ truth t u
   pub form-by-free : (v u : Valuation) → SameOnFree t v u → formTruth ns ps xs v ≡ formTruth ns ps xs u
-  -- the same free variables
+  -- the same free variables, so the same list of them (SameList)
   pub same-free : (x : ℕ) → formFree ns ps xs x ≡ free t x
   -- no variable is bound twice
   pub bound-once : distinct xs ≡ true
@@ -65,6 +65,13 @@ pub record PrenexOf (t : Table) (ns ps xs : List ℕ) : Type 0 where
   -- at most 40,960 nodes, and names at most 77,823
   pub nodes-limit : nodeCount ns ≤ 40960
   pub names-limit : highestName t ≤ 77823
+
+-- The list of the free variables of a prenex form is the table's own, the one that listing writes: the theorem `same-list`
+-- (proofs/Theorem.antt), by `same-free`.
+abbrev pub SameList : Type 0
+SameList =
+    (t : Table) → Tree t → (ns ps xs : List ℕ) → PrenexOf t ns ps xs
+    → formFreeVariables ns ps xs ≡ freeVariables t
 
 -- The nodes of a form pass the checker's tests, with 40,960 nodes and numbers up to 77,823 allowed and no blocks: the theorem
 -- `matrix-passes` (proofs/Theorem.antt).

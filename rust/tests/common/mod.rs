@@ -119,6 +119,16 @@ pub const LIBRARY_FREE_VARIABLES: FreeVariables = |table, names| {
 const WRAPPED_FREE_VARIABLES: FreeVariables =
     |table, names| count_words(free_variables(&table.words, &table.list, names));
 
+const REFERENCE_FREE_VARIABLES: FreeVariables =
+    |table, names| count_words(reference::free_variables(&table.words, &table.list, names));
+
+/// The call of the library, of its wrapper and of the reference.
+pub const FREE_VARIABLES: [FreeVariables; 3] = [
+    LIBRARY_FREE_VARIABLES,
+    WRAPPED_FREE_VARIABLES,
+    REFERENCE_FREE_VARIABLES,
+];
+
 /// The reference's answer, and what it writes into exact buffers.
 pub fn reference_form(table: &Table) -> (Result<Sizes, Refusal>, PrenexForm) {
     let measured = reference::measure(&table.words, &table.list);
@@ -182,6 +192,40 @@ pub fn assert_free_variables(
     lent.assert_holds(names, "names");
 }
 
+/// Holds a call for the free variables to given results, with buffers that
+/// are exact, longer by `spare` and, if there are names, too short.
+fn assert_lists(
+    free_variables: FreeVariables,
+    table: &Table,
+    prefill: Prefill,
+    expected: Result<u32, Refusal>,
+    names: &[u32],
+    spare: usize,
+) {
+    let exact = names.len();
+    for len in [exact, exact + spare] {
+        assert_free_variables(free_variables, table, len, prefill, expected, names);
+    }
+    if exact > 0 {
+        for len in [exact - 1, exact - 1 - spare % exact] {
+            assert_free_variables(free_variables, table, len, prefill, Err(TOO_SHORT), &[]);
+        }
+    }
+}
+
+/// Holds the library, its wrapper and the reference to the free variables of
+/// an accepted table.
+pub fn assert_listing(table: &Table, names: &[u32], prefills: &[Prefill], spare: usize) {
+    let count = Ok(names.len() as u32);
+    let before = table.clone();
+    for &prefill in prefills {
+        for free_variables in FREE_VARIABLES {
+            assert_lists(free_variables, table, prefill, count, names, spare);
+        }
+    }
+    assert!(*table == before, "the table has changed");
+}
+
 /// What a call with a buffer that is too short answers, and what it writes.
 pub const TOO_SHORT: Refusal = Reason::BufferTooShort.at(0);
 pub static NOTHING: PrenexForm = PrenexForm {
@@ -221,9 +265,7 @@ pub fn assert_operations(
         for lengths in [exact, long] {
             assert_lift(lift, table, lengths, prefill, sizes, form);
         }
-        for len in [names.len(), names.len() + spare] {
-            assert_free_variables(free_variables, table, len, prefill, count, names);
-        }
+        assert_lists(free_variables, table, prefill, count, names, spare);
         if sizes.is_err() {
             let ample = ample(table);
             assert_lift(lift, table, [ample; 3], prefill, sizes, form);
@@ -237,11 +279,6 @@ pub fn assert_operations(
                     short[k] = len;
                     assert_lift(lift, table, short, prefill, Err(TOO_SHORT), &NOTHING);
                 }
-            }
-        }
-        if !names.is_empty() {
-            for len in [names.len() - 1, names.len() - 1 - spare % names.len()] {
-                assert_free_variables(free_variables, table, len, prefill, Err(TOO_SHORT), &[]);
             }
         }
     }

@@ -1,6 +1,6 @@
 -- `binders::enter` meets its contract. The loop's invariant: the scope's entries from the block's kth on are chained, and there are as many heads. The measure is k.
 -- Assumes nothing.
-use mathlib.Core.Path.{_≡_, refl, _∙_}
+use mathlib.Core.Path.{_≡_, refl, sym, _∙_}
 use Prim.Native.Nat.{_+_, _-_, _≤_, _<_}
 use native.Mathlib.Omega.{arith}
 use lib.ListN.{length}
@@ -8,15 +8,15 @@ use borrow.Author.Needs.{needs}
 use Rattle.formula.specs.Words.{tableOf}
 use Rattle.binders.specs.Scope.{Open}
 use Rattle.binders.proofs.Tables.{node-within}
-use Rattle.binders.proofs.Blocks.{BlockAt, block-at, entry-lt, range-lt, entry-head, entry-put, enter-start, enter-end}
+use Rattle.binders.proofs.Blocks.{BlockAt, block-at, counted, entry-lt, range-lt, entry-head, entry-put, enter-start, enter-end}
 use Rattle.binders.proofs.enter.Statement.{statement}
 use Rattle.binders.proofs.enter.Tie as tie
 
 abbrev Inv-loop : tie.InvT-loop
-Inv-loop words list heads₀ entry-nexts₀ start i first k₀ heads entry-nexts k = BlockAt words list i start first k₀ × (k ≤ k₀) × (length heads ≡ length heads₀) × Open (tableOf words list) i (start + k) heads entry-nexts
+Inv-loop words list heads₀ entry-nexts₀ start i first count k₀ heads entry-nexts k = BlockAt words list i start first count × (k ≤ count) × (length heads ≡ length heads₀) × Open (tableOf words list) i (start + k) heads entry-nexts
 
 abbrev μ-loop : tie.MeasureT-loop
-μ-loop words list heads₀ entry-nexts₀ start i first k₀ heads entry-nexts k = k
+μ-loop words list heads₀ entry-nexts₀ start i first count k₀ heads entry-nexts k = k
 
 -- a turn's entry is one of the block's
 turn : (c : tie.In-loop Inv-loop μ-loop) → c .before .loop .k - 1 < c .before .before .before .before .node-at .result .b
@@ -28,8 +28,8 @@ node-at-requires c κs = let s = c .before .before .before .before in node-withi
 cast-first : tie.Need-cast-first Inv-loop μ-loop
 cast-first c = search needs
 
-cast-k : tie.Need-cast-k Inv-loop μ-loop
-cast-k c = search needs
+cast-count : tie.Need-cast-count Inv-loop μ-loop
+cast-count c = search needs
 
 loop-holds : tie.Need-loop-holds Inv-loop μ-loop
 loop-holds c =
@@ -76,7 +76,7 @@ same-length-2 : tie.Need-same-length-2 Inv-loop μ-loop
 same-length-2 c = search needs
 
 returns : tie.Need-returns Inv-loop μ-loop
-returns c = let v = c .before .loop .inv in enter-end (v .0) _ (omega arith) (v .3)
+returns c = let v = c .before .loop .inv in (enter-end (v .0) _ (omega arith) (v .3), sym (counted (v .0)))
 
 pub enter-spec : {M : Type 1} → statement M
 enter-spec =
@@ -86,7 +86,7 @@ enter-spec =
     μ-loop
     node-at-requires
     cast-first
-    cast-k
+    cast-count
     loop-holds
     sub-k
     add-put-entry

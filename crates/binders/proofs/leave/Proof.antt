@@ -1,6 +1,6 @@
 -- `binders::leave` meets its contract. The loop's invariant: the scope's entries from the block's kth on are chained, and there are as many heads. The measure is what is left of the block.
 -- Assumes nothing.
-use mathlib.Core.Path.{_≡_, refl, _∙_}
+use mathlib.Core.Path.{_≡_, refl, sym, _∙_}
 use Prim.Native.Nat.{_+_, _-_, _≤_, _<_}
 use native.Mathlib.Omega.{arith}
 use lib.ListN.{length, length-set}
@@ -9,7 +9,7 @@ use Rattle.formula.specs.Words.{tableOf}
 use Rattle.acceptance.specs.Limits.{limit}
 use Rattle.binders.specs.Scope.{Open}
 use Rattle.binders.proofs.Tables.{node-within}
-use Rattle.binders.proofs.Blocks.{BlockAt, block-at, entry-lt, range-lt, entry-head, entry-taken, leave-start, leave-end}
+use Rattle.binders.proofs.Blocks.{BlockAt, block-at, counted, entry-lt, range-lt, entry-head, entry-taken, leave-start, leave-end}
 use Rattle.binders.proofs.leave.Statement.{statement}
 use Rattle.binders.proofs.leave.Tie as tie
 
@@ -90,7 +90,10 @@ same-length : tie.Need-same-length Inv-loop μ-loop
 same-length c = c .before .loop .inv .2
 
 returns : tie.Need-returns Inv-loop μ-loop
-returns c = let v = c .before .loop .inv in leave-end (v .0) _ (omega (arith, v .1)) (v .3)
+returns c =
+    let v = c .before .loop .inv in
+    let e : c .before .loop .k ≡ c .before .before .before .before .node-at .result .b = omega (arith, v .1) in
+    (leave-end (v .0) _ e (v .3), e ∙ sym (counted (v .0)))
 
 pub leave-spec : {M : Type 1} → statement M
 leave-spec =

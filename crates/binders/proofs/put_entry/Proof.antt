@@ -10,20 +10,23 @@ use Rattle.binders.proofs.put_entry.Tie as tie
 add-entry : tie.Need-add-entry
 add-entry c = search needs
 
+cast-entry : tie.Need-cast-entry
+cast-entry c = search needs
+
+mul-head : tie.Need-mul-head
+mul-head c = search needs
+
+slice-read-head : tie.Need-slice-read-head
+slice-read-head c = search needs
+
+add-entry-nexts : tie.Need-add-entry-nexts
+add-entry-nexts c = search needs
+
 mul-entry-nexts : tie.Need-mul-entry-nexts
 mul-entry-nexts c = search needs
 
-slice-read-entry-nexts : tie.Need-slice-read-entry-nexts
-slice-read-entry-nexts c = search needs
-
-mul-entry-nexts-2 : tie.Need-mul-entry-nexts-2
-mul-entry-nexts-2 c = search needs
-
 slice-write-entry-nexts : tie.Need-slice-write-entry-nexts
 slice-write-entry-nexts c = search needs
-
-cast-heads : tie.Need-cast-heads
-cast-heads c = search needs
 
 mul-heads : tie.Need-mul-heads
 mul-heads c = search needs
@@ -48,11 +51,12 @@ put-entry-spec =
     tie.close
     (tie.spec
     add-entry
+    cast-entry
+    mul-head
+    slice-read-head
+    add-entry-nexts
     mul-entry-nexts
-    slice-read-entry-nexts
-    mul-entry-nexts-2
     slice-write-entry-nexts
-    cast-heads
     mul-heads
     slice-write-heads
     same-length

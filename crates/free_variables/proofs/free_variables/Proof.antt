@@ -3,7 +3,7 @@
 use mathlib.Core.Path.{_∙_, ap}
 use native.Mathlib.Omega.{arith}
 use borrow.Author.Needs.{needs}
-use Rattle.acceptance.proofs.Accepted.{number-zero, accepted-holds}
+use Rattle.acceptance.proofs.Accepted.{number-zero}
 use Rattle.free_variables.proofs.Listing.{listed-refused, listed-accepted}
 use Rattle.free_variables.proofs.free_variables.Statement.{statement}
 use Rattle.free_variables.proofs.free_variables.Tie as tie
@@ -18,7 +18,7 @@ list-accepted-requires : tie.Need-list-accepted-requires
 list-accepted-requires c κs =
     let a = c .before .before .before .before .before .before .before .args in
     let n = ap (λ v. v .number) (c .before .before .before .check .ensures) in
-    accepted-holds _ _ (number-zero (a .words .now) (a .list .now) (omega arith))
+    number-zero (a .words .now) (a .list .now) (omega arith)
 
 same-length : tie.Need-same-length
 same-length c = search needs

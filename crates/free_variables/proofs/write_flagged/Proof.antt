@@ -1,22 +1,23 @@
 -- `free_variables::write_flagged` meets its contract. The invariant: the numbers passed whose flag is set stand at the start of the buffer, and `at` is behind them.
 -- Assumes nothing.
 use mathlib.Core.Path.{_≡_, refl, _∙_}
-use Prim.Native.Nat.{_-_, _≤_}
+use Prim.Native.Nat.{ℕ, _-_, _≤_, _<_}
 use native.Mathlib.Omega.{arith}
 use lib.ListN.{length}
 use borrow.Author.Needs.{needs}
 use Rattle.lists.proofs.Overwrite.{overwrite-nil}
 use Rattle.lists.specs.Parts.{overwrite}
 use Rattle.free_variables.specs.Steps.{flagged}
-use Rattle.free_variables.proofs.Listing.{flagged-none, flagged-count, flagged-room, flagged-fits, flagged-next}
+use Rattle.free_variables.proofs.Listing.{flaggedBelow, flagged-none, flagged-count, flagged-on, flagged-all, flagged-room, flagged-next}
 use Rattle.free_variables.proofs.write_flagged.Statement.{statement}
 use Rattle.free_variables.proofs.write_flagged.Tie as tie
 
 abbrev Inv-loop : tie.InvT-loop
-Inv-loop flags end names₀ at₀ x₀ names at x = (x ≤ end) × (length names ≡ length names₀) × (at ≡ length (flagged flags x)) × (names ≡ overwrite names₀ 0 (flagged flags x))
+Inv-loop flags count names₀ at₀ x₀ names at x =
+    (x ≤ length flags) × (length names ≡ length names₀) × (at ≡ length (flaggedBelow flags x)) × (names ≡ overwrite names₀ 0 (flaggedBelow flags x))
 
 abbrev μ-loop : tie.MeasureT-loop
-μ-loop flags end names₀ at₀ x₀ names at x = end - x
+μ-loop flags count names₀ at₀ x₀ names at x = length flags - x
 
 loop-holds : tie.Need-loop-holds Inv-loop μ-loop
 loop-holds c =
@@ -24,41 +25,47 @@ loop-holds c =
     (omega arith, refl, rw (flagged-none fs), rw (flagged-none fs, overwrite-nil))
 
 shared-slice-read-write-one : tie.Need-shared-slice-read-write-one Inv-loop μ-loop
-shared-slice-read-write-one c = search needs
+shared-slice-read-write-one c =
+    let s = c .before .before .before .before .before .before in
+    let l = c .before .before .before .loop in
+    flagged-on (s .args .flags .now) (l .x) (l .inv .0) (omega (arith, l .inv .2, s .pre .0 .1, c .before .before .loop-test .taken))
 
 cast-write-one : tie.Need-cast-write-one Inv-loop μ-loop
 cast-write-one c = search needs
 
 write-one-requires : tie.Need-write-one-requires Inv-loop μ-loop
-write-one-requires c κs t =
-    let start = c .before .before .before .before .before .before in
-    let fs = start .args .flags .now in
-    let x = c .before .before .before .loop .x in
-    let l = flagged-fits fs x (start .args .end) (length (start .args .names .now)) (c .before .before .loop-test .taken) (start .pre .1) t in
-    omega arith
+write-one-requires c κs =
+    let s = c .before .before .before .before .before .before in
+    let l = c .before .before .before .loop in
+    omega (arith, l .inv .1, s .pre .1, c .before .before .loop-test .taken)
 
 add-x : tie.Need-add-x Inv-loop μ-loop
 add-x c = search needs
 
 loop-less : tie.Need-loop-less Inv-loop μ-loop
-loop-less c = search needs
+loop-less c =
+    let s = c .before .before .before .before .before .before .before .before .before in
+    let l = c .before .before .before .before .before .before .loop in
+    omega (arith, flagged-on (s .args .flags .now) (l .x) (l .inv .0) (omega (arith, l .inv .2, s .pre .0 .1, c .before .before .before .before .before .loop-test .taken)))
 
 loop-again : tie.Need-loop-again Inv-loop μ-loop
 loop-again c =
-    let start = c .before .before .before .before .before .before .before .before .before in
-    let turn = c .before .before .before .before .before .before in
-    let fs = start .args .flags .now in
-    let x = turn .loop .x in
-    let r = flagged-room fs x (start .args .end) (length (start .args .names .now)) (c .before .before .before .before .before .loop-test .taken) (start .pre .1) in
+    let s = c .before .before .before .before .before .before .before .before .before in
+    let l = c .before .before .before .before .before .before .loop in
+    let fs = s .args .flags .now in
+    let h = flagged-on fs (l .x) (l .inv .0) (omega (arith, l .inv .2, s .pre .0 .1, c .before .before .before .before .before .loop-test .taken)) in
+    let r = flagged-room fs (l .x) (length (s .args .names .now)) h (omega (arith, s .pre)) in
     let e = c .before .before .write-one .ensures in
-    (omega arith, c .before .before .write-one .kept .0 ∙ turn .loop .inv .1, omega (arith, e .1, flagged-count fs x), flagged-next fs _ _ _ x (turn .loop .inv .3) (rw (← turn .loop .inv .2) (e .0)) r)
+    (omega (arith, h), c .before .before .write-one .kept .0 ∙ l .inv .1, omega (arith, e .1, l .inv .2, flagged-count fs (l .x)), flagged-next fs _ _ _ (l .x) (l .inv .3) (rw (← l .inv .2) (e .0)) r)
 
 same-length : tie.Need-same-length Inv-loop μ-loop
 same-length c = search needs
 
 returns : tie.Need-returns Inv-loop μ-loop
 returns c =
-    let e : c .before .loop .x ≡ c .before .before .before .before .args .end = omega arith in rw (← e) (c .before .loop .inv .3)
+    let s = c .before .before .before .before in
+    let l = c .before .loop in
+    rw (← flagged-all (s .args .flags .now) (l .x) (l .inv .0) (omega (arith, l .inv .2, s .pre .0 .1, c .loop-test .left))) (l .inv .3)
 
 pub write-flagged-spec : {M : Type 1} → statement M
 write-flagged-spec =

@@ -16,13 +16,13 @@ returns c =
     (rw (e, overwrite-nil), omega (arith, pick-no {A = ℕ} (c .before .args .flag) 1 0 (not-true _ (c .if1 .taken))))
 
 mul-names : tie.Need-mul-names
-mul-names c = omega (arith, c .before .pre (not-false _ (c .if1 .left)))
+mul-names c = search needs
 
 slice-write-names : tie.Need-slice-write-names
-slice-write-names c = c .before .pre (not-false _ (c .if1 .left))
+slice-write-names c = search needs
 
 add-result : tie.Need-add-result
-add-result c = omega (arith, c .before .pre (not-false _ (c .if1 .left)))
+add-result c = search needs
 
 same-length : tie.Need-same-length
 same-length c = search needs
@@ -32,8 +32,7 @@ returns-2 c =
     let a = c .before .args in
     let t = not-false _ (c .if1 .left) in
     let e = chosen-yes (a .flag) (a .x) t in
-    let l = c .before .pre t in
-    (rw e (set-one (a .names .now) (a .at) (a .x) (omega arith)), omega (arith, pick-yes {A = ℕ} (a .flag) 1 0 t))
+    (rw e (set-one (a .names .now) (a .at) (a .x) (omega (arith, c .before .pre))), omega (arith, pick-yes {A = ℕ} (a .flag) 1 0 t))
 
 pub write-one-spec : {M : Type 1} → statement M
 write-one-spec =
