@@ -7,10 +7,12 @@ use Prim.Native.Nat.{ℕ, zero, suc, _+_, _*_, _≤_, _<_}
 use native.Mathlib.Omega.{arith}
 use lib.Dec.{eqb}
 use lib.ListN.{length}
-use borrow.Author.Tests.{eqb-true, eqb-false, ne-eqb}
+use borrow.Author.Tests.{ne-eqb}
 use Rattle.lists.specs.Choice.{pick, pick-yes, pick-no, Is, is-true, is-false, look, clash}
 use Rattle.lists.specs.Parts.{upTo, sum}
+use Rattle.lists.proofs.Members.{eqb-swap}
 use Rattle.lists.proofs.Parts.{sum-cong, sum-add, sum-zero}
+use Rattle.lists.proofs.Sums.{sum-single}
 use Rattle.formula.specs.Node.{Node, constant, variable, negation, operator, block, Table, isBlock, bound}
 use Rattle.formula.specs.Tree.{Tree, count, boundBelow}
 use Rattle.prenex_form.specs.Names.{boundCount}
@@ -23,30 +25,18 @@ use Rattle.binders.specs.declared.Place.{Place}
 use Rattle.binders.specs.Walk.{within, rest, todo, stepsOf, stepsLeft, stepsAt, walkSteps}
 use Rattle.binders.proofs.Todo.{within-once, within-block, todo-start, todo-end}
 
--- Sums.
-
--- one of whose terms alone is not 0
-sum-single : (e x m : ℕ) → e < m → sum (λ i. pick (eqb e i) x 0) m ≡ x
-unfolding sum
-sum-single e x zero h = absurd (omega arith)
-sum-single e x (suc m) h = go (look (eqb e m)) (sum-single e x m)
-  where
-    go : Is (eqb e m) → (e < m → sum (λ i. pick (eqb e i) x 0) m ≡ x) → sum (λ i. pick (eqb e i) x 0) m + pick (eqb e m) x 0 ≡ x
-    go (is-true q) next =
-        let s = eqb-true e m q in
-        let z = sum-zero (λ i. pick (eqb e i) x 0) m (λ i l. pick-no (eqb e i) x 0 (ne-eqb e i (λ k. omega arith))) in
-        omega (arith, pick-yes (eqb e m) x 0 q)
-    go (is-false q) next =
-        let n = eqb-false e m q in
-        omega (arith, pick-no (eqb e m) x 0 q, next (omega arith))
-
--- added up key by key
+-- a sum added up key by key
 sum-by-key : (key f : ℕ → ℕ) (m n : ℕ) → ((j : ℕ) → j < n → key j < m) → sum (λ i. sum (λ j. pick (eqb (key j) i) (f j) 0) n) m ≡ sum f n
 unfolding sum
 sum-by-key key f m zero h = sum-zero (λ i. 0) m (λ i l. refl)
 sum-by-key key f m (suc n) h =
     sum-add (λ i. sum (λ j. pick (eqb (key j) i) (f j) 0) n) (λ i. pick (eqb (key n) i) (f n) 0) m
-    ∙ omega (arith, sum-by-key key f m n (λ j l. h j (omega arith)), sum-single (key n) (f n) m (h n (omega arith)))
+    ∙ omega (
+      arith,
+      sum-by-key key f m n (λ j l. h j (omega arith)),
+      sum-cong (λ i. pick (eqb (key n) i) (f n) 0) (λ i. pick (eqb i (key n)) (f n) 0) m (λ i l. ap (λ b. pick b (f n) 0) (eqb-swap (key n) i)),
+      sum-single (key n) (f n) m (h n (omega arith)),
+    )
 
 pick-and : (a b : Bool) (x : ℕ) → pick (a && b) x 0 ≡ pick b (pick a x 0) 0
 unfolding pick

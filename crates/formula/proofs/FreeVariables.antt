@@ -15,7 +15,7 @@ use Rattle.lists.specs.Parts.{sum, highest, passing}
 use Rattle.lists.proofs.Members.{mem-one, mem-head, mem-tail, times-zero}
 use Rattle.lists.proofs.Parts.{sum-cong, sum-mono, sum-add, sum-zero, term-le, highest-ge}
 use Rattle.lists.proofs.Passing.{passing-lists, passing-length}
-use Rattle.lists.proofs.Sums.{sum-swap, sum-ones, sum-at-most-one, sum-times}
+use Rattle.lists.proofs.Sums.{sum-swap, sum-ones, sum-at-most, sum-times}
 use Rattle.formula.specs.Node.{Node, constant, variable, negation, operator, block, Table, operands, isBlock, bound}
 use Rattle.formula.specs.Words.{tableOf}
 use Rattle.formula.specs.Truth.{nodeFree, freeAt, free}
@@ -122,7 +122,7 @@ variables-operands (block q xs a) = omega arith
 numbers-held : (nd : Node) (m : ℕ) → sum (λ x. pick (standsAt x nd) 1 0) m ≤ variables nd
 unfolding standsAt variables
 numbers-held (constant b) m = omega (arith, sum-zero (λ x. pick false 1 0) m (λ x h. pick-no {A = ℕ} _ _ _ refl))
-numbers-held (variable y) m = sum-at-most-one y m
+numbers-held (variable y) m = sum-at-most y 1 m
 numbers-held (negation a) m = omega (arith, sum-zero (λ x. pick false 1 0) m (λ x h. pick-no {A = ℕ} _ _ _ refl))
 numbers-held (operator f a b) m = omega (arith, sum-zero (λ x. pick false 1 0) m (λ x h. pick-no {A = ℕ} _ _ _ refl))
 numbers-held (block q xs a) m = omega (arith, sum-zero (λ x. pick false 1 0) m (λ x h. pick-no {A = ℕ} _ _ _ refl))

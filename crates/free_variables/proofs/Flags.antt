@@ -9,12 +9,12 @@ use lib.Dec.{eqb, ltb}
 use lib.ListN.{length, getD, set, replicate, length-set, length-replicate, List·getD-eq-default}
 use lib.Seq.{set-getD}
 use borrow.Author.Tests.{eqb-true, eqb-false, eq-eqb, ne-eqb, ltb-true, ltb-false}
-use Rattle.lists.specs.Choice.{pick, pick-yes, pick-no, Is, is-true, is-false, look, clash, absent, and-left, and-right}
+use Rattle.lists.specs.Choice.{pick, pick-yes, pick-no, Is, is-true, is-false, look, clash, absent, and-left, and-right, or-neither}
 use Rattle.lists.specs.Members.{ListOf}
 use Rattle.lists.specs.Parts.{sum, passing}
 use Rattle.lists.proofs.Search.{some-none, some-next}
 use Rattle.lists.proofs.Parts.{sum-cong, sum-add, sum-zero}
-use Rattle.lists.proofs.Sums.{sum-one, ones-le}
+use Rattle.lists.proofs.Sums.{sum-single, ones-le}
 use Rattle.lists.proofs.Passing.{passing-length, passing-lists, one-list}
 use Rattle.lists.proofs.Stores.{getD-filled, getD-set}
 use Rattle.formula.specs.Node.{variable, Table}
@@ -32,7 +32,8 @@ use Rattle.prenex_form.proofs.NameLaws.{variable-le}
 use Rattle.prenex_form.proofs.FreeNames.{free-unbound}
 use Rattle.arrays.specs.Held.{boundEntry, Bindings}
 use Rattle.arrays.proofs.Bound.{entry-free, entry-bound}
-use Rattle.free_variables.specs.Steps.{unboundBelow, flagged, Flagged}
+use Rattle.free_variables.specs.Steps.{unboundBelow, flagged, AreSet, Flagged, Clear}
+use Rattle.free_variables.specs.declared.FlagsSet.{FlagsSet}
 
 -- Setting a flag.
 
@@ -52,12 +53,8 @@ module _ (flags : List Bool) (y : ℕ) where
   set-flag : y < length flags → (x : ℕ) → getD (set flags y true) x false ≡ (getD flags x false || eqb x y)
   set-flag h x = getD-set flags y true false h x ∙ pick-or (eqb x y) (getD flags x false)
 
-  -- one that is set
-  pub flag-again : getD flags y false ≡ true → length (flagged flags) ≡ length (flagged (set flags y true))
-  flag-again e = ap (λ fs. length (flagged fs)) (sym (ap (set flags y) (sym e) ∙ set-getD flags y false))
-
-  -- one that is not
-  pub flag-new : y < length flags → getD flags y false ≡ false → length (flagged flags) + 1 ≡ length (flagged (set flags y true))
+  -- one that is not set
+  flag-new : y < length flags → getD flags y false ≡ false → length (flagged flags) + 1 ≡ length (flagged (set flags y true))
   unfolding flagged
   flag-new h e =
       let n : ℕ = length flags in
@@ -72,7 +69,21 @@ module _ (flags : List Bool) (y : ℕ) where
       ap (λ b. pick b 1 0) (getD-set flags y true false h x)
       ∙ count-or (getD flags x false) (eqb x y) (λ q. ap (λ (z : ℕ). getD flags z false) (eqb-true x y q) ∙ e)) in
       let both : sum (λ x. was x + pick (eqb x y) 1 0) n ≡ sum was n + sum (λ x. pick (eqb x y) 1 0) n = sum-add was (λ x. pick (eqb x y) 1 0) n in
-      let one : sum (λ x. pick (eqb x y) 1 0) n ≡ 1 = sum-one y n h in omega arith
+      let one : sum (λ x. pick (eqb x y) 1 0) n ≡ 1 = sum-single y 1 n h in omega arith
+
+  -- what is set then
+  pub set-again : (found : FlagsSet) → AreSet flags found → getD flags y false ≡ true → AreSet (set flags y true) found
+  set-again found a e =
+      let same : set flags y true ≡ flags = ap (set flags y) (sym e) ∙ set-getD flags y false in rw same a
+
+  pub set-new : (found r : FlagsSet) → AreSet flags found → y < length flags → getD flags y false ≡ false
+      → r .count ≡ found .count + 1 → r .lowest ≤ found .lowest → r .lowest ≤ y → AreSet (set flags y true) r
+  set-new found r a h e c l k =
+      record {
+        count-is = omega (arith, a .count-is, flag-new h e);
+        lowest-le = omega (arith, a .lowest-le, length-set flags y true);
+        none-below = λ x q. set-flag h x ∙ or-neither (getD flags x false) (eqb x y) (a .none-below x (omega arith)) (ne-eqb x y (λ z. omega arith));
+      }
 
 -- no flag is set beyond the last
 flag-within : (flags : List Bool) (x : ℕ) → getD flags x false ≡ true → x < length flags
@@ -97,7 +108,7 @@ module _ (t : Table) where
   unfolding unboundBelow
   unbound-next i x = some-next _ i
 
-  pub flags-none : (n : ℕ) → highestNumber t < n → n ≤ 65536 → Flagged t (replicate n false) 0 0
+  pub flags-none : (n : ℕ) → highestNumber t < n → n ≤ 65536 → Clear t (replicate n false)
   unfolding flagged
   flags-none n h l =
       let wide : length (replicate n false) ≡ n = length-replicate {A = Bool} n false in
@@ -107,21 +118,25 @@ module _ (t : Table) where
         wide = omega arith;
         low = omega arith;
         flag-is = λ x. getD-filled n x false ∙ sym (unbound-none x);
-        count-is = sym (passing-length (λ x. getD (replicate n false) x false) (length (replicate n false)) ∙ none);
+        are-set = record {
+          count-is = sym (passing-length (λ x. getD (replicate n false) x false) (length (replicate n false)) ∙ none);
+          lowest-le = omega arith;
+          none-below = λ x k. getD-filled n x false;
+        };
       }
 
-  module _ (flags : List Bool) (i count : ℕ) (m : Flagged t flags i count) where
-    pub flags-few : count ≤ 65536
-    flags-few = omega (arith, m .low, m .count-is, flagged-low flags)
+  module _ (flags : List Bool) (i : ℕ) (found : FlagsSet) (m : Flagged t flags i found) where
+    pub flags-few : found .count ≤ 65536
+    flags-few = omega (arith, m .low, m .are-set .count-is, flagged-low flags)
 
     -- a node that stands for no free number
-    pub flags-pass : ((x : ℕ) → (standsAt x (t .node i) && eqb (binder t i x) (t .size)) ≡ true → ⊥) → Flagged t flags (i + 1) count
+    pub flags-pass : ((x : ℕ) → (standsAt x (t .node i) && eqb (binder t i x) (t .size)) ≡ true → ⊥) → Flagged t flags (i + 1) found
     flags-pass n =
         record {
           wide = m .wide;
           low = m .low;
           flag-is = λ x. m .flag-is x ∙ sym (unbound-next i x ∙ ap (λ b. unboundBelow t i x || b) (absent _ (n x)) ∙ or-false (unboundBelow t i x));
-          count-is = m .count-is;
+          are-set = m .are-set;
         }
 
     module _ (y : ℕ) (h : i < t .size) (v : t .node i ≡ variable y) where
@@ -137,7 +152,7 @@ module _ (t : Table) where
           go (is-true e) = rw e (eq-eqb (binder t i x) (t .size) (ap (binder t i) (eqb-true x y e) ∙ b))
           go (is-false e) = rw e
 
-      pub flags-free : binder t i y ≡ t .size → (r : ℕ) → r ≡ length (flagged (set flags y true)) → Flagged t (set flags y true) (i + 1) r
+      pub flags-free : binder t i y ≡ t .size → (r : FlagsSet) → AreSet (set flags y true) r → Flagged t (set flags y true) (i + 1) r
       flags-free b r c =
           let wide : length (set flags y true) ≡ length flags = length-set flags y true in
           record {
@@ -147,10 +162,10 @@ module _ (t : Table) where
                 set-flag flags y number-within x
                 ∙ ap (λ b. b || eqb x y) (m .flag-is x)
                 ∙ sym (unbound-next i x ∙ ap (λ c. unboundBelow t i x || c) (stands-here b x));
-            count-is = c;
+            are-set = c;
           }
 
-      pub flags-bound : (binder t i y ≡ t .size → ⊥) → Flagged t flags (i + 1) count
+      pub flags-bound : (binder t i y ≡ t .size → ⊥) → Flagged t flags (i + 1) found
       unfolding standsAt
       flags-bound n =
           flags-pass (λ x q.
@@ -159,9 +174,9 @@ module _ (t : Table) where
           n (ap (binder t i) (sym s) ∙ eqb-true _ _ (and-right (standsAt x (t .node i)) _ q)))
 
   -- What is flagged in the end is free.
-  pub flagged-free : (tree : Tree t) (flags : List Bool) (count : ℕ) → Flagged t flags (t .size) count → flagged flags ≡ freeVariables t
+  pub flagged-free : (tree : Tree t) (flags : List Bool) (found : FlagsSet) → Flagged t flags (t .size) found → flagged flags ≡ freeVariables t
   unfolding flagged unboundBelow standsUnbound
-  flagged-free tree flags count m =
+  flagged-free tree flags found m =
       let flag : ℕ → Bool = λ x. getD flags x false in
       let listed = passing-lists flag (length flags) (flag-within flags) in
       one-list (free t) (flagged flags) (freeVariables t)
@@ -184,11 +199,11 @@ module _ (ws ls : List ℕ) where
       go (kind-for-all e) = rw (node-for-all ws ls j e, e)
       go (kind-none e1 e2 e3 e4 e5 e6) = rw (node-none ws ls j e1 e2 e3 e4 e5 e6, e2)
 
-  pub plain-flags : (flags : List Bool) (i count : ℕ) → (field ws i 0 ≡ 2 → ⊥) → Flagged (tableOf ws ls) flags i count
-      → Flagged (tableOf ws ls) flags (i + 1) count
+  pub plain-flags : (flags : List Bool) (i : ℕ) (found : FlagsSet) → (field ws i 0 ≡ 2 → ⊥) → Flagged (tableOf ws ls) flags i found
+      → Flagged (tableOf ws ls) flags (i + 1) found
   unfolding tableOf
-  plain-flags flags i count n m =
-      flags-pass (tableOf ws ls) flags i count m (λ x q.
+  plain-flags flags i found n m =
+      flags-pass (tableOf ws ls) flags i found m (λ x q.
       n (eqb-true _ _ (and-left (eqb (field ws i 0) 2) _ (sym (stands-is i x) ∙ and-left (standsAt x (nodeAt ws ls i)) _ q))))
 
   module _ (proper : Proper (tableOf ws ls)) (bindings : List ℕ) (b : Bindings (tableOf ws ls) bindings) (i : ℕ) (h : i < nodeCount ws) (k : field ws i 0 ≡ 2) where
@@ -217,16 +232,16 @@ module _ (ws ls : List ℕ) where
             let g : nodeCount ws ≤ binder (tableOf ws ls) i x = ltb-false (binder (tableOf ws ls) i x) (nodeCount ws) l in
             let u : binder (tableOf ws ls) i x ≤ nodeCount ws = binder-le (tableOf ws ls) i x in omega arith
 
-    module _ (flags : List Bool) (count : ℕ) (m : Flagged (tableOf ws ls) flags i count) where
+    module _ (flags : List Bool) (found : FlagsSet) (m : Flagged (tableOf ws ls) flags i found) where
       pub number-flag : field ws i 1 < length flags
       unfolding tableOf
-      number-flag = number-within (tableOf ws ls) flags i count m (field ws i 1) h variable-here
+      number-flag = number-within (tableOf ws ls) flags i found m (field ws i 1) h variable-here
 
-      pub bound-flags : 0 < getD bindings i 0 → Flagged (tableOf ws ls) flags (i + 1) count
+      pub bound-flags : 0 < getD bindings i 0 → Flagged (tableOf ws ls) flags (i + 1) found
       unfolding tableOf
-      bound-flags p = flags-bound (tableOf ws ls) flags i count m (field ws i 1) h variable-here (bound-here p)
+      bound-flags p = flags-bound (tableOf ws ls) flags i found m (field ws i 1) h variable-here (bound-here p)
 
-      pub free-flags : getD bindings i 0 ≡ 0 → (r : ℕ) → r ≡ length (flagged (set flags (field ws i 1) true))
+      pub free-flags : getD bindings i 0 ≡ 0 → (r : FlagsSet) → AreSet (set flags (field ws i 1) true) r
           → Flagged (tableOf ws ls) (set flags (field ws i 1) true) (i + 1) r
       unfolding tableOf
-      free-flags z r e = flags-free (tableOf ws ls) flags i count m (field ws i 1) h variable-here (free-here z) r e
+      free-flags z r e = flags-free (tableOf ws ls) flags i found m (field ws i 1) h variable-here (free-here z) r e

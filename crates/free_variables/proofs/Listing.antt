@@ -3,7 +3,7 @@
 use mathlib.Core.Path.{_≡_, refl, sym, _∙_, ap}
 use mathlib.Core.Bool.{Bool, true, false}
 use mathlib.Core.List.{List, [], _∷_, _++_, append-nil}
-use Prim.Native.Nat.{ℕ, _+_, _-_, _≤_, _<_}
+use Prim.Native.Nat.{ℕ, zero, suc, _+_, _-_, _≤_, _<_}
 use native.Mathlib.Omega.{arith}
 use lib.Dec.{eqb}
 use lib.ListN.{length, getD, length-append}
@@ -44,9 +44,11 @@ module _ (flags : List Bool) where
   abbrev pub flaggedBelow : ℕ → List ℕ
   flaggedBelow x = passing (λ y. getD flags y false) x
 
-  pub flagged-none : flaggedBelow 0 ≡ []
+  -- none where no flag is set
+  pub flagged-none : (n : ℕ) → ((x : ℕ) → x < n → getD flags x false ≡ false) → flaggedBelow n ≡ []
   unfolding passing upTo
-  flagged-none = refl
+  flagged-none zero none = refl
+  flagged-none (suc n) none = rw (pick-no (getD flags n false) (n ∷ []) [] (none n (omega arith)), flagged-none n (λ x h. none x (omega arith)))
 
   pub flagged-count : (x : ℕ) → length (flaggedBelow (x + 1)) ≡ length (flaggedBelow x) + pick (getD flags x false) 1 0
   unfolding passing chosen

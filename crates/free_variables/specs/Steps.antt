@@ -13,6 +13,7 @@ use Rattle.formula.specs.Node.{Table}
 use Rattle.formula.specs.FreeVariables.{standsAt}
 use Rattle.prenex_form.specs.Scope.{binder}
 use Rattle.prenex_form.specs.Names.{highestNumber}
+use Rattle.free_variables.specs.declared.FlagsSet.{FlagsSet}
 
 -- x stands at a variable node below node i whose binder is none.
 unfoldable pub unboundBelow : Table → ℕ → ℕ → Bool
@@ -22,13 +23,23 @@ unboundBelow t i x = someBelow (λ j. standsAt x (t .node j) && eqb (binder t j 
 unfoldable pub flagged : List Bool → List ℕ
 flagged flags = passing (λ x. getD flags x false) (length flags)
 
+-- So many flags are set, and none below the lowest.
+pub record AreSet (flags : List Bool) (s : FlagsSet) : Type 0 where
+  pub count-is : s .count ≡ length (flagged flags)
+  pub lowest-le : s .lowest ≤ length flags
+  pub none-below : (x : ℕ) → x < s .lowest → getD flags x false ≡ false
+
 -- The flags once the numbers of the variable nodes below node i whose binder is none are flagged: each number of the table has a
--- flag, and so many are set.
-pub record Flagged (t : Table) (flags : List Bool) (i count : ℕ) : Type 0 where
+-- flag.
+pub record Flagged (t : Table) (flags : List Bool) (i : ℕ) (s : FlagsSet) : Type 0 where
   pub wide : highestNumber t < length flags
   pub low : length flags ≤ 65536
   pub flag-is : (x : ℕ) → getD flags x false ≡ unboundBelow t i x
-  pub count-is : count ≡ length (flagged flags)
+  pub are-set : AreSet flags s
+
+-- Before that.
+abbrev pub Clear : Table → List Bool → Type 0
+Clear t flags = Flagged t flags 0 (record { count = 0; lowest = length flags })
 
 -- x, if its flag is set.
 unfoldable pub chosen : Bool → ℕ → List ℕ

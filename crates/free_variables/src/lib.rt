@@ -13,7 +13,7 @@ ghost use Rattle.acceptance.specs.Verdict.{verdict};
 ghost use Rattle.prenex_form.specs.Names.{highestNumber};
 ghost use Rattle.arrays.specs.Held.{Bound};
 ghost use Rattle.free_variables.specs.Outcome.{after, listing, listed};
-ghost use Rattle.free_variables.specs.Steps.{Flagged, chosen, flagged};
+ghost use Rattle.free_variables.specs.Steps.{AreSet, Flagged, Clear, chosen, flagged};
 use acceptance::LIMIT;
 use formula::VARIABLE;
 use refusals::ACCEPTED;
@@ -29,6 +29,12 @@ const NUMBERS: usize = 65536;
 pub struct Listed {
     pub verdict: Verdict,
     pub count: u32,
+}
+
+// How many flags are set, and a number below which none is.
+pub struct FlagsSet {
+    pub count: usize,
+    pub lowest: usize,
 }
 
 // Writes a table's free variables, ascending and once each, to the start of `names`: the numbers with a
@@ -111,86 +117,98 @@ fn list_flagged(
 ) -> Listed
     requires { ⌜ verdict (now words) (now list) ≡ accepted ⌝ }
     requires { ⌜ Bound (now words) (now list) (now bindings) ⌝ }
-    requires { ⌜ Flagged (tableOf (now words) (now list)) (now flags) 0 0 ⌝ }
+    requires { ⌜ Clear (tableOf (now words) (now list)) (now flags) ⌝ }
     ensures { λ r. ⌜ after r (now (names .exit))
         ≡ listing (now (names .entry)) (freeVariables (tableOf (now (words .entry)) (now (list .entry)))) ⌝ }
 {
-    let count = flag_unbound(words, list, bindings, flags);
-    if names.len() < count {
+    let found = flag_unbound(words, list, bindings, flags);
+    if names.len() < found.count {
         let verdict = refusals::refusal(BUFFER_TOO_SHORT, 0);
         return Listed { verdict, count: 0 };
     }
-    write_flagged(flags, count, names);
+    write_flagged(flags, found, names);
     let verdict = refusals::accepted();
-    let count = count as u32;
+    let count = found.count as u32;
     Listed { verdict, count }
 }
 
-// Sets the flag of each number with a variable node that no block binds. The result is how many.
-fn flag_unbound(words: &[u32], list: &[u32], bindings: &[u16], flags: &mut [bool]) -> usize
+// Sets the flag of each number with a variable node that no block binds.
+fn flag_unbound(words: &[u32], list: &[u32], bindings: &[u16], flags: &mut [bool]) -> FlagsSet
     requires { ⌜ verdict (now words) (now list) ≡ accepted ⌝ }
     requires { ⌜ Bound (now words) (now list) (now bindings) ⌝ }
-    requires { ⌜ Flagged (tableOf (now words) (now list)) (now flags) 0 0 ⌝ }
+    requires { ⌜ Clear (tableOf (now words) (now list)) (now flags) ⌝ }
     ensures { λ r. ⌜ Flagged (tableOf (now (words .entry)) (now (list .entry))) (now (flags .exit)) (nodeCount (now (words .entry))) r ⌝ }
 {
-    let mut count: usize = 0;
+    let mut found = FlagsSet {
+        count: 0,
+        lowest: flags.len(),
+    };
     let mut i: usize = 0;
     while i < words.len() / formula::WIDTH {
-        count = flag_node(words, list, bindings, flags, count, i);
+        found = flag_node(words, list, bindings, flags, found, i);
         i += 1;
     }
-    count
+    found
 }
 
-// The same of one node. So many flags were set by the nodes below it.
+// The same of one node. `found` is what the nodes below it came to.
 fn flag_node(
     words: &[u32],
     list: &[u32],
     bindings: &[u16],
     flags: &mut [bool],
-    count: usize,
+    found: FlagsSet,
     i: usize,
-) -> usize
+) -> FlagsSet
     requires { ⌜ verdict (now words) (now list) ≡ accepted ⌝ }
     requires { ⌜ Bound (now words) (now list) (now bindings) ⌝ }
     requires { ⌜ i < nodeCount (now words) ⌝ }
-    requires { ⌜ Flagged (tableOf (now words) (now list)) (now flags) i count ⌝ }
+    requires { ⌜ Flagged (tableOf (now words) (now list)) (now flags) i found ⌝ }
     ensures { λ r. ⌜ Flagged (tableOf (now (words .entry)) (now (list .entry))) (now (flags .exit)) (i + 1) r ⌝ }
 {
     let node = formula::node_at(words, i);
     if node.kind != VARIABLE {
-        return count;
+        return found;
     }
     if bindings[i] > 0 {
-        return count;
+        return found;
     }
-    set_flag(flags, node.a as usize, count)
+    set_flag(flags, node.a as usize, found)
 }
 
-// Sets the flag of x. `count` is how many were set before, the result how many are.
-fn set_flag(flags: &mut [bool], x: usize, count: usize) -> usize
+// Sets the flag of x.
+fn set_flag(flags: &mut [bool], x: usize, found: FlagsSet) -> FlagsSet
     requires { ⌜ (x < length (now flags)) × (length (now flags) ≤ 65536) ⌝ }
-    requires { ⌜ count ≡ length (flagged (now flags)) ⌝ }
-    ensures { λ r. ⌜ (now (flags .exit) ≡ set (now (flags .entry)) x true) × (r ≡ length (flagged (now (flags .exit)))) ⌝ }
+    requires { ⌜ AreSet (now flags) found ⌝ }
+    ensures { λ r. ⌜ (now (flags .exit) ≡ set (now (flags .entry)) x true) × AreSet (now (flags .exit)) r ⌝ }
 {
     let seen = flags[x];
     flags[x] = true;
     if seen {
-        return count;
+        return found;
     }
-    count + 1
+    FlagsSet {
+        count: found.count + 1,
+        lowest: lower(found.lowest, x),
+    }
 }
 
-// Writes the numbers whose flag is set, `count` of them, ascending to the start of `names`. It looks at
-// no flag after the last that is set.
-fn write_flagged(flags: &[bool], count: usize, names: &mut [u32])
-    requires { ⌜ (length (now flags) ≤ 65536) × (count ≡ length (flagged (now flags))) ⌝ }
-    requires { ⌜ count ≤ length (now names) ⌝ }
+fn lower(a: usize, b: usize) -> usize
+    ensures { λ r. ⌜ (r ≤ a) × (r ≤ b) ⌝ }
+{
+    if a < b { a } else { b }
+}
+
+// Writes the numbers whose flag is set ascending to the start of `names`. It looks at no flag below the
+// first or after the last that is set.
+fn write_flagged(flags: &[bool], found: FlagsSet, names: &mut [u32])
+    requires { ⌜ (length (now flags) ≤ 65536) × AreSet (now flags) found ⌝ }
+    requires { ⌜ found .count ≤ length (now names) ⌝ }
     ensures { λ r. ⌜ now (names .exit) ≡ overwrite (now (names .entry)) 0 (flagged (now (flags .entry))) ⌝ }
 {
     let mut at: usize = 0;
-    let mut x: usize = 0;
-    while at < count {
+    let mut x = found.lowest;
+    while at < found.count {
         at = write_one(names, at, flags[x], x as u32);
         x += 1;
     }

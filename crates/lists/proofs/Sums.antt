@@ -6,9 +6,9 @@ use mathlib.Core.List.{List, [], _∷_}
 use Prim.Native.Nat.{ℕ, zero, suc, _+_, _≤_, _<_}
 use native.Mathlib.Omega.{arith}
 use native.Mathlib.Nat.{not-suc-le-zero}
-use lib.Dec.{eqb}
+use lib.Dec.{eqb, ltb}
 use lib.ListN.{length}
-use borrow.Author.Tests.{eqb-true, eqb-false, ne-eqb}
+use borrow.Author.Tests.{eqb-true, eqb-false, ne-eqb, ltb-true, ltb-false}
 use Rattle.lists.specs.Choice.{pick, pick-yes, pick-no, Is, is-true, is-false, look}
 use Rattle.lists.specs.Members.{mem, times}
 use Rattle.lists.specs.Parts.{sum}
@@ -26,31 +26,28 @@ unfolding sum
 sum-ones f zero h = refl
 sum-ones f (suc n) h = omega (arith, sum-ones f n (λ i l. h i (omega arith)), h n (omega arith))
 
--- the numbers below n that are y: at most one
-module _ (y : ℕ) where
-  sum-none : (n : ℕ) → n ≤ y → sum (λ i. pick (eqb i y) 1 0) n ≡ 0
+-- one of whose terms alone is not 0
+module _ (y v : ℕ) where
+  sum-none : (n : ℕ) → n ≤ y → sum (λ i. pick (eqb i y) v 0) n ≡ 0
   sum-none n h = sum-zero _ n (λ i l. pick-no {A = ℕ} _ _ _ (ne-eqb i y (λ e. omega arith)))
 
-  pub sum-one : (n : ℕ) → y < n → sum (λ i. pick (eqb i y) 1 0) n ≡ 1
+  pub sum-single : (n : ℕ) → y < n → sum (λ i. pick (eqb i y) v 0) n ≡ v
   unfolding sum
-  sum-one zero h = absurd (not-suc-le-zero h)
-  sum-one (suc n) h = go (look (eqb n y)) (sum-one n)
+  sum-single zero h = absurd (not-suc-le-zero h)
+  sum-single (suc n) h = go (look (eqb n y)) (sum-single n)
     where
-      go : Is (eqb n y) → (y < n → sum (λ i. pick (eqb i y) 1 0) n ≡ 1) → sum (λ i. pick (eqb i y) 1 0) n + pick (eqb n y) 1 0 ≡ 1
+      go : Is (eqb n y) → (y < n → sum (λ i. pick (eqb i y) v 0) n ≡ v) → sum (λ i. pick (eqb i y) v 0) n + pick (eqb n y) v 0 ≡ v
       go (is-true e) next =
-          let q : n ≡ y = eqb-true n y e in omega (arith, sum-none n (omega arith), pick-yes {A = ℕ} (eqb n y) 1 0 e)
+          let q : n ≡ y = eqb-true n y e in omega (arith, sum-none n (omega arith), pick-yes {A = ℕ} (eqb n y) v 0 e)
       go (is-false e) next =
-          let q : n ≡ y → ⊥ = eqb-false n y e in omega (arith, next (omega arith), pick-no {A = ℕ} (eqb n y) 1 0 e)
+          let q : n ≡ y → ⊥ = eqb-false n y e in omega (arith, next (omega arith), pick-no {A = ℕ} (eqb n y) v 0 e)
 
-  pub sum-at-most-one : (n : ℕ) → sum (λ i. pick (eqb i y) 1 0) n ≤ 1
-  unfolding sum
-  sum-at-most-one zero = omega arith
-  sum-at-most-one (suc n) = go (look (eqb n y)) (sum-at-most-one n)
+  pub sum-at-most : (n : ℕ) → sum (λ i. pick (eqb i y) v 0) n ≤ v
+  sum-at-most n = go (look (ltb y n))
     where
-      go : Is (eqb n y) → sum (λ i. pick (eqb i y) 1 0) n ≤ 1 → sum (λ i. pick (eqb i y) 1 0) n + pick (eqb n y) 1 0 ≤ 1
-      go (is-true e) r =
-          let q : n ≡ y = eqb-true n y e in omega (arith, sum-none n (omega arith), pick-yes {A = ℕ} (eqb n y) 1 0 e)
-      go (is-false e) r = omega (arith, pick-no {A = ℕ} (eqb n y) 1 0 e)
+      go : Is (ltb y n) → sum (λ i. pick (eqb i y) v 0) n ≤ v
+      go (is-true t) = omega (arith, sum-single n (ltb-true y n t))
+      go (is-false t) = omega (arith, sum-none n (ltb-false y n t))
 
 -- a list of numbers below n is as long as they stand in it often
 pub sum-times : (xs : List ℕ) (n : ℕ) → ((x : ℕ) → mem x xs ≡ true → x < n) → sum (λ i. times i xs) n ≡ length xs
@@ -58,7 +55,7 @@ unfolding times
 sum-times [] n h = sum-zero _ n (λ i l. refl)
 sum-times (y ∷ ys) n h =
     sum-add (λ i. pick (eqb i y) 1 0) (λ i. times i ys) n
-    ∙ omega (arith, sum-one y n (h y (mem-head y ys)), sum-times ys n (λ x m. h x (mem-tail x y ys m)))
+    ∙ omega (arith, sum-single y 1 n (h y (mem-head y ys)), sum-times ys n (λ x m. h x (mem-tail x y ys m)))
 
 -- at most one for each number
 pub ones-le : (p : ℕ → Bool) (n : ℕ) → sum (λ x. pick (p x) 1 0) n ≤ n

@@ -52,7 +52,7 @@ set-flag-requires c κs =
     let s = entry b in
     let m = s .pre .1 .1 .1 in
     let l = number-flag (s .args .words .now) (s .args .list .now) (accepted-holds (s .args .words .now) (s .args .list .now) (s .pre .0) .proper) (s .args .bindings .now) (s .pre .1 .0 .bindings-hold) (s .args .i) (s .pre .1 .1 .0) (kind-here b) _ _ m in
-    ((omega (arith, l, ap (λ (w : NodeWords). w .a) (c .before .before .before .before .before .before .node-at .ensures)), m .low), m .count-is)
+    ((omega (arith, l, ap (λ (w : NodeWords). w .a) (c .before .before .before .before .before .before .node-at .ensures)), m .low), m .are-set)
 
 same-length : tie.Need-same-length
 same-length c = search needs

@@ -1,4 +1,4 @@
--- `free_variables::flag_unbound` meets its contract. The invariant: the nodes passed are flagged, and so many flags are set.
+-- `free_variables::flag_unbound` meets its contract. The invariant: the nodes passed are flagged.
 -- Assumes nothing.
 use mathlib.Core.Path.{_≡_, refl, _∙_}
 use Prim.Native.Nat.{_-_, _≤_}
@@ -11,11 +11,11 @@ use Rattle.free_variables.proofs.flag_unbound.Statement.{statement}
 use Rattle.free_variables.proofs.flag_unbound.Tie as tie
 
 abbrev Inv-loop : tie.InvT-loop
-Inv-loop words list bindings flags₀ count₀ i₀ flags count i =
-    (i ≤ nodeCount words) × (length flags ≡ length flags₀) × Flagged (tableOf words list) flags i count
+Inv-loop words list bindings flags₀ found₀ i₀ flags found i =
+    (i ≤ nodeCount words) × (length flags ≡ length flags₀) × Flagged (tableOf words list) flags i found
 
 abbrev μ-loop : tie.MeasureT-loop
-μ-loop words list bindings flags₀ count₀ i₀ flags count i = nodeCount words - i
+μ-loop words list bindings flags₀ found₀ i₀ flags found i = nodeCount words - i
 
 loop-holds : tie.Need-loop-holds Inv-loop μ-loop
 loop-holds c = (omega arith, refl, c .before .before .before .before .pre .1 .1)

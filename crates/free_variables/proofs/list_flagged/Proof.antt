@@ -26,22 +26,22 @@ same-length c = search needs
 returns : tie.Need-returns
 unfolding tableOf
 returns c =
-    let s = c .before .before .before .before .before .before .before .before .before .before .before in
-    let m = c .before .before .before .before .flag-unbound .ensures in
+    let s = c .before .before .before .before .before .before .before .before .before .before .before .before in
+    let m = c .before .before .before .before .before .flag-unbound .ensures in
     let e = flagged-free (tableOf (s .args .words .now) (s .args .list .now)) (accepted-tree (s .args .words .now) (s .args .list .now) (s .pre .0)) _ _ m in
-    listing-short _ _ _ (c .refusal .ensures) (omega (arith, ap length e, m .count-is, c .before .if1 .taken))
+    listing-short _ _ _ (c .refusal .ensures) (omega (arith, ap length e, m .are-set .count-is, c .before .if1 .taken))
 
 write-flagged-requires : tie.Need-write-flagged-requires
 write-flagged-requires c κs =
-    let m = c .before .before .before .before .before .flag-unbound .ensures in
-    ((m .low, m .count-is), omega (arith, c .before .before .if1 .left))
+    let m = c .before .before .before .before .before .before .flag-unbound .ensures in
+    ((m .low, m .are-set), omega (arith, c .before .before .if1 .left))
 
 accepted-requires : tie.Need-accepted-requires
 accepted-requires c κs = search needs
 
 cast-count : tie.Need-cast-count
 cast-count c =
-    let m = c .before .before .before .before .before .before .before .before .before .flag-unbound .ensures in
+    let m = c .before .before .before .before .before .before .before .before .before .before .before .flag-unbound .ensures in
     omega (arith, flags-few _ _ _ _ m)
 
 same-length-2 : tie.Need-same-length-2
@@ -53,10 +53,10 @@ same-length-3 c = search needs
 returns-2 : tie.Need-returns-2
 unfolding tableOf
 returns-2 c =
-    let s = c .before .before .before .before .before .before .before .before .before .before .before .before .before .before .before .before in
-    let m = c .before .before .before .before .before .before .before .before .before .flag-unbound .ensures in
+    let s = c .before .before .before .before .before .before .before .before .before .before .before .before .before .before .before .before .before .before in
+    let m = c .before .before .before .before .before .before .before .before .before .before .before .flag-unbound .ensures in
     let e = flagged-free (tableOf (s .args .words .now) (s .args .list .now)) (accepted-tree (s .args .words .now) (s .args .list .now) (s .pre .0)) _ _ m in
-    listing-done _ _ _ (c .accepted .ensures) (omega (arith, ap length e, m .count-is, c .before .before .before .before .before .before .if1 .left)) _ (m .count-is ∙ ap length e) _ (c .before .before .before .write-flagged .ensures ∙ ap (overwrite (s .args .names .now) 0) e)
+    listing-done _ _ _ (c .before .accepted .ensures) (omega (arith, ap length e, m .are-set .count-is, c .before .before .before .before .before .before .before .if1 .left)) _ (m .are-set .count-is ∙ ap length e) _ (c .before .before .before .before .write-flagged .ensures ∙ ap (overwrite (s .args .names .now) 0) e)
 
 pub list-flagged-spec : {M : Type 1} → statement M
 list-flagged-spec =
