@@ -114,7 +114,7 @@ fn walk(
         link: firsts[size],
         steps: 0,
     };
-    while place.scope < size || place.link != 0 {
+    while place.link != 0 || place.scope < size {
         place = step(
             words,
             list,

@@ -3,12 +3,10 @@
 -- Assumes nothing.
 use mathlib.Core.Path.{_≡_, refl, sym, _∙_}
 use mathlib.Core.Logic.{inl, inr, ⊎-elim}
-use mathlib.Core.Bool.{true, not}
 use Prim.Native.Nat.{ℕ, _+_, _<_}
 use native.Mathlib.Omega.{arith}
-use lib.Dec.{eqb}
 use lib.ListN.{length}
-use borrow.Author.Tests.{eqb-true, eqb-false, not-true, not-false}
+use borrow.Author.Tests.{ltb-true, ltb-false}
 use Rattle.formula.specs.Words.{tableOf}
 use Rattle.binders.specs.Walk.{Walking, stepsLeft, walkSteps}
 use Rattle.binders.proofs.Walked.{nodes-few, begun, begun-steps, ended, ended-steps, steps-linear}
@@ -35,14 +33,14 @@ loop-holds c =
     let s = c .before .before .before .before .before .before .before .before .before .before in
     (begun (s .pre .0) _ _ (s .pre .1 .0) (s .pre .1 .1) refl refl, refl, begun-steps (s .pre .0) _ refl refl refl)
 
--- the loop's test, read either way
-goes-on : (link : ℕ) → not (eqb link 0) ≡ true → 0 < link
-goes-on link e = let n = eqb-false link 0 (not-true _ e) in omega arith
+-- the loop's test
+goes-on : (link : ℕ) → (link ≡ 0 → ⊥) → 0 < link
+goes-on link n = omega arith
 
 step-requires : tie.Need-step-requires Inv-loop μ-loop
 step-requires c κs =
     let s = c .before .before .before .before .before .before .before .before .before .before .before .before .before .before .before .before in
-    let go = ⊎-elim (λ a. inl (a .taken)) (λ b. inr (goes-on _ (b .2 .taken))) (c .before .before .before .if1 .came) in
+    let go = ⊎-elim (λ a. inr (goes-on _ (a .taken))) (λ b. inl (ltb-true _ _ (b .2 .taken))) (c .before .before .before .if1 .came) in
     (s .pre .0, (c .before .before .before .before .before .loop .inv .0, (go, c .before .before .before .before .before .loop .inv .2)))
 
 loop-less : tie.Need-loop-less Inv-loop μ-loop
@@ -67,9 +65,10 @@ returns : tie.Need-returns Inv-loop μ-loop
 returns c =
     let s = c .before .before .before .before .before .before .before .before .before .before .before .before .before .before .before .pre .0 in
     let v = c .before .before .before .before .loop .inv in
-    let z = eqb-true _ _ (not-false _ (c .if2 .left)) in
-    let n = ended-steps s (v .0) (c .before .before .if1 .left) z (v .2) in
-    (ended s (v .0) (c .before .before .if1 .left) z, (n, omega (arith, steps-linear s)))
+    let z = c .before .before .if1 .left in
+    let h = ltb-false _ _ (c .if2 .left) in
+    let n = ended-steps s (v .0) h z (v .2) in
+    (ended s (v .0) h z, (n, omega (arith, steps-linear s)))
 
 pub walk-spec : {M : Type 1} → statement M
 walk-spec =
