@@ -206,13 +206,17 @@ void wakubinryo_lift(const uint32_t *words, size_t words_len,
                      uint32_t answer[WAKUBINRYO_SIZES_ANSWER]);
 
 /*
- * Lists a table's free variables: the numbers that stand at a variable node
- * and in no block's range.
+ * Lists a table's free variables: the numbers with a variable node that no
+ * block above it covers. A number that is free in one place and bound in
+ * another is among them.
  *
  * Numbers 0 to 9. If done, the count is how many they are, and names holds
  * them, ascending and once each. It gives 9 exactly if the table is accepted
  * and names is shorter than that. 2,048 words are always enough, because a
  * tree of 4,096 nodes has at most 2,048 leaves.
+ *
+ * The table's truth value depends on the values of these variables alone, and
+ * they are the free variables of the form that wakubinryo_lift writes.
  */
 void wakubinryo_free_variables(const uint32_t *words, size_t words_len,
                                const uint32_t *list, size_t list_len,
