@@ -1,6 +1,6 @@
 // Finds the entry that binds each variable node's number (document 01, "Names"), from the parent
-// blocks of the nodes: chains the nodes, and walks the chains. Lifting and listing free variables both
-// begin with it.
+// blocks of the nodes: chains the nodes, and walks the chains. A stage of lifting and of listing free
+// variables.
 ghost use mathlib.Core.Path.{_≡_};
 ghost use lib.ListN.{length};
 ghost use Rattle.formula.specs.Words.{tableOf};
