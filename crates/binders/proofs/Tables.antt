@@ -45,9 +45,9 @@ module _ (ws ls : List ℕ) (i : ℕ) where
   kind-no-block e = variable-no-block (nodeAt ws ls i) (field ws i 1) (node-variable ws ls i e)
 
   -- a variable node binds nothing
-  pub kind-none : field ws i 0 ≡ 2 → 0 ≡ count (tableOf ws ls) i
+  pub kind-binds-none : field ws i 0 ≡ 2 → 0 ≡ count (tableOf ws ls) i
   unfolding count tableOf bound
-  kind-none e = sym (ap (λ (nd : Node). length (bound nd)) (node-variable ws ls i e))
+  kind-binds-none e = sym (ap (λ (nd : Node). length (bound nd)) (node-variable ws ls i e))
 
   pub kind-block : (field ws i 0 ≡ 2 → ⊥) → isMember (nodeAt ws ls i) ≡ true → isBlock (nodeAt ws ls i) ≡ true
   kind-block n h = go (look (isBlock (nodeAt ws ls i)))

@@ -28,7 +28,7 @@ use Rattle.arrays.proofs.Entries.{boundBelow-end}
 use Rattle.binders.specs.declared.Place.{Place}
 use Rattle.binders.specs.Scope.{Open}
 use Rattle.binders.specs.Walk.{Scopes, todo, Walking, Unfinished, stepsLeft, walkSteps}
-use Rattle.binders.proofs.Tables.{variable-no-block, variable-member, kind-no-block, kind-none, node-within}
+use Rattle.binders.proofs.Tables.{variable-no-block, variable-member, kind-no-block, kind-binds-none, node-within}
 use Rattle.binders.proofs.Todo.{todo-leave, todo-pass, todo-enter, todo-all, todo-end}
 use Rattle.binders.proofs.Steps.{walkSteps-le, steps-next, steps-start, steps-end}
 
@@ -177,7 +177,7 @@ module _ {ws ls parents firsts nexts starts : List ℕ} (s : Scopes ws ls parent
             at-place ws ls q _ _ s l (length-set bindings i r ∙ w .bindings-length) (w .scope-le) (w .scope-block)
                 (w .opened)
                 (known-next (tableOf ws ls) bindings (set bindings i r) _ _ i d (λ x v. getD-set-same bindings i r 0 wide ∙ f x v) (λ j n. getD-set-other bindings i j r 0 n) (w .found)),
-            steps-next (tableOf ws ls) p q i 0 d (kind-none ws ls i k) (omega arith),
+            steps-next (tableOf ws ls) p q i 0 d (kind-binds-none ws ls i k) (omega arith),
           )
 
       -- into a block

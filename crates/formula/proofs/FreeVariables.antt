@@ -1,17 +1,16 @@
 -- Laws of the free variables of a tree (specs/Laws.antt): the list of them, and that there are at most as many as leaves.
 -- Assumes nothing.
-use mathlib.Core.Path.{_≡_, refl, sym, _∙_, ap, subst}
-use mathlib.Core.Bool.{Bool, true, false, not, _&&_, _||_}
-use mathlib.Core.List.{List, [], _∷_}
+use mathlib.Core.Path.{_≡_, refl, sym, _∙_, ap}
+use mathlib.Core.Bool.{Bool, true, false, not, _&&_}
+use mathlib.Core.List.{[], _∷_}
 use Prim.Native.Nat.{ℕ, zero, suc, _+_, _*_, _-_, _≤_, _<_}
 use native.Mathlib.Omega.{arith}
-use native.Mathlib.Nat.{not-suc-le-zero}
 use lib.Dec.{eqb}
 use lib.ListN.{length}
 use borrow.Author.Tests.{eqb-true, eq-eqb, not-true}
 use Rattle.lists.specs.Choice.{pick, pick-yes, pick-no, Is, is-true, is-false, look, clash, absent, and-left, and-right, and-both, or-left, or-right, or-cases}
-use Rattle.lists.specs.Members.{mem, times, ListOf}
-use Rattle.lists.specs.Parts.{sum, highest, passing}
+use Rattle.lists.specs.Members.{mem, times}
+use Rattle.lists.specs.Parts.{sum, highest}
 use Rattle.lists.proofs.Members.{mem-one, mem-head, mem-tail, times-zero}
 use Rattle.lists.proofs.Parts.{sum-cong, sum-mono, sum-add, sum-zero, term-le, highest-ge}
 use Rattle.lists.proofs.Passing.{passing-lists, passing-length}

@@ -3,15 +3,14 @@
 use mathlib.Core.Path.{_≡_, refl, sym, _∙_, ap}
 use mathlib.Core.Bool.{Bool, true, false, _&&_, _||_, or-true, or-false}
 use mathlib.Core.List.{List}
-use Prim.Native.Nat.{ℕ, suc, _+_, _≤_, _<_}
+use Prim.Native.Nat.{ℕ, _+_, _≤_, _<_}
 use native.Mathlib.Omega.{arith}
 use lib.Dec.{eqb, ltb}
 use lib.ListN.{length, getD, set, replicate, length-set, length-replicate, List·getD-eq-default}
 use lib.Seq.{set-getD}
-use borrow.Author.Tests.{eqb-true, eqb-false, eq-eqb, ne-eqb, ltb-true, ltb-false}
-use Rattle.lists.specs.Choice.{pick, pick-yes, pick-no, Is, is-true, is-false, look, clash, absent, and-left, and-right, or-neither}
-use Rattle.lists.specs.Members.{ListOf}
-use Rattle.lists.specs.Parts.{sum, passing}
+use borrow.Author.Tests.{eqb-true, eq-eqb, ne-eqb, ltb-true, ltb-false}
+use Rattle.lists.specs.Choice.{pick, pick-no, Is, is-true, is-false, look, clash, absent, and-left, and-right, or-neither}
+use Rattle.lists.specs.Parts.{sum}
 use Rattle.lists.proofs.Search.{some-none, some-next}
 use Rattle.lists.proofs.Parts.{sum-cong, sum-add, sum-zero}
 use Rattle.lists.proofs.Sums.{sum-single, ones-le}
@@ -26,7 +25,7 @@ use Rattle.formula.proofs.Nodes.{Kind, kind-constant, kind-variable, kind-negat
 use Rattle.formula.proofs.FreeVariables.{free-listed}
 use Rattle.prenex_form.specs.Scope.{binder}
 use Rattle.prenex_form.specs.Names.{highestNumber}
-use Rattle.prenex_form.specs.FreeVariables.{standsUnbound}
+use Rattle.prenex_form.specs.FreeVariables.{unboundAt, standsUnbound}
 use Rattle.prenex_form.proofs.Paths.{binder-le}
 use Rattle.prenex_form.proofs.NameLaws.{variable-le}
 use Rattle.prenex_form.proofs.FreeNames.{free-unbound}
@@ -104,7 +103,7 @@ module _ (t : Table) where
   unfolding unboundBelow
   unbound-none x = some-none _
 
-  unbound-next : (i x : ℕ) → unboundBelow t (i + 1) x ≡ (unboundBelow t i x || (standsAt x (t .node i) && eqb (binder t i x) (t .size)))
+  unbound-next : (i x : ℕ) → unboundBelow t (i + 1) x ≡ (unboundBelow t i x || unboundAt t x i)
   unfolding unboundBelow
   unbound-next i x = some-next _ i
 
@@ -130,7 +129,7 @@ module _ (t : Table) where
     flags-few = omega (arith, m .low, m .are-set .count-is, flagged-low flags)
 
     -- a node that stands for no free number
-    pub flags-pass : ((x : ℕ) → (standsAt x (t .node i) && eqb (binder t i x) (t .size)) ≡ true → ⊥) → Flagged t flags (i + 1) found
+    pub flags-pass : ((x : ℕ) → unboundAt t x i ≡ true → ⊥) → Flagged t flags (i + 1) found
     flags-pass n =
         record {
           wide = m .wide;
@@ -144,7 +143,7 @@ module _ (t : Table) where
       number-within = omega (arith, m .wide, variable-le t i y h v)
 
       -- its number, if it has no binder
-      stands-here : binder t i y ≡ t .size → (x : ℕ) → (standsAt x (t .node i) && eqb (binder t i x) (t .size)) ≡ eqb x y
+      stands-here : binder t i y ≡ t .size → (x : ℕ) → unboundAt t x i ≡ eqb x y
       unfolding standsAt
       stands-here b x = ap (λ nd. standsAt x nd && eqb (binder t i x) (t .size)) v ∙ go (look (eqb x y))
         where

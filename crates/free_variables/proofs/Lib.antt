@@ -1,3 +1,3 @@
 pub mod Flags
 pub mod Listing
-pub mod Room
+pub mod RoomEnough

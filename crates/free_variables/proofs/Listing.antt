@@ -11,6 +11,7 @@ use borrow.Author.Tests.{eqb-true, eqb-false, lt-ltb, le-ltb}
 use Rattle.lists.specs.Choice.{pick, pick-yes, pick-no, Is, is-true, is-false, look}
 use Rattle.lists.specs.Parts.{upTo, passing, overwrite}
 use Rattle.lists.proofs.Parts.{upTo-split}
+use Rattle.lists.proofs.Passing.{chosen-length}
 use Rattle.lists.proofs.Overwrite.{overwrite-next, length-next, room-for-part}
 use Rattle.formula.specs.Words.{tableOf}
 use Rattle.formula.specs.FreeVariables.{freeVariables}
@@ -29,11 +30,6 @@ chosen-yes flag x e = pick-yes _ _ _ e
 pub chosen-no : (flag : Bool) (x : ℕ) → flag ≡ false → chosen flag x ≡ []
 unfolding chosen
 chosen-no flag x e = pick-no _ _ _ e
-
-chosen-count : (flag : Bool) (x : ℕ) → length (chosen flag x) ≡ pick flag 1 0
-unfolding chosen pick
-chosen-count true x = refl
-chosen-count false x = refl
 
 empty : (xs : List ℕ) → length xs ≡ 0 → xs ≡ []
 empty [] h = refl
@@ -54,7 +50,7 @@ module _ (flags : List Bool) where
   unfolding passing chosen
   flagged-count x =
       length-next (λ y. chosen (getD flags y false) y) x
-      ∙ ap (λ n. length (flaggedBelow x) + n) (chosen-count (getD flags x false) x)
+      ∙ ap (λ n. length (flaggedBelow x) + n) (chosen-length (getD flags x false) x)
 
   -- where some are left, the flags go on
   pub flagged-on : (x : ℕ) → x ≤ length flags → length (flaggedBelow x) < length (flagged flags) → x < length flags

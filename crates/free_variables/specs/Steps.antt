@@ -1,23 +1,21 @@
 -- The listing in steps: what the functions of this crate compute. The public contract cites none of these definitions.
 -- Assumes nothing.
-use mathlib.Core.Bool.{Bool, false, _&&_}
+use mathlib.Core.Bool.{Bool, false}
 use mathlib.Core.List.{List, [], _∷_}
 use mathlib.Core.Path.{_≡_}
 use Prim.Native.Nat.{ℕ, _<_, _≤_}
-use lib.Dec.{eqb}
 use lib.ListN.{length, getD}
 use Rattle.lists.specs.Choice.{pick}
 use Rattle.lists.specs.Search.{someBelow}
 use Rattle.lists.specs.Parts.{passing}
 use Rattle.formula.specs.Node.{Table}
-use Rattle.formula.specs.FreeVariables.{standsAt}
-use Rattle.prenex_form.specs.Scope.{binder}
 use Rattle.prenex_form.specs.Names.{highestNumber}
+use Rattle.prenex_form.specs.FreeVariables.{unboundAt}
 use Rattle.free_variables.specs.declared.FlagsSet.{FlagsSet}
 
 -- x stands at a variable node below node i whose binder is none.
 unfoldable pub unboundBelow : Table → ℕ → ℕ → Bool
-unboundBelow t i x = someBelow (λ j. standsAt x (t .node j) && eqb (binder t j x) (t .size)) i
+unboundBelow t i x = someBelow (unboundAt t x) i
 
 -- The numbers whose flag is set, ascending.
 unfoldable pub flagged : List Bool → List ℕ

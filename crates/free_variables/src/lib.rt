@@ -1,7 +1,7 @@
 // Lists the free variables of a formula table.
 ghost use mathlib.Core.Bool.{true};
 ghost use mathlib.Core.Path.{_≡_};
-ghost use Prim.Native.Nat.{ℕ, _+_, _<_, _≤_};
+ghost use Prim.Native.Nat.{_+_, _<_, _≤_};
 ghost use lib.ListN.{length, set};
 ghost use Rattle.lists.specs.Choice.{pick};
 ghost use Rattle.lists.specs.Parts.{overwrite};

@@ -10,7 +10,7 @@ use lib.Dec.{eqb, ltb}
 use lib.ListN.{length, getD, length-append, List·getD-append}
 use lib.Seq.{getD-append-add}
 use borrow.Author.Tests.{eqb-true, eqb-false, ltb-true, ltb-false}
-use Rattle.lists.specs.Choice.{pick, pick-yes, pick-no, Is, is-true, is-false, look, clash, absent, same-test, or-right}
+use Rattle.lists.specs.Choice.{pick, pick-yes, pick-no, Is, is-true, is-false, look, clash, absent, same-test}
 use Rattle.lists.specs.Members.{mem, times, place, Ascending, StrictlyAscending, ListOf}
 use Rattle.lists.specs.Parts.{upTo, sum, passing}
 use Rattle.lists.proofs.Members.{mem-one, mem-head, mem-nil, mem-getD, place-lt, getD-place, times-zero, ascending-one}
@@ -21,7 +21,7 @@ unfolding pick
 chosen-from true x y m = (refl, eqb-true y x (sym (mem-one y x) ∙ m))
 chosen-from false x y m = clash m (mem-nil y)
 
-chosen-length : (b : Bool) (x : ℕ) → length (pick b (x ∷ []) []) ≡ pick b 1 0
+pub chosen-length : (b : Bool) (x : ℕ) → length (pick b (x ∷ []) []) ≡ pick b 1 0
 unfolding pick
 chosen-length true x = refl
 chosen-length false x = refl

@@ -10,12 +10,12 @@ use native.Mathlib.Nat.{not-suc-le-zero}
 use lib.Dec.{eqb, ltb}
 use lib.ListN.{length, getD, length-append, List·getD-append}
 use borrow.Author.Tests.{eqb-true, eqb-false, eq-eqb, ne-eqb, ltb-true, ltb-false, lt-ltb}
-use Rattle.lists.specs.Choice.{pick, pick-yes, pick-no, Is, is-true, is-false, look, clash, and-left, and-right, and-both, or-left, or-right, or-cases, absent, same-test}
+use Rattle.lists.specs.Choice.{pick, pick-yes, pick-no, Is, is-true, is-false, look, clash, and-left, and-right, and-both, or-left, or-right, absent, same-test}
 use Rattle.lists.specs.Members.{mem}
 use Rattle.lists.specs.Search.{lowest, someBelow}
 use Rattle.lists.specs.Parts.{upTo, passing}
 use Rattle.lists.proofs.Search.{lowest-none, lowest-holds, lowest-least}
-use Rattle.lists.proofs.Members.{mem-append, mem-left, mem-right, mem-one, mem-head, mem-tail, mem-getD, mem-flatMap, or-group}
+use Rattle.lists.proofs.Members.{mem-append, mem-left, mem-right, mem-head, mem-tail, mem-getD, mem-flatMap, or-group}
 use Rattle.lists.proofs.Parts.{term-le, upTo-cong}
 use Rattle.formula.specs.Node.{Quantifier, exists, for-all, Node, constant, variable, negation, operator, block, Table, operands, isBlock, bound}
 use Rattle.formula.specs.Tree.{Tree, Proper, count}
@@ -25,7 +25,7 @@ use Rattle.formula.specs.FreeVariables.{standsAt, highestVariable, freeVariable
 use Rattle.formula.proofs.Unfolding.{freeAt-node}
 use Rattle.formula.proofs.FreeVariables.{Through, here, through, free-through, through-free}
 use Rattle.prenex_form.specs.Scope.{binder, inner, level, parent}
-use Rattle.prenex_form.specs.FreeVariables.{standsUnbound, FreeByBinder}
+use Rattle.prenex_form.specs.FreeVariables.{unboundAt, standsUnbound, FreeByBinder}
 use Rattle.prenex_form.specs.Names.{newNames, newName, copies, definitionVariable}
 use Rattle.prenex_form.specs.Levels.{blocksAt, levels, quantifierAt, levelQuantifier}
 use Rattle.prenex_form.specs.Matrix.{kept, renamed, firstNodes, equation, guard, constraint, further, constraints, levelJoin, levelNodes, nodesTo, prenexNodes, writtenNodes}
@@ -114,10 +114,9 @@ module _ (t : Table) (tree : Tree t) (x : ℕ) where
   unbound-stands : standsUnbound t x ≡ true → Stands t x
   unfolding standsUnbound someBelow
   unbound-stands e =
-      let p : ℕ → Bool = λ i. standsAt x (t .node i) && eqb (binder t i x) (t .size) in
-      let i : ℕ = lowest p (t .size) in
+      let i : ℕ = lowest (unboundAt t x) (t .size) in
       let h : i < t .size = ltb-true i (t .size) e in
-      let m : p i ≡ true = lowest-holds p (t .size) h in
+      let m : unboundAt t x i ≡ true = lowest-holds (unboundAt t x) (t .size) h in
       record {
         node = i;
         within = h;
@@ -128,10 +127,9 @@ module _ (t : Table) (tree : Tree t) (x : ℕ) where
   stands-unbound : Stands t x → standsUnbound t x ≡ true
   unfolding standsUnbound someBelow standsAt
   stands-unbound s =
-      let p : ℕ → Bool = λ i. standsAt x (t .node i) && eqb (binder t i x) (t .size) in
       let here-is : standsAt x (t .node (s .node)) ≡ true = ap (standsAt x) (s .variable-is) ∙ eq-eqb x x refl in
-      let l : lowest p (t .size) ≤ s .node = lowest-least p (t .size) (s .node) (s .within) (and-both _ _ here-is (eq-eqb _ _ (s .unbound))) in
-      lt-ltb (lowest p (t .size)) (t .size) (omega (arith, s .within))
+      let l : lowest (unboundAt t x) (t .size) ≤ s .node = lowest-least (unboundAt t x) (t .size) (s .node) (s .within) (and-both _ _ here-is (eq-eqb _ _ (s .unbound))) in
+      lt-ltb (lowest (unboundAt t x) (t .size)) (t .size) (omega (arith, s .within))
 
   pub free-unbound : free t x ≡ standsUnbound t x
   free-unbound = same-test (free t x) (standsUnbound t x) (λ e. stands-unbound (free-stands e)) (λ e. stands-free (unbound-stands e))

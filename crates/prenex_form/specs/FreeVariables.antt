@@ -11,9 +11,13 @@ use Rattle.formula.specs.Tree.{Tree}
 use Rattle.formula.specs.FreeVariables.{standsAt, highestVariable, freeVariables}
 use Rattle.prenex_form.specs.Scope.{binder}
 
--- "a number with a variable node that no block above it covers": x stands at a variable node whose binder is none
+-- x stands at node i, a variable node whose binder is none.
+abbrev pub unboundAt : Table → ℕ → ℕ → Bool
+unboundAt t x i = standsAt x (t .node i) && eqb (binder t i x) (t .size)
+
+-- "a number with a variable node that no block above it covers"
 unfoldable pub standsUnbound : Table → ℕ → Bool
-standsUnbound t x = someBelow (λ i. standsAt x (t .node i) && eqb (binder t i x) (t .size)) (t .size)
+standsUnbound t x = someBelow (unboundAt t x) (t .size)
 
 -- The free variables of a table, free in the sense of truth, are the list of these numbers: the theorem `free-by-binder`
 -- (proofs/FreeNames.antt).

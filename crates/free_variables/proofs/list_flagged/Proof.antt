@@ -1,14 +1,12 @@
 -- `free_variables::list_flagged` meets its contract: too little room, or all free variables written.
 -- Assumes nothing.
-use mathlib.Core.Path.{_≡_, sym, _∙_, ap, subst}
+use mathlib.Core.Path.{_∙_, ap}
 use native.Mathlib.Omega.{arith}
 use lib.ListN.{length}
 use borrow.Author.Needs.{needs}
 use Rattle.lists.specs.Parts.{overwrite}
 use Rattle.formula.specs.Words.{tableOf}
-use Rattle.formula.specs.FreeVariables.{freeVariables}
 use Rattle.arrays.proofs.Nodes.{accepted-tree}
-use Rattle.free_variables.specs.Steps.{flagged}
 use Rattle.free_variables.proofs.Flags.{flags-few, flagged-free}
 use Rattle.free_variables.proofs.Listing.{listing-short, listing-done}
 use Rattle.free_variables.proofs.list_flagged.Statement.{statement}

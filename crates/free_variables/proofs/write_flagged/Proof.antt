@@ -1,13 +1,12 @@
 -- `free_variables::write_flagged` meets its contract. The invariant: the numbers passed whose flag is set stand at the start of the buffer, and `at` is behind them.
 -- Assumes nothing.
 use mathlib.Core.Path.{_≡_, refl, _∙_}
-use Prim.Native.Nat.{ℕ, _-_, _≤_, _<_}
+use Prim.Native.Nat.{_-_, _≤_}
 use native.Mathlib.Omega.{arith}
 use lib.ListN.{length}
 use borrow.Author.Needs.{needs}
 use Rattle.lists.proofs.Overwrite.{overwrite-nil}
 use Rattle.lists.specs.Parts.{overwrite}
-use Rattle.free_variables.specs.Steps.{flagged}
 use Rattle.free_variables.proofs.Listing.{flaggedBelow, flagged-none, flagged-count, flagged-on, flagged-all, flagged-room, flagged-next}
 use Rattle.free_variables.proofs.write_flagged.Statement.{statement}
 use Rattle.free_variables.proofs.write_flagged.Tie as tie
