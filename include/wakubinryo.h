@@ -77,8 +77,10 @@
  *   g = xor(l, l)                                inputs, with two,
  *   g = exists(x, ..; l), g = forall(x, ..; l)   or quantified
  *
- * An input or the output l is a name, or a minus sign and a name. The refusals
- * of reading are 2, 6 and 9 above, 2 for nodes only, and these:
+ * An input or the output l is a name, or a minus sign and a name. A list of
+ * variables has at least one; the free line stands before the prefix lines. A
+ * carriage return is no space, and a # after another sign starts no comment.
+ * The refusals of reading are 2, 6 and 9 above, 2 for nodes only, and these:
  *
  *   number  given when                                                position
  *   10      the text is over 65,536 bytes                             0
@@ -238,8 +240,9 @@ void wakubinryo_free_variables(const uint32_t *words, size_t words_len,
  * one of the two buffers is shorter than that; 16,384 and 4,096 words are
  * always enough.
  *
- * The table is accepted by the calls above and has the file's truth value under
- * every valuation.
+ * Every text has one answer, and with it one content of the buffers. The table
+ * is accepted by the calls above and has the file's truth value under every
+ * valuation.
  */
 void wakubinryo_read_qcir(const uint8_t *text, size_t text_len,
                           uint32_t *words, size_t words_len,

@@ -232,6 +232,28 @@ fn headers() {
     assert_refused(b"#QCIR-G13\nfree(1)\noutput(1)", MalformedText, 8);
 }
 
+/// A header is refused at the first byte that differs, or where the text ends; one that is whole leads to the lines.
+#[test]
+fn a_header_byte_by_byte() {
+    let text = b"#QCIR-G14\nfree(1)\noutput(1)";
+    for at in 0..9 {
+        assert_refused(&text[..at], MalformedText, at);
+        for byte in (0..=255).filter(|&byte| byte != text[at]) {
+            let mut other = text.to_vec();
+            other[at] = byte;
+            assert_refused(&other, MalformedText, at);
+            assert_refused(&other[..=at], MalformedText, at);
+        }
+    }
+    assert_refused(&text[..9], MalformedText, 9);
+    let mut long = text.to_vec();
+    long[3] = b'i';
+    long.resize(65_536, b'\n');
+    assert_refused(&long, MalformedText, 3);
+    long.push(b'\n');
+    assert_refused(&long, MalformedText, 0);
+}
+
 #[test]
 fn blanks_blank_lines_and_comments() {
     for text in [

@@ -2,6 +2,7 @@ pub mod Coincidence
 pub mod Meaning
 pub mod Nodes
 pub mod Operators
+pub mod Prefix
 pub mod Quantify
 pub mod Ranges
 pub mod Reading

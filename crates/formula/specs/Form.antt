@@ -45,6 +45,12 @@ blocksFrom ps xs j (suc m) = blockAt ps xs j ∷ blocksFrom ps xs (suc j) m
 unfoldable pub blocksOf : List ℕ → List ℕ → List Block
 blocksOf ps xs = blocksFrom ps xs 0 (length ps / prefixWidth)
 
+-- The words of prefix blocks: "kind 5 or 6, first, count, with stretches following one another in the output list", whose
+-- first stretch begins at entry s.
+unfoldable pub prefixWords : ℕ → List Block → List ℕ
+prefixWords s [] = []
+prefixWords s (b ∷ bs) = kindOf (b .quantifier) ∷ s ∷ length (b .variables) ∷ prefixWords (s + length (b .variables)) bs
+
 -- "Each prefix block is read as a block of its kind over all that follows it, block 0 outermost, the last one over the
 -- last node. With no prefix it is that node's alone."
 unfoldable pub quantify : List Block → (Valuation → Bool) → Valuation → Bool

@@ -18,8 +18,8 @@ use Rattle.prenex_form.specs.Scope.{parent, pathUp, path, above, binder, inner,
 use Rattle.prenex_form.specs.Names.{maximum, highestAt, highestNumber, boundCount, firstName, newNames, newName, innerBoundBelow, innerBelow, copies, definitionVariable}
 use Rattle.prenex_form.specs.Levels.{blocksAt, levels, quantifierAt, levelQuantifier}
 use Rattle.prenex_form.specs.Matrix.{kept, renamed, firstNodes, bodyOf, equation, guard, constraint, further, constraints, levelJoin, levelNodes, nodesTo, prenexNodes, writtenNodes}
-use Rattle.prenex_form.specs.Prefix.{blockCount, leading, prefixBlock, prefixBlocks, prefixWords, writtenPrefix, writtenVariables}
-use Rattle.formula.specs.Form.{kindOf}
+use Rattle.prenex_form.specs.Prefix.{blockCount, leading, prefixBlock, prefixBlocks, writtenPrefix, writtenVariables}
+use Rattle.formula.specs.Form.{kindOf, prefixWords}
 use Rattle.prenex_form.specs.Sizes.{sizes}
 use Rattle.prenex.specs.Outcome.{noSizes, tooShort, written, lifted}
 use Rattle.formulas.specs.Rows.{holding, Row, nodesOf, filled, answerWords, left, leaves, shouldLeave, truths, shouldBe, refusedRow, doneRow, belowXor, belowXorRow, examples}

@@ -128,6 +128,11 @@ unfolding all
 all-intro p [] h = refl
 all-intro p (y ∷ ys) h = and-both (p y) (all p ys) (h y (mem-head y ys)) (all-intro p ys (λ x m. h x (mem-tail x y ys m)))
 
+pub all-append : (p : ℕ → Bool) (xs ys : List ℕ) → all p xs ≡ true → all p ys ≡ true → all p (xs ++ ys) ≡ true
+unfolding all
+all-append p [] ys h k = k
+all-append p (x ∷ xs) ys h k = and-both (p x) _ (and-left (p x) _ h) (all-append p xs ys (and-right (p x) _ h) k)
+
 mem-flatMap-cons : (g : ℕ → List ℕ) (x i j : ℕ) (is : List ℕ) → Found i j is → mem x (g i) ≡ true → (mem i is ≡ true → mem x (flatMap g is) ≡ true) → mem x (g j ++ flatMap g is) ≡ true
 mem-flatMap-cons g x i j is (first e) m r = mem-left x (g j) (flatMap g is) (rw e at m)
 mem-flatMap-cons g x i j is (later e k) m r = mem-right x (g j) (flatMap g is) (r k)

@@ -20,7 +20,7 @@ use Rattle.acceptance.proofs.Accepted.{accepted-holds}
 use Rattle.prenex_form.specs.Scope.{level}
 use Rattle.prenex_form.specs.Levels.{blocksAt, levels, levelQuantifier}
 use Rattle.prenex_form.specs.Matrix.{and, implies, kept, constraint, further, constraints, levelJoin, levelNodes}
-use Rattle.prenex_form.proofs.Alternation.{quantifier-read}
+use Rattle.formula.proofs.Prefix.{quantifier-read}
 use Rattle.arrays.specs.Link.{link}
 use Rattle.arrays.specs.Held.{atLevel, Chained}
 use Rattle.arrays.specs.Chains.{blocksFrom}

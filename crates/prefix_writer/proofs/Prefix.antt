@@ -11,10 +11,10 @@ use Rattle.lists.specs.Choice.{pick-yes, pick-no}
 use Rattle.lists.specs.Parts.{overwrite}
 use Rattle.lists.proofs.Overwrite.{overwrite-nil}
 use Rattle.formula.specs.Node.{dual, Table}
-use Rattle.formula.specs.Form.{Block, prefixWidth, quantifierOf, kindOf}
+use Rattle.formula.specs.Form.{Block, prefixWidth, quantifierOf, kindOf, prefixWords}
 use Rattle.prenex_form.specs.Levels.{levels, levelQuantifier}
-use Rattle.prenex_form.specs.Prefix.{blockCount, prefixBlock, prefixBlocks, prefixWords, writtenPrefix, writtenVariables}
-use Rattle.prenex_form.proofs.Alternation.{quantifier-read}
+use Rattle.prenex_form.specs.Prefix.{blockCount, prefixBlock, prefixBlocks, writtenPrefix, writtenVariables}
+use Rattle.formula.proofs.Prefix.{quantifier-read}
 use Rattle.arrays.specs.Chains.{between}
 use Rattle.arrays.proofs.Chains.{between-all, between-on, between-end}
 use Rattle.prefix_writer.proofs.Writing.{Left, left-start, left-room, left-step, left-end, flatMap-next}

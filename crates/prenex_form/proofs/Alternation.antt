@@ -1,17 +1,11 @@
 -- The block kinds of the two quantifiers.
 -- Assumes nothing.
-use mathlib.Core.Path.{_≡_, refl}
+use mathlib.Core.Path.{_≡_}
 use Prim.Native.Nat.{ℕ}
 use borrow.Author.Tests.{eq-eqb, ne-eqb}
 use Rattle.lists.specs.Choice.{pick}
-use Rattle.formula.specs.Node.{Quantifier, exists, for-all, dual}
+use Rattle.formula.specs.Node.{dual}
 use Rattle.formula.specs.Form.{quantifierOf, kindOf}
-
--- the kind says which quantifier it is
-pub quantifier-read : (q : Quantifier) → quantifierOf (kindOf q) ≡ q
-unfolding quantifierOf kindOf pick
-quantifier-read exists = refl
-quantifier-read for-all = refl
 
 pub dual-exists : (kind : ℕ) → kind ≡ 5 → 6 ≡ kindOf (dual (quantifierOf kind))
 unfolding kindOf dual quantifierOf pick

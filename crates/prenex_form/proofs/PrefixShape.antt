@@ -9,8 +9,8 @@ use lib.ListN.{length, getD, length-append}
 use Rattle.lists.specs.Parts.{sum}
 use Rattle.lists.proofs.Parts.{sum-cong}
 use Rattle.formula.specs.Node.{Quantifier, exists, for-all, Table}
-use Rattle.formula.specs.Form.{Block, kindOf}
-use Rattle.prenex_form.specs.Prefix.{prefixBlocks, prefixWords, writtenPrefix, writtenVariables}
+use Rattle.formula.specs.Form.{Block, kindOf, prefixWords}
+use Rattle.prenex_form.specs.Prefix.{prefixBlocks, writtenPrefix, writtenVariables}
 use Rattle.prenex_form.proofs.PrefixNames.{prefix-length, sum-first}
 
 -- the count of block k

@@ -1,13 +1,12 @@
 -- The prefix of a prenex form (document 01, "The written form").
 -- Assumes nothing.
 use mathlib.Core.List.{List, [], _∷_, _++_, flatMap}
-use Prim.Native.Nat.{ℕ, zero, suc, _+_, _-_}
+use Prim.Native.Nat.{ℕ, zero, suc, _-_}
 use lib.Dec.{eqb}
-use lib.ListN.{length}
 use Rattle.lists.specs.Choice.{pick}
 use Rattle.lists.specs.Parts.{sum, upTo}
 use Rattle.formula.specs.Node.{Table, isBlock}
-use Rattle.formula.specs.Form.{Block, kindOf}
+use Rattle.formula.specs.Form.{Block, prefixWords}
 use Rattle.prenex_form.specs.Names.{newNames, copies, definitionVariable}
 use Rattle.prenex_form.specs.Levels.{blocksAt, levels, levelQuantifier}
 
@@ -33,12 +32,6 @@ prefixBlock t j =
 -- "A table without blocks has no prefix at all"; any other has one block more than levels.
 unfoldable pub prefixBlocks : Table → List Block
 prefixBlocks t = pick (eqb (blockCount t) 0) [] (upTo (λ j. prefixBlock t j ∷ []) (suc (levels t)))
-
--- "kind 5 or 6, first, count, with stretches following one another in the output list": the words of blocks whose
--- variables begin at entry s.
-unfoldable pub prefixWords : ℕ → List Block → List ℕ
-prefixWords s [] = []
-prefixWords s (b ∷ bs) = kindOf (b .quantifier) ∷ s ∷ length (b .variables) ∷ prefixWords (s + length (b .variables)) bs
 
 unfoldable pub writtenPrefix : Table → List ℕ
 writtenPrefix t = prefixWords 0 (prefixBlocks t)

@@ -2,7 +2,7 @@
 -- Assumes nothing.
 use mathlib.Core.List.{List}
 use Prim.Native.Nat.{ℕ}
-use Rattle.refusals.specs.Verdict.{refusal, accepted, Plain}
+use Rattle.refusals.specs.Verdict.{Plain}
 use Rattle.refusals.specs.Outcome.{Outcome, refused, done}
 use Rattle.refusals.specs.declared.Verdict.{Verdict}
 use Rattle.refusals.proofs.Plain.{plain-refusal, plain-accepted, plain-pick, plain-call, plain-room}

@@ -1,3 +1,5 @@
+pub mod Bounds
+pub mod Numerals
 pub mod Keep
 pub mod Numbers
 pub mod StoredWords
@@ -9,3 +11,6 @@ pub mod StoredGates
 pub mod StoredCounts
 pub mod Theorem
 pub mod Answers
+pub mod PositionsSigns
+pub mod Unplaced
+pub mod Positions

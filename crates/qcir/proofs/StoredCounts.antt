@@ -17,7 +17,7 @@ use Rattle.formula.specs.declared.NodeWords.{NodeWords}
 use Rattle.formula.proofs.Nodes.{words-plain, block-kind-of}
 use Rattle.acceptance.specs.Verdict.{countAt}
 use Rattle.qcir.specs.File.{Literal, Gate, junction-gate, xor-gate, quantified-gate, Line, lineVariables, File, numbersOf}
-use Rattle.qcir.specs.Table.{Draft, Stored, store, storeName, storeLiteral, storeInputs, storeBlock, junctionTable, emptyValue, storeGate, storeGates, storePrefix, emptyDraft, fileDraft, tableWords, tableList}
+use Rattle.qcir.specs.Table.{Draft, Stored, store, storeName, storeLiteral, storeInputs, storeBlock, junctionTable, emptyValue, storeGate, storeGates, storePrefix, emptyDraft, storeFile, storeMatrix, tableWords, tableList}
 use Rattle.qcir.proofs.StoredWords.{withNode, count-with, whole-with, words-kept, words-new}
 
 -- what holds of both holds of the one picked
@@ -110,5 +110,5 @@ unfolding emptyDraft sum
 whole-empty = record { whole = omega arith; counted = refl }
 
 pub file-counts : (f : File) → Counts (tableWords f) (length (tableList f))
-unfolding tableWords tableList fileDraft
+unfolding tableWords tableList storeFile storeMatrix
 file-counts f = whole-prefix _ (f .prefix) (whole-literal _ (f .output) (whole-gates emptyDraft (f .gates) whole-empty))

@@ -1,6 +1,10 @@
 pub mod File
 pub mod Spelling
+pub mod Unbounded
+pub mod Numerals
+pub mod Laws
 pub mod Meaning
 pub mod Refusals
 pub mod Table
 pub mod Reading
+pub mod Positions

@@ -12,7 +12,7 @@ use Rattle.qcir.specs.File.{Literal, Junction, conjunction, disjunction,
 abbrev pub Meaning : Type 0
 Meaning = ℕ → Valuation → Bool
 
--- "A minus sign is a not."
+-- "a minus sign is a not node": the other value.
 unfoldable pub literalValue : Meaning → Literal → Valuation → Bool
 literalValue m l v = pick (l .minus) (not (m (l .name .number) v)) (m (l .name .number) v)
 

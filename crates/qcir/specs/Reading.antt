@@ -30,7 +30,7 @@ pub record Limits : Type 0 where
   pub nodes : ℕ
   pub variables : ℕ
 
--- "Names are decimal 1 to 65,535 .., at most 65,536 bytes", and the table's limits.
+-- "names are decimal 1 to 65,535 .., at most 65,536 bytes", and the table's limits.
 unfoldable pub limits : Limits
 limits = record { bytes = 65536; names = 65535; nodes = limit; variables = limit }
 
@@ -66,11 +66,11 @@ doneWith ws ls before =
 unfoldable pub unlessAny : List ℕ → ℕ → Verdict → Verdict
 unlessAny faults number next = pick (eqb (length faults) 0) next (refusal number (least faults))
 
--- "Then 11 ..; then 13 .., 12 .., the lowest such name being the place of each."
+-- "then 11 ..", at the lowest place; "Then 13 .., 12 .., the lowest such name being the place of each".
 unfoldable pub nameVerdict : File → Verdict
 nameVerdict f = unlessAny (misplaced f) 11 (unlessAny (notUsedOnce f) 13 (unlessAny (unbound f) 12 accepted))
 
--- "Then 2 for nodes only, 6 ..": of the file's table.
+-- "then 2 for nodes only, 6 ..": of the file's table.
 unfoldable pub sizeVerdict : Limits → List ℕ → Verdict
 sizeVerdict lim ws =
     let n = nodeCount ws in
@@ -91,8 +91,7 @@ stored lim f before =
 unfoldable pub outcome : Limits → File → Buffers → Outcome Written Buffers
 outcome lim f before = unlessRefused (nameVerdict f) noneWritten before (stored lim f before)
 
--- What reading a text does. No text has two outcomes (qcir_reader's proofs/Unique.antt), and at `limits` each has one, which the
--- reader finds.
+-- What reading a text does.
 pub data Reading (lim : Limits) (text : List ℕ) (before : Buffers) : Outcome Written Buffers → Type 0 where
   -- "10 length, at 0"
   too-long : lim .bytes < length text → Reading lim text before (refusedWith (refusal 10 0) before)
@@ -100,7 +99,23 @@ pub data Reading (lim : Limits) (text : List ℕ) (before : Buffers) : Outcome W
   misspelled : length text ≤ lim .bytes → (p : ℕ) → SpellingFault (lim .names) text p → Reading lim text before (refusedWith (refusal 10 p) before)
   spelled : length text ≤ lim .bytes → (f : File) → Spells (lim .names) text f → Reading lim text before (outcome lim f before)
 
--- What a table read from a text promises: the checker accepts it, and "the table has the file's truth value under every setting".
+-- The outcome is the only one that reading the text has.
+abbrev pub Only : Limits → List ℕ → Buffers → Outcome Written Buffers → Type 0
+Only lim text before o = (p : Outcome Written Buffers) → Reading lim text before p → p ≡ o
+
+-- An outcome of reading the text, and no other.
+pub record OneReading (lim : Limits) (text : List ℕ) (before : Buffers) : Type 0 where
+  pub result : Outcome Written Buffers
+  pub reading : Reading lim text before result
+  pub only : Only lim text before result
+
+-- Every text has one, within any limits that allow a name (`every-text-read`, qcir_reader's
+-- proofs/Unique.antt).
+abbrev pub EveryTextRead : Type 0
+EveryTextRead = (lim : Limits) (text : List ℕ) (before : Buffers) → 1 ≤ lim .names → OneReading lim text before
+
+-- What a table read from a text promises: the checker accepts it, and "The table has the file's truth value under every setting of
+-- its free variables".
 pub record TableOf (most : ℕ) (text ws ls : List ℕ) : Type 0 where
   pub accepts : verdict ws ls ≡ accepted
   pub truth-kept : (f : File) → Spells most text f → (v : Valuation) → truth (tableOf ws ls) v ≡ fileTruth f v

@@ -122,14 +122,14 @@ gatesSigns (g ∷ gs) = gateSigns g ++ gatesSigns gs
 unfoldable pub fileSigns : File → List Sign
 fileSigns f = freeSigns (f .free) ++ (prefixSigns (f .prefix) ++ (outputSigns (f .output) ++ gatesSigns (f .gates)))
 
--- "Spaces and tabs"; a carriage return is no space.
+-- "spaces and tabs"; a carriage return is no space.
 unfoldable pub isSpace : ℕ → Bool
 isSpace b = eqb b 32 || eqb b 9
 
 unfoldable pub isDigit : ℕ → Bool
 isDigit b = leb 48 b && leb b 57
 
--- "Decimal .. without leading zeros."
+-- "decimal .. without leading zeros"
 unfoldable pub isNumeral : List ℕ → Bool
 isNumeral [] = false
 isNumeral (d ∷ ds) = leb 49 d && leb d 57 && all isDigit ds
@@ -146,7 +146,7 @@ pub data Spelled (most : ℕ) : ℕ → List Sign → List ℕ → Type 0 where
   space : {p b : ℕ} {ss : List Sign} {t : List ℕ} → isSpace b ≡ true → Spelled most (suc p) ss t → Spelled most p ss (b ∷ t)
   a-word : {p : ℕ} (w : List ℕ) {ss : List Sign} {t : List ℕ} → Spelled most (p + length w) ss t → Spelled most p (word w ∷ ss) (w ++ t)
   a-name : {p : ℕ} (ds : List ℕ) {ss : List Sign} {t : List ℕ} → isNumeral ds ≡ true → valueFrom 0 ds ≤ most → Spelled most (p + length ds) ss t → Spelled most p (name (record { number = valueFrom 0 ds; position = p }) ∷ ss) (ds ++ t)
-  -- "A line ends at LF"
+  -- "A line ends at LF .."
   line-end : {p : ℕ} {ss : List Sign} {t : List ℕ} → Spelled most (suc p) ss t → Spelled most p (newline ∷ ss) (10 ∷ t)
   -- "blank lines .. are skipped"
   blank-line : {p : ℕ} {ss : List Sign} {t : List ℕ} → Spelled most (suc p) (newline ∷ ss) t → Spelled most p (newline ∷ ss) (10 ∷ t)
@@ -162,12 +162,12 @@ unfoldable pub isPadded : List ℕ → Bool
 isPadded [] = true
 isPadded (b ∷ bs) = (isSpace b && isPadded bs) || (isDigit b && all isDigit bs)
 
--- "Its count, if any, is digits after a space or tab, not judged."
+-- "its count, if any, is digits after a space or tab, not judged"
 unfoldable pub isCount : List ℕ → Bool
 isCount [] = true
 isCount (b ∷ bs) = isSpace b && isPadded bs
 
--- The text spells the file: "the header starts at byte 0"; the file's end is read as LF, since "a line ends at LF or the file's
+-- The text spells the file: "the header starts at byte 0"; the file's end is read as LF: "A line ends at LF or the file's
 -- end".
 pub record Spells (most : ℕ) (text : List ℕ) (f : File) : Type 0 where
   pub count : List ℕ
@@ -182,7 +182,7 @@ pub record Viable (most : ℕ) (text : List ℕ) : Type 0 where
   pub file : File
   pub spells : Spells most (text ++ more) file
 
--- "Spelling, at the first byte, or the file's end, where no file so spelled, of any length, can go on."
+-- "spelling, at the first byte, or the file's end, where no file so spelled, of any length, can go on"
 pub data SpellingFault (most : ℕ) (text : List ℕ) : ℕ → Type 0 where
   at-byte : (p : ℕ) → p < length text → Viable most (take p text) → (Viable most (take (suc p) text) → ⊥) → SpellingFault most text p
   at-end : Viable most text → ((f : File) → Spells most text f → ⊥) → SpellingFault most text (length text)

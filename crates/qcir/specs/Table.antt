@@ -1,16 +1,16 @@
--- The formula table of a QCIR file (request S-1): "nodes are stored gate line by gate line: inputs from left to right, each with its
+-- The formula table of a QCIR file (request S-1): "Nodes are stored gate line by gate line: inputs from left to right, each with its
 -- not, an operator right after its second operand; then the output's nodes, then the prefix lines as blocks, the last line lowest.
 -- Stretches follow one another in node order."
 -- Assumes nothing.
 use mathlib.Core.Bool.{Bool, true, false}
-use mathlib.Core.List.{List, [], _∷_, _++_}
+use mathlib.Core.List.{List, [], _∷_, _++_, map, flatMap}
 use Prim.Native.Nat.{ℕ, suc, _-_}
 use lib.Dec.{eqb}
 use lib.ListN.{length}
 use Rattle.lists.specs.Choice.{pick}
 use Rattle.formula.specs.Node.{Quantifier, constant, variable, negation, operator}
 use Rattle.formula.specs.Words.{nodeCount, wordsOf, blockWords, wordList}
-use Rattle.formula.specs.Form.{kindOf}
+use Rattle.formula.specs.Form.{Block, kindOf, prefixWords}
 use Rattle.formula.specs.declared.NodeWords.{NodeWords}
 use Rattle.qcir.specs.File.{Literal, Junction, conjunction, disjunction, Gate, junction-gate, xor-gate, quantified-gate, gateName, Line, lineVariables, File, numbersOf}
 
@@ -38,7 +38,7 @@ store d w =
 unfoldable pub storeName : Draft → ℕ → Stored
 storeName d x = pick (eqb (d .gate x) 0) (store d (wordsOf (variable x))) (record { draft = d; node = d .gate x - 1 })
 
--- "Each with its not": "a minus sign is a not node".
+-- "each with its not": "a minus sign is a not node".
 unfoldable pub storeLiteral : Draft → Literal → Stored
 storeLiteral d l =
     let s = storeName d (l .name .number) in
@@ -63,19 +63,19 @@ unfoldable pub junctionTable : Junction → ℕ
 junctionTable conjunction = 8
 junctionTable disjunction = 14
 
--- "`and()` is constant 1, `or()` constant 0."
+-- "`and()` is constant 1, `or()` constant 0"
 unfoldable pub emptyValue : Junction → Bool
 emptyValue conjunction = true
 emptyValue disjunction = false
 
--- The nodes of a gate line. "One input stands for itself"; xor is 6.
+-- The nodes of a gate line. "one input stands for itself"; xor is 6.
 unfoldable pub storeGate : Draft → Gate → Stored
 storeGate d (junction-gate j g []) = store d (wordsOf (constant (emptyValue j)))
 storeGate d (junction-gate j g (l ∷ ls)) = storeInputs (junctionTable j) (storeLiteral d l) ls
 storeGate d (xor-gate g l r) = storeInputs 6 (storeLiteral d l) (r ∷ [])
 storeGate d (quantified-gate q g x xs l) = storeBlock q (numbersOf (x ∷ xs)) (storeLiteral d l)
 
--- "Gate line by gate line": from then on the gate's name stands for its node.
+-- "gate line by gate line": from then on the gate's name stands for its node.
 unfoldable pub storeGates : Draft → List Gate → Draft
 storeGates d [] = d
 storeGates d (g ∷ gs) =
@@ -83,7 +83,7 @@ storeGates d (g ∷ gs) =
     let e = s .draft in
     storeGates (record { words = e .words; entries = e .entries; gate = λ x. pick (eqb x (gateName g .number)) (suc (s .node)) (e .gate x) }) gs
 
--- "The prefix lines as blocks, the last line lowest."
+-- "then the prefix lines as blocks, the last line lowest"
 unfoldable pub storePrefix : Stored → List Line → Stored
 storePrefix s [] = s
 storePrefix s (l ∷ ls) = storeBlock (l .quantifier) (numbersOf (lineVariables l)) (storePrefix s ls)
@@ -91,12 +91,37 @@ storePrefix s (l ∷ ls) = storeBlock (l .quantifier) (numbersOf (lineVariables 
 unfoldable pub emptyDraft : Draft
 emptyDraft = record { words = []; entries = []; gate = λ x. 0 }
 
-unfoldable pub fileDraft : File → Draft
-fileDraft f = storePrefix (storeLiteral (storeGates emptyDraft (f .gates)) (f .output)) (f .prefix) .draft
+-- The first step, the matrix: the gate lines, "then the output's nodes".
+unfoldable pub storeMatrix : File → Stored
+storeMatrix f = storeLiteral (storeGates emptyDraft (f .gates)) (f .output)
+
+-- The second: the prefix lines over it.
+unfoldable pub storeFile : File → Stored
+storeFile f = storePrefix (storeMatrix f) (f .prefix)
 
 -- The words of the table's nodes, and its list.
 unfoldable pub tableWords : File → List ℕ
-tableWords f = fileDraft f .words
+tableWords f = storeFile f .draft .words
 
 unfoldable pub tableList : File → List ℕ
-tableList f = fileDraft f .entries
+tableList f = storeFile f .draft .entries
+
+-- With the prefix lines kept as prefix: the first step's words and list, ..
+unfoldable pub matrixWords : File → List ℕ
+matrixWords f = storeMatrix f .draft .words
+
+unfoldable pub matrixList : File → List ℕ
+matrixList f = storeMatrix f .draft .entries
+
+-- .. and the lines as prefix blocks, with the words and the list of these.
+unfoldable pub lineBlock : Line → Block
+lineBlock l = record { quantifier = l .quantifier; variables = numbersOf (lineVariables l) }
+
+unfoldable pub filePrefix : File → List Block
+filePrefix f = map lineBlock (f .prefix)
+
+unfoldable pub filePrefixWords : File → List ℕ
+filePrefixWords f = prefixWords 0 (filePrefix f)
+
+unfoldable pub filePrefixList : File → List ℕ
+filePrefixList f = flatMap (λ (b : Block). b .variables) (filePrefix f)

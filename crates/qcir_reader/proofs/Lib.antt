@@ -1,4 +1,4 @@
 pub mod Stages
 pub mod Numbers
-pub mod Texts
 pub mod Unique
+pub mod Texts

@@ -46,55 +46,63 @@ none-passes : (xs : List ℕ) (number : ℕ) (next : Verdict) → xs ≡ [] → 
 unfolding unlessAny
 none-passes xs number next e = subst (λ (ys : List ℕ). unlessAny ys number next ≡ next) (sym e) (pick-yes _ _ _ refl)
 
+-- The first of refusals 11, 13 and 12 that applies.
+module _ (f : File) where
+  pub misplaced-first : (found : Found) → found ≡ foundOf (misplaced f) → found .found ≡ true → refusal 11 (found .lowest) ≡ nameVerdict f
+  unfolding nameVerdict
+  misplaced-first found e h = sym (found-refuses found (misplaced f) 11 _ e h)
+
+  pub misused-first : (found : Found) → misplaced f ≡ [] → found ≡ foundOf (notUsedOnce f) → found .found ≡ true → refusal 13 (found .lowest) ≡ nameVerdict f
+  unfolding nameVerdict
+  misused-first found m e h = sym (none-passes (misplaced f) 11 _ m ∙ found-refuses found (notUsedOnce f) 13 _ e h)
+
+  pub unbound-first : (found : Found) → misplaced f ≡ [] → notUsedOnce f ≡ [] → found ≡ foundOf (unbound f) → found .found ≡ true → refusal 12 (found .lowest) ≡ nameVerdict f
+  unfolding nameVerdict
+  unbound-first found m u e h =
+      sym (none-passes (misplaced f) 11 _ m ∙ (none-passes (notUsedOnce f) 13 _ u ∙ found-refuses found (unbound f) 12 _ e h))
+
+  pub none-first : misplaced f ≡ [] → notUsedOnce f ≡ [] → unbound f ≡ [] → accepted ≡ nameVerdict f
+  unfolding nameVerdict
+  none-first m u b = sym (none-passes (misplaced f) 11 _ m ∙ (none-passes (notUsedOnce f) 13 _ u ∙ none-passes (unbound f) 12 _ b))
+
 -- An answer that refuses.
-abbrev pub Refuses : Answer → ℕ → ℕ → Type 0
-Refuses r number position = answerOf r ≡ refused (refusal number position) noneWritten
+abbrev pub Refuses : Answer → Verdict → Type 0
+Refuses r v = answerOf r ≡ refused v noneWritten
+
+-- The verdict that it hands on is this one.
+pub refuses : (r : Answer) (v w : Verdict) → v ≡ w → Refuses r v → Refuses r w
+refuses r v w e a = a ∙ ap (λ (u : Verdict). refused u noneWritten) e
 
 -- It leaves the buffers.
-pub refusal-after : (r : Answer) (number position : ℕ) (words list : List ℕ) → Refuses r number position → after r (buffers words list) ≡ refusedWith (refusal number position) (buffers words list)
+pub refusal-after : (r : Answer) (v : Verdict) (words list : List ℕ) → Refuses r v → after r (buffers words list) ≡ refusedWith v (buffers words list)
 unfolding refusedWith
-refusal-after r number position words list e = ap (λ (a : AnswerWith Written). record { answer = a; buffers = buffers words list }) e
+refusal-after r v words list e = ap (λ (a : AnswerWith Written). record { answer = a; buffers = buffers words list }) e
 
 module _ (f : File) (words list : List ℕ) where
   abbrev before : Buffers
   before = buffers words list
 
-  name-refuses : (r : Answer) (number position : ℕ) → 0 < number → nameVerdict f ≡ refusal number position → Refuses r number position → after r before ≡ outcome limits f before
-  unfolding outcome refusedWith refusal
-  name-refuses r number position n e a =
-      refusal-after r number position words list a ∙ sym (rw e (call-refused noneWritten before (stored limits f before) (refusal number position) (λ z. omega arith)))
+  -- The verdict on the names is handed on, ..
+  pub names-refuse : (r : Answer) (v : Verdict) → v ≡ nameVerdict f → 0 < v .number → Refuses r v → after r before ≡ outcome limits f before
+  unfolding outcome refusedWith
+  names-refuse r v e n a =
+      refusal-after r v words list a ∙ sym (rw (sym e) (call-refused noneWritten before (stored limits f before) v (λ z. omega (arith, n, z))))
 
-  pub misplaced-refuses : (found : Found) (r : Answer) → found ≡ foundOf (misplaced f) → found .found ≡ true → Refuses r 11 (found .lowest) → after r before ≡ outcome limits f before
-  unfolding nameVerdict
-  misplaced-refuses found r e h = name-refuses r 11 (found .lowest) (omega arith) (found-refuses found (misplaced f) 11 _ e h)
+  -- .. or they pass.
+  pub names-pass : (v : Verdict) → v ≡ nameVerdict f → v .number ≤ 0 → stored limits f before ≡ outcome limits f before
+  unfolding outcome
+  names-pass v e n = sym (rw (sym e) (call-next noneWritten before (stored limits f before) v (omega (arith, n))))
 
-  pub misused-refuses : (found : Found) (r : Answer) → misplaced f ≡ [] → found ≡ foundOf (notUsedOnce f) → found .found ≡ true → Refuses r 13 (found .lowest) → after r before ≡ outcome limits f before
-  unfolding nameVerdict
-  misused-refuses found r m e h =
-      name-refuses r 13 (found .lowest) (omega arith) (none-passes (misplaced f) 11 _ m ∙ found-refuses found (notUsedOnce f) 13 _ e h)
-
-  pub unbound-refuses : (found : Found) (r : Answer) → misplaced f ≡ [] → notUsedOnce f ≡ [] → found ≡ foundOf (unbound f) → found .found ≡ true → Refuses r 12 (found .lowest) → after r before ≡ outcome limits f before
-  unfolding nameVerdict
-  unbound-refuses found r m u e h =
-      name-refuses r 12 (found .lowest) (omega arith)
-      (none-passes (misplaced f) 11 _ m ∙ (none-passes (notUsedOnce f) 13 _ u ∙ found-refuses found (unbound f) 12 _ e h))
-
-  pub names-pass : misplaced f ≡ [] → notUsedOnce f ≡ [] → unbound f ≡ [] → stored limits f before ≡ outcome limits f before
-  unfolding outcome nameVerdict accepted
-  names-pass m u b =
-      let e : nameVerdict f ≡ accepted = none-passes (misplaced f) 11 _ m ∙ (none-passes (notUsedOnce f) 13 _ u ∙ none-passes (unbound f) 12 _ b) in
-      sym (call-next noneWritten before (stored limits f before) (nameVerdict f) (ap (λ (v : Verdict). v .number) e))
-
-  size-refuses : (r : Answer) (number position : ℕ) → 0 < number → sizeVerdict limits (tableWords f) ≡ refusal number position → Refuses r number position → after r before ≡ stored limits f before
+  size-refuses : (r : Answer) (number position : ℕ) → 0 < number → sizeVerdict limits (tableWords f) ≡ refusal number position → Refuses r (refusal number position) → after r before ≡ stored limits f before
   unfolding stored refusedWith refusal
   size-refuses r number position n e a =
-      refusal-after r number position words list a ∙ sym (rw e (call-refused noneWritten before _ (refusal number position) (λ z. omega arith)))
+      refusal-after r (refusal number position) words list a ∙ sym (rw e (call-refused noneWritten before _ (refusal number position) (λ z. omega arith)))
 
-  pub many-nodes : (r : Answer) → limit < nodeCount (tableWords f) → Refuses r 2 0 → after r before ≡ stored limits f before
+  pub many-nodes : (r : Answer) → limit < nodeCount (tableWords f) → Refuses r (refusal 2 0) → after r before ≡ stored limits f before
   unfolding sizeVerdict limits
   many-nodes r h = size-refuses r 2 0 (omega arith) (pick-yes _ _ _ (lt-ltb _ _ h))
 
-  pub many-variables : (r : Answer) (i : ℕ) → nodeCount (tableWords f) ≤ limit → i ≡ lowest (tooManyVariables limit (tableWords f)) (nodeCount (tableWords f)) → i < nodeCount (tableWords f) → Refuses r 6 i → after r before ≡ stored limits f before
+  pub many-variables : (r : Answer) (i : ℕ) → nodeCount (tableWords f) ≤ limit → i ≡ lowest (tooManyVariables limit (tableWords f)) (nodeCount (tableWords f)) → i < nodeCount (tableWords f) → Refuses r (refusal 6 i) → after r before ≡ stored limits f before
   unfolding sizeVerdict limits
   many-variables r i n e h =
       size-refuses r 6 i (omega arith)
@@ -114,16 +122,16 @@ module _ (f : File) (words list : List ℕ) where
   within-passes w =
       ap (λ (v : Verdict). v .number) (pick-no _ _ _ (le-ltb _ _ (w .nodes-within)) ∙ pick-no _ _ _ (le-ltb _ _ (w .none-exceeding)))
 
-  short-refuses : (r : Answer) → Within → (ltb (length words) (length (tableWords f)) || ltb (length list) (length (tableList f))) ≡ true → Refuses r 9 0 → after r before ≡ stored limits f before
+  short-refuses : (r : Answer) → Within → (ltb (length words) (length (tableWords f)) || ltb (length list) (length (tableList f))) ≡ true → Refuses r (refusal 9 0) → after r before ≡ stored limits f before
   unfolding stored refusedWith
   short-refuses r w h a =
-      refusal-after r 9 0 words list a
+      refusal-after r (refusal 9 0) words list a
       ∙ sym (call-next noneWritten before _ (sizeVerdict limits (tableWords f)) (within-passes w) ∙ call-short noneWritten before _ _ h)
 
-  pub short-words : (r : Answer) → Within → length words < length (tableWords f) → Refuses r 9 0 → after r before ≡ stored limits f before
+  pub short-words : (r : Answer) → Within → length words < length (tableWords f) → Refuses r (refusal 9 0) → after r before ≡ stored limits f before
   short-words r w h = short-refuses r w (or-left _ _ (lt-ltb _ _ h))
 
-  pub short-list : (r : Answer) → Within → length list < length (tableList f) → Refuses r 9 0 → after r before ≡ stored limits f before
+  pub short-list : (r : Answer) → Within → length list < length (tableList f) → Refuses r (refusal 9 0) → after r before ≡ stored limits f before
   short-list r w h = short-refuses r w (or-right (ltb (length words) (length (tableWords f))) _ (lt-ltb _ _ h))
 
   pub stored-done : (v : Verdict) (n e : ℕ) (words′ list′ : List ℕ) → Within → length (tableWords f) ≤ length words → length (tableList f) ≤ length list → v ≡ accepted → n ≡ nodeCount (tableWords f) → e ≡ length (tableList f) → words′ ≡ overwrite words 0 (tableWords f) → list′ ≡ overwrite list 0 (tableList f) → after (record { verdict = v; words = width * n; entries = e }) (buffers words′ list′) ≡ stored limits f before

@@ -3,13 +3,12 @@
 use mathlib.Core.Bool.{Bool, true, false, _||_}
 use mathlib.Core.List.{List, [], _∷_}
 use mathlib.Core.Path.{_≡_, refl, sym, _∙_, ap, subst}
-use Prim.Native.Nat.{ℕ, _+_, _-_, _≤_, _<_, min}
+use Prim.Native.Nat.{ℕ, _+_, _≤_, _<_}
 use native.Mathlib.Omega.{arith}
 use lib.Dec.{ltb, eqb·suc-zero, lit<, lit≤}
-use lib.ListN.{length, take, drop, length-drop, drop-of-length-le}
-use lib.Seq.{take-all}
-use borrow.Author.Tests.{ltb-true, ltb-false}
-use Rattle.lists.specs.Choice.{pick, pick-no, Is, is-true, is-false, look, or-neither-left, or-neither-right}
+use lib.ListN.{length, take}
+use borrow.Author.Tests.{ltb-false}
+use Rattle.lists.specs.Choice.{pick, pick-no, or-neither-left, or-neither-right}
 use Rattle.lists.specs.Search.{lowest}
 use Rattle.lists.specs.Parts.{overwrite}
 use Rattle.lists.proofs.Search.{lowest-before}
@@ -29,14 +28,14 @@ use Rattle.qcir.specs.Refusals.{least, misplaced, notUsedOnce}
 use Rattle.qcir.specs.Table.{tableWords, tableList}
 use Rattle.qcir.specs.Reading.{limits, Written, Buffers, buffers, noneWritten, refusedWith, doneWith, unlessAny, nameVerdict, sizeVerdict, stored, outcome, Reading, too-long, misspelled, spelled, TableOf, TableWritten}
 use Rattle.qcir.proofs.Theorem.{table-truth, table-accepted}
-use Rattle.qcir_tokens.specs.Held.{tokensFrom, Room, tokenLimit}
-use Rattle.qcir_text.specs.Machine.{accepts, alive, start, tokensOf}
+use Rattle.qcir_tokens.specs.Held.{tokensFrom, Room, tokenLimit, HoldsFile}
+use Rattle.qcir_spelling.specs.Machine.{accepts, alive, start, tokensOf}
 use Rattle.qcir_reader.specs.declared.Answer.{Answer}
 use Rattle.qcir_reader.specs.Reads.{after, Reads}
-use Rattle.qcir_reader.specs.Stages.{HoldsFile}
-use Rattle.qcir_text.proofs.Spelling.{complete, sound, refused as misspelt, unique, ordered, ranged}
+use Rattle.qcir_spelling.proofs.Spelling.{complete, refused as misspelt, unique, ordered, ranged}
 use Rattle.qcir_reader.proofs.Numbers.{numbers-ranged}
 use Rattle.qcir_reader.proofs.Stages.{Refuses, refusal-after}
+use Rattle.qcir_reader.proofs.Unique.{reading-unique}
 
 -- Of a verdict that accepts: no number is at fault, and what comes next accepts.
 passed-any : (xs : List ℕ) (number : ℕ) (next : Verdict) → 0 < number → unlessAny xs number next .number ≡ 0 → (xs ≡ []) × (next .number ≡ 0)
@@ -113,62 +112,31 @@ done-table text f words list s h =
     (subst (λ (ws : List ℕ). TableOf 65535 text ws (take (length (tableList f)) (overwrite list 0 (tableList f)))) (sym (start-written words (tableWords f) (d .room)))
     (subst (λ (ls : List ℕ). TableOf 65535 text (tableWords f) ls) (sym (start-written list (tableList f) (d .list-room))) t))
 
+-- What reading promises of an outcome that reading the text has: there is no other.
+reads : (text words list words′ list′ : List ℕ) (r : Answer) → Reading limits text (buffers words list) (after r (buffers words′ list′)) → TableWritten (limits .names) text (after r (buffers words′ list′)) → Reads text words list words′ list′ r
+reads text words list words′ list′ r h t = record { reading = h; only = λ p k. reading-unique limits text (buffers words list) p (after r (buffers words′ list′)) k h; table = t }
+
 -- Refusal 10.
-refused-reads : (text words list : List ℕ) (r : Answer) (p : ℕ) → Reading limits text (buffers words list) (refusedWith (refusal 10 p) (buffers words list)) → Refuses r 10 p → Reads text 0 words list words list r
+refused-reads : (text words list : List ℕ) (r : Answer) (p : ℕ) → Reading limits text (buffers words list) (refusedWith (refusal 10 p) (buffers words list)) → Refuses r (refusal 10 p) → Reads text words list words list r
 unfolding TableWritten refused refusal
 refused-reads text words list r p h e =
     let ten : r .verdict .number ≡ 10 = ap (λ (a : AnswerWith Written). a .verdict .number) e in
-    record {
-      reading = subst (Reading limits text (buffers words list)) (sym (refusal-after r 10 p words list e)) h;
-      table = λ z. absurd (omega (arith, z, ten));
-    }
+    reads text words list words list r (subst (Reading limits text (buffers words list)) (sym (refusal-after r (refusal 10 p) words list e)) h) (λ z. absurd (omega (arith, z, ten)))
 
-pub long-reads : (text words list : List ℕ) (r : Answer) → 65536 < length text → Refuses r 10 0 → Reads text 0 words list words list r
+pub long-reads : (text words list : List ℕ) (r : Answer) → 65536 < length text → Refuses r (refusal 10 0) → Reads text words list words list r
 unfolding limits
 long-reads text words list r h e = refused-reads text words list r 0 (too-long h) e
 
-pub misspelled-reads : (text words list : List ℕ) (r : Answer) (p : ℕ) → length text ≤ 65536 → accepts 65535 text ≡ false → p ≡ alive 65535 start text → Refuses r 10 p → Reads text 0 words list words list r
+pub misspelled-reads : (text words list : List ℕ) (r : Answer) (p : ℕ) → length text ≤ 65536 → accepts 65535 text ≡ false → p ≡ alive 65535 start text → Refuses r (refusal 10 p) → Reads text words list words list r
 unfolding limits
 misspelled-reads text words list r p h no-file at e =
     refused-reads text words list r p (misspelled h p (subst (λ (k : ℕ). SpellingFault 65535 text k) (sym at) (misspelt 65535 text (lit≤ tt) no-file))) e
 
-pub spelled-reads : (text words list words′ list′ : List ℕ) (r : Answer) (f : File) → length text ≤ 65536 → Spells 65535 text f → after r (buffers words′ list′) ≡ outcome limits f (buffers words list) → Reads text 0 words list words′ list′ r
+pub spelled-reads : (text words list words′ list′ : List ℕ) (r : Answer) (f : File) → length text ≤ 65536 → Spells 65535 text f → after r (buffers words′ list′) ≡ outcome limits f (buffers words list) → Reads text words list words′ list′ r
 unfolding limits
 spelled-reads text words list words′ list′ r f h s e =
-    record {
-      reading = subst (Reading limits text (buffers words list)) (sym e) (spelled h f s);
-      table = subst (TableWritten 65535 text) (sym e) (done-table text f words list s);
-    }
+    reads text words list words′ list′ r (subst (Reading limits text (buffers words list)) (sym e) (spelled h f s)) (subst (TableWritten 65535 text) (sym e) (done-table text f words list s))
 
 -- The tokens of a text that is a file.
-pub holds-file : (text roles numbers positions : List ℕ) (count : ℕ) → accepts 65535 text ≡ true → tokensFrom roles numbers positions 0 count ≡ tokensOf 65535 text → Room roles numbers positions count → count ≤ tokenLimit → HoldsFile roles numbers positions count
-holds-file text roles numbers positions count h e room few =
-    let found = sound 65535 text h in
-    record {
-      file = found .file;
-      tokens = e ∙ complete (found .spells) .1;
-      ordered = ordered (found .spells);
-      room = room;
-      few = few;
-    }
-
--- The part of a text from the lesser of a place and its length on is the text from the place on.
-drop-lesser : (text : List ℕ) (at : ℕ) → Is (ltb at (length text)) → drop (min at (length text)) text ≡ drop at text
-drop-lesser text at (is-true h) =
-    let l = ltb-true at (length text) h in
-    let e : min at (length text) ≡ at = omega (arith, l) in
-    ap (λ (k : ℕ). drop k text) e
-drop-lesser text at (is-false h) =
-    let l = ltb-false at (length text) h in
-    let e : min at (length text) ≡ length text = omega (arith, l) in
-    ap (λ (k : ℕ). drop k text) e ∙ (drop-of-length-le text {i = length text} (omega arith) ∙ sym (drop-of-length-le text {i = at} l))
-
-part-from : (text : List ℕ) (at from : ℕ) → from ≡ min at (length text) → take (length text - from) (drop from text) ≡ drop at text
-part-from text at from e =
-    take-all (length text - from) (drop from text) (omega (arith, length-drop from text))
-    ∙ (ap (λ (k : ℕ). drop k text) e ∙ drop-lesser text at (look (ltb at (length text))))
-
-pub reads-from : (text : List ℕ) (at from : ℕ) (words list words′ list′ : List ℕ) (r : Answer) → from ≡ min at (length text) → Reads (take (length text - from) (drop from text)) 0 words list words′ list′ r → Reads text at words list words′ list′ r
-reads-from text at from words list words′ list′ r e h =
-    let d = subst (λ (t : List ℕ). Reads t 0 words list words′ list′ r) (part-from text at from e) h in
-    record { reading = d .reading; table = d .table }
+pub holds-file : (text roles numbers positions : List ℕ) (count : ℕ) (f : File) → Spells 65535 text f → tokensFrom roles numbers positions 0 count ≡ tokensOf 65535 text → Room roles numbers positions count → count ≤ tokenLimit → HoldsFile roles numbers positions count f
+holds-file text roles numbers positions count f s e room few = record { tokens = e ∙ complete s .1; ordered = ordered s; room = room; few = few }

@@ -1,4 +1,4 @@
--- A text is read in one way: `Reading` allows one outcome.
+-- A text is read in one way: `Reading` allows one outcome, and every text has it.
 -- Assumes nothing.
 use mathlib.Core.List.{List, [], _++_, append-assoc, append-nil}
 use mathlib.Core.Path.{_≡_, refl, sym, _∙_, ap, subst}
@@ -13,8 +13,9 @@ use Rattle.refusals.specs.Verdict.{refusal}
 use Rattle.refusals.specs.Outcome.{Outcome}
 use Rattle.qcir.specs.File.{File}
 use Rattle.qcir.specs.Spelling.{Spells, Viable, SpellingFault, at-byte, at-end}
-use Rattle.qcir.specs.Reading.{Limits, Written, Buffers, outcome, refusedWith, Reading, too-long, misspelled, spelled}
-use Rattle.qcir_text.proofs.Spelling.{unique}
+use Rattle.qcir.specs.Reading.{Limits, Written, Buffers, outcome, refusedWith, Reading, too-long, misspelled, spelled, OneReading, EveryTextRead}
+use Rattle.qcir_spelling.specs.Machine.{accepts, alive, start}
+use Rattle.qcir_spelling.proofs.Spelling.{sound, refused, unique}
 
 -- The start of a text with which a file begins is one.
 viable-start : (most : ℕ) (text : List ℕ) (p q : ℕ) → p ≤ q → Viable most (take q text) → Viable most (take p text)
@@ -66,3 +67,23 @@ reading-unique lim text before a b (misspelled h p e) (spelled k f s) = absurd (
 reading-unique lim text before a b (spelled h f s) (too-long k) = absurd (omega (arith, h, k))
 reading-unique lim text before a b (spelled h f s) (misspelled k p e) = absurd (spelled-faultless (lim .names) text p f s e)
 reading-unique lim text before a b (spelled h f s) (spelled k g t) = ap (λ (z : File). outcome lim z before) (unique s t)
+
+-- The outcome of a text.
+one : (lim : Limits) (text : List ℕ) (before : Buffers) (o : Outcome Written Buffers) → Reading lim text before o → OneReading lim text before
+one lim text before o h = record { result = o; reading = h; only = λ p k. reading-unique lim text before p o k h }
+
+-- A text that is not too long is a file or has a fault in its spelling.
+short-read : (lim : Limits) (text : List ℕ) (before : Buffers) → 1 ≤ lim .names → length text ≤ lim .bytes → Is (accepts (lim .names) text) → OneReading lim text before
+short-read lim text before l h (is-true t) =
+    let f = sound (lim .names) text t in
+    one lim text before (outcome lim (f .file) before) (spelled h (f .file) (f .spells))
+short-read lim text before l h (is-false t) =
+    let p = alive (lim .names) start text in
+    one lim text before (refusedWith (refusal 10 p) before) (misspelled h p (refused (lim .names) text l t))
+
+pub every-text-read : EveryTextRead
+every-text-read lim text before l = go (look (ltb (lim .bytes) (length text)))
+  where
+    go : Is (ltb (lim .bytes) (length text)) → OneReading lim text before
+    go (is-true h) = one lim text before (refusedWith (refusal 10 0) before) (too-long (ltb-true _ _ h))
+    go (is-false h) = short-read lim text before l (ltb-false _ _ h) (look (accepts (lim .names) text))

@@ -1,10 +1,9 @@
--- What reading a text from a place on answers and leaves in the two buffers.
+-- What reading a text answers and leaves in the two buffers.
 -- Assumes nothing.
 use mathlib.Core.List.{List}
 use Prim.Native.Nat.{ℕ}
-use lib.ListN.{drop}
 use Rattle.refusals.specs.Outcome.{AnswerWith, Outcome}
-use Rattle.qcir.specs.Reading.{limits, Written, Buffers, buffers, Reading, TableWritten}
+use Rattle.qcir.specs.Reading.{limits, Written, Buffers, buffers, Reading, Only, TableWritten}
 use Rattle.qcir_reader.specs.declared.Answer.{Answer}
 
 abbrev pub answerOf : Answer → AnswerWith Written
@@ -14,7 +13,9 @@ answerOf r = record { verdict = r .verdict; sizes = record { words = r .words; e
 abbrev pub after : Answer → Buffers → Outcome Written Buffers
 after r held = record { answer = answerOf r; buffers = held }
 
--- The text from byte `at` on is read; limits and positions are those of this rest. If done, what was written is accepted by the table checker and has the file's truth value.
-pub record Reads (text : List ℕ) (at : ℕ) (words list words′ list′ : List ℕ) (r : Answer) : Type 0 where
-  pub reading : Reading limits (drop at text) (buffers words list) (after r (buffers words′ list′))
-  pub table : TableWritten (limits .names) (drop at text) (after r (buffers words′ list′))
+-- What is promised of reading a text: the outcome is one that reading it has, no other is, and, if done, what was written is
+-- accepted by the table checker and has the file's truth value.
+pub record Reads (text words list words′ list′ : List ℕ) (r : Answer) : Type 0 where
+  pub reading : Reading limits text (buffers words list) (after r (buffers words′ list′))
+  pub only : Only limits text (buffers words list) (after r (buffers words′ list′))
+  pub table : TableWritten (limits .names) text (after r (buffers words′ list′))

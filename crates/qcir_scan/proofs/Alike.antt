@@ -9,12 +9,12 @@ use borrow.Author.Tests.{eqb-true, not-true}
 use Rattle.lists.specs.Choice.{pick-yes, pick-no, Is, is-true, is-false, look, clash, and-left, and-right, and-off-left, and-off-right, or-cases, or-neither}
 use Rattle.lists.specs.Members.{mem, all}
 use Rattle.qcir.specs.Spelling.{isSpace, isDigit}
-use Rattle.qcir_text.specs.Machine.{Place, dead, heading, headed, padded, counted, ready, inside, digits, comment, Row, row, Arrow, arrow, points, rowAt, point, arrowOf, someBegins, same, begins}
+use Rattle.qcir_spelling.specs.Machine.{Place, dead, heading, headed, padded, counted, ready, inside, digits, comment, Row, row, Arrow, arrow, points, rowAt, point, arrowOf, someBegins, same, begins}
 use Rattle.qcir_scan.proofs.Effects.{effectAt, go, wordEffect, betweenEffect}
 
--- LF, and the bytes of the header and of words.
+-- LF, and the bytes of words.
 unfoldable pub marks : List ℕ
-marks = 10 ∷ 35 ∷ 40 ∷ 41 ∷ 44 ∷ 45 ∷ 49 ∷ 52 ∷ 59 ∷ 61 ∷ 67 ∷ 71 ∷ 73 ∷ 81 ∷ 82 ∷ 97 ∷ 100 ∷ 101 ∷ 102 ∷ 105 ∷ 108 ∷ 110 ∷ 111 ∷ 112 ∷ 114 ∷ 115 ∷ 116 ∷ 117 ∷ 120 ∷ []
+marks = 10 ∷ 35 ∷ 40 ∷ 41 ∷ 44 ∷ 45 ∷ 59 ∷ 61 ∷ 97 ∷ 100 ∷ 101 ∷ 102 ∷ 105 ∷ 108 ∷ 110 ∷ 111 ∷ 112 ∷ 114 ∷ 115 ∷ 116 ∷ 117 ∷ 120 ∷ []
 
 unfoldable pub agree : Bool → Bool → Bool
 agree true b = b
@@ -95,18 +95,17 @@ word-dead x c w k =
     pick-yes _ _ _ (ap (λ a. eqb (a .target) 0) (no-arrow x w (point c .words) m k))
     ∙ pick-no _ _ _ (none-begins x w (point c .words) m k)
 
--- The next byte of the header is a mark.
-unfoldable pub headMarked : Place → Bool
-headMarked dead = true
-headMarked (heading []) = true
-headMarked (heading (h ∷ hs)) = mem h marks
-headMarked headed = true
-headMarked padded = true
-headMarked counted = true
-headMarked (ready c) = true
-headMarked (inside c w) = true
-headMarked (digits c) = true
-headMarked (comment c) = true
+-- The place is not within the header.
+unfoldable pub pastHeader : Place → Bool
+pastHeader dead = true
+pastHeader (heading hs) = false
+pastHeader headed = true
+pastHeader padded = true
+pastHeader counted = true
+pastHeader (ready c) = true
+pastHeader (inside c w) = true
+pastHeader (digits c) = true
+pastHeader (comment c) = true
 
 -- x and y are no marks, and the same of space, digit, digit above 0
 module _ (x y : ℕ) (kx : mem x marks ≡ false) (ky : mem y marks ≡ false) (s : isSpace x ≡ isSpace y) (d : isDigit x ≡ isDigit y) (n : (leb 49 x && leb x 57) ≡ (leb 49 y && leb y 57)) where
@@ -128,12 +127,10 @@ module _ (x y : ℕ) (kx : mem x marks ≡ false) (ky : mem y marks ≡ false) (
   unfolding betweenEffect
   between-alike c = rw (s, lf, hash, word-alike c []) (rw n)
 
-  place-alike : (p : Place) → headMarked p ≡ true → effectAt p x ≡ effectAt p y
-  unfolding effectAt headMarked
+  place-alike : (p : Place) → pastHeader p ≡ true → effectAt p x ≡ effectAt p y
+  unfolding effectAt pastHeader
   place-alike dead h = refl
-  place-alike (heading []) h = refl
-  place-alike (heading (m ∷ [])) h = rw (off m h)
-  place-alike (heading (m ∷ i ∷ hs)) h = rw (off m h)
+  place-alike (heading hs) h = clash h refl
   place-alike headed h = rw (s, lf)
   place-alike padded h = rw (s, d, lf)
   place-alike counted h = rw (d, between-alike 1)
@@ -143,7 +140,7 @@ module _ (x y : ℕ) (kx : mem x marks ≡ false) (ky : mem y marks ≡ false) (
   place-alike (comment c) h = rw lf
 
 -- bytes that are alike have the same effect
-pub alike-effect : (x y : ℕ) (p : Place) → alike x y ≡ true → headMarked p ≡ true → effectAt p x ≡ effectAt p y
+pub alike-effect : (x y : ℕ) (p : Place) → alike x y ≡ true → pastHeader p ≡ true → effectAt p x ≡ effectAt p y
 unfolding alike
 alike-effect x y p t h =
     or-cases _ _ t (λ e. ap (effectAt p) (eqb-true x y e))

@@ -8,7 +8,7 @@ use Prim.Native.Nat.{ℕ, _+_, _*_, _-_}
 use lib.Dec.{eqb, leb}
 use Rattle.lists.specs.Choice.{pick}
 use Rattle.qcir.specs.Spelling.{isSpace, isDigit}
-use Rattle.qcir_text.specs.Machine.{Place, dead, heading, headed, padded, counted, ready, inside, digits, comment, State, point, arrowOf, someBegins, move, moveName, emit, readWord, endLine, readDigit, between, stepAt}
+use Rattle.qcir_spelling.specs.Machine.{Place, dead, heading, headed, padded, counted, ready, inside, digits, comment, State, point, arrowOf, someBegins, move, moveName, emit, readWord, endLine, readDigit, between, stepAt}
 
 pub record Effect : Type 0 where
   pub place : Place

@@ -2,8 +2,10 @@ pub mod Effects
 pub mod Alike
 pub mod Every
 pub mod Rule
+pub mod Columns
 pub mod Tokens
 pub mod Runs
+pub mod Headers
 pub mod Steps
 pub mod Scans
 pub mod Words

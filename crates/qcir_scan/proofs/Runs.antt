@@ -1,40 +1,15 @@
--- Laws of runs: byte after byte, and once the machine is dead.
+-- Laws of runs: how far the machine lives, byte after byte.
 -- Assumes nothing.
 use mathlib.Core.Bool.{true, false}
-use mathlib.Core.List.{List, [], _∷_, _++_}
-use mathlib.Core.Path.{_≡_, refl, sym, _∙_, ap}
+use mathlib.Core.List.{List, [], _∷_}
+use mathlib.Core.Path.{_≡_, sym, _∙_, ap}
 use Prim.Native.Nat.{ℕ, suc, _+_, _≤_, _<_}
 use native.Mathlib.Numerals.{add-one}
 use lib.ListN.{length, getD, take, drop, take-append-drop, drop-of-length-le}
 use lib.Seq.{take-suc, drop-cons}
-use Rattle.lists.specs.Choice.{pick-yes, pick-no, clash}
-use Rattle.qcir_text.specs.Machine.{Place, dead, heading, headed, padded, counted, ready, inside, digits, comment, State, start, move, stepAt, step, run, isDead, isDone, alive, accepts}
-
-pub run-append : (most : ℕ) (s : State) (xs ys : List ℕ) → run most s (xs ++ ys) ≡ run most (run most s xs) ys
-unfolding run
-run-append most s [] ys = refl
-run-append most s (x ∷ xs) ys = run-append most (step most s x) xs ys
-
-is-dead : (p : Place) → isDead p ≡ true → p ≡ dead
-unfolding isDead
-is-dead dead h = refl
-is-dead (heading hs) h = clash h refl
-is-dead headed h = clash h refl
-is-dead padded h = clash h refl
-is-dead counted h = clash h refl
-is-dead (ready c) h = clash h refl
-is-dead (inside c w) h = clash h refl
-is-dead (digits c) h = clash h refl
-is-dead (comment c) h = clash h refl
-
-dead-step : (most : ℕ) (s : State) (b : ℕ) → s .place ≡ dead → step most s b .place ≡ dead
-unfolding step stepAt move
-dead-step most s b h = ap (λ p. stepAt most s p b .place) h
-
-dead-run : (most : ℕ) (s : State) (t : List ℕ) → s .place ≡ dead → run most s t .place ≡ dead
-unfolding run
-dead-run most s [] h = h
-dead-run most s (b ∷ t) h = dead-run most (step most s b) t (dead-step most s b h)
+use Rattle.lists.specs.Choice.{pick-yes, pick-no}
+use Rattle.qcir_spelling.specs.Machine.{dead, State, start, step, run, isDead, isDone, alive, accepts}
+use Rattle.qcir_spelling.proofs.Runs.{run-append, is-dead, dead-step, dead-run}
 
 module _ (most : ℕ) (text : List ℕ) where
   -- dead after some of the bytes: the text is no file

@@ -14,9 +14,9 @@ use Rattle.lists.specs.Choice.{pick, pick-yes, pick-no, Is, is-true, is-false, 
 use Rattle.qcir.specs.Spelling.{isDigit}
 use Rattle.qcir_tokens.specs.Tokens.{token}
 use Rattle.qcir_tokens.specs.Held.{tokensFrom}
-use Rattle.qcir_text.specs.Machine.{dead, State, start, move, moveName, emit, step, run, isDead}
+use Rattle.qcir_spelling.specs.Machine.{dead, State, start, move, moveName, emit, step, run, isDead}
 use Rattle.qcir_scan.specs.declared.Progress.{Progress}
-use Rattle.qcir_scan.specs.Places.{places, placeOf, spares, spare}
+use Rattle.qcir_scan.specs.Places.{places, placeOf, spareOf, spare}
 use Rattle.qcir_scan.specs.Tables.{entryAt}
 use Rattle.qcir_scan.specs.Held.{highest, stateOf, Wide, Lives, Holds, InName, Leads, numberAfter, beginAfter, countAfter}
 use Rattle.qcir_scan.proofs.Effects.{withNumber, apply, step-effect}
@@ -230,7 +230,7 @@ module _ (text rs ns ps : List ℕ) (q : Progress) (h : Holds text rs ns ps q) (
         record { state = next-state ∙ into-state a; lives = lives-on; within = omega arith; place-low = next-low (q .place) (h .place-low) (getD text (q .at) 0) byte; number-low = a; begin-low = begin-below (look (eqb act 25)); room = omega arith; wide = h .wide }
 
     went-over : highest < n → Holds text rs ns ps over
-    unfolding spare spares over
+    unfolding spare spareOf placeOf places over
     went-over a =
         let r = h .room in
         record { state = next-state ∙ over-state a; lives = lives-on; within = omega arith; place-low = omega arith; number-low = h .number-low; begin-low = h .begin-low; room = omega arith; wide = h .wide }
@@ -287,7 +287,7 @@ module _ (text rs ns ps : List ℕ) (q : Progress) (h : Holds text rs ns ps q) (
       further-too-high a = after-too-high (6656 + q .place) same-name above number-on a
 
   -- a byte that leads to place p, and does nothing
-  pub idles : {p : ℕ} → entryAt (q .place) (getD text (q .at) 0) ≡ p → p < 124 → Holds text rs ns ps (record { at = q .at + 1; place = p; number = q .number; begin = q .begin; count = q .count })
+  pub idles : {p : ℕ} → entryAt (q .place) (getD text (q .at) 0) ≡ p → p < 115 → Holds text rs ns ps (record { at = q .at + 1; place = p; number = q .number; begin = q .begin; count = q .count })
   unfolding act e idle
   idles {p} r low =
       let z : entryAt (q .place) (getD text (q .at) 0) / 256 ≡ 0 = ap (λ x. x / 256) r ∙ div-eq-of-lt (omega arith) in

@@ -8,7 +8,7 @@ use lib.Dec.{eqb}
 use lib.ListN.{length, take, drop}
 use Rattle.lists.specs.Choice.{pick}
 use Rattle.qcir_tokens.specs.Held.{tokensFrom, tokenLimit}
-use Rattle.qcir_text.specs.Machine.{State, start, run, alive, accepts, tokensOf}
+use Rattle.qcir_spelling.specs.Machine.{State, start, run, alive, accepts, tokensOf}
 use Rattle.qcir_scan.specs.declared.Progress.{Progress}
 use Rattle.qcir_scan.specs.declared.Scanned.{Scanned}
 use Rattle.qcir_scan.specs.Places.{placeOf, spare}
@@ -37,7 +37,7 @@ pub record Holds (text roles numbers positions : List ℕ) (q : Progress) : Type
   pub state : run highest start (take (q .at) text) ≡ stateOf q roles numbers positions
   pub lives : Lives text (q .at - 1)
   pub within : q .at ≤ length text
-  pub place-low : q .place < 124
+  pub place-low : q .place < 115
   pub number-low : q .number ≤ highest
   pub begin-low : q .begin < 65536
   pub room : 2 * q .count + spare (q .place) ≤ q .at
@@ -57,26 +57,26 @@ countAfter role count = pick (eqb role 0) count (count + 1)
 
 -- Within a name or right after it.
 pub record InName (place : ℕ) : Type 0 where
-  pub first : 59 ≤ place
-  pub last : place < 74
+  pub first : 50 ≤ place
+  pub last : place < 65
 
 -- Between two signs.
 pub record Between (place : ℕ) : Type 0 where
-  pub first : 13 ≤ place
-  pub last : place < 59
+  pub first : 4 ≤ place
+  pub last : place < 50
 
 -- Within a comment line.
 pub record InComment (place : ℕ) : Type 0 where
-  pub first : 74 ≤ place
-  pub last : place < 77
+  pub first : 65 ≤ place
+  pub last : place < 68
 
 -- From a place, two bytes lead to the next, and nothing is done.
 pub record Leads (place first second next : ℕ) : Type 0 where
   pub going : 0 < place
   pub middle : 0 < entryAt place first
-  pub middle-low : entryAt place first < 124
+  pub middle-low : entryAt place first < 115
   pub arrives : entryAt (entryAt place first) second ≡ next
-  pub next-low : next < 124
+  pub next-low : next < 115
   pub first-low : first < 256
   pub second-low : second < 256
 

@@ -1,24 +1,19 @@
 -- The machine's places, numbered.
 -- Assumes nothing.
-use mathlib.Core.List.{List, [], _∷_}
-use Prim.Native.Nat.{ℕ}
+use mathlib.Core.Bool.{_&&_}
+use mathlib.Core.List.{List, [], _∷_, map}
+use Prim.Native.Nat.{ℕ, suc}
+use lib.Dec.{eqb, leb}
 use lib.ListN.{getD}
-use Rattle.qcir_text.specs.Machine.{Place, dead, heading, headed, padded, counted, ready, inside, digits, comment}
+use Rattle.lists.specs.Choice.{pick}
+use Rattle.lists.specs.Members.{mem}
+use Rattle.qcir_spelling.specs.Machine.{Place, dead, heading, headed, padded, counted, ready, inside, digits, comment, Row, points, same}
 
--- Those that a run from the start can be at: 0 is dead, 1 the start, 36 where a file may end, 59 to 73 within names or right after
--- them.
+-- Those that a run can be at once the header is taken. 0 is dead, 1 right after the header, 27 where a file may end; 4 to 49 are
+-- between two signs, 50 to 64 within names or right after them, 65 to 67 within comment lines, 68 to 114 within words.
 unfoldable pub places : List Place
 places =
     dead
-    ∷ heading (35 ∷ 81 ∷ 67 ∷ 73 ∷ 82 ∷ 45 ∷ 71 ∷ 49 ∷ 52 ∷ [])
-    ∷ heading (81 ∷ 67 ∷ 73 ∷ 82 ∷ 45 ∷ 71 ∷ 49 ∷ 52 ∷ [])
-    ∷ heading (67 ∷ 73 ∷ 82 ∷ 45 ∷ 71 ∷ 49 ∷ 52 ∷ [])
-    ∷ heading (73 ∷ 82 ∷ 45 ∷ 71 ∷ 49 ∷ 52 ∷ [])
-    ∷ heading (82 ∷ 45 ∷ 71 ∷ 49 ∷ 52 ∷ [])
-    ∷ heading (45 ∷ 71 ∷ 49 ∷ 52 ∷ [])
-    ∷ heading (71 ∷ 49 ∷ 52 ∷ [])
-    ∷ heading (49 ∷ 52 ∷ [])
-    ∷ heading (52 ∷ [])
     ∷ headed
     ∷ padded
     ∷ counted
@@ -139,9 +134,41 @@ places =
 unfoldable pub placeOf : ℕ → Place
 placeOf i = getD places i dead
 
--- How many bytes at the least a run to the place takes besides two for each token.
-unfoldable pub spares : List ℕ
-spares = 0 ∷ 0 ∷ 0 ∷ 0 ∷ 0 ∷ 0 ∷ 0 ∷ 0 ∷ 0 ∷ 0 ∷ 0 ∷ 0 ∷ 0 ∷ 0 ∷ 0 ∷ 0 ∷ 0 ∷ 1 ∷ 0 ∷ 1 ∷ 0 ∷ 0 ∷ 0 ∷ 1 ∷ 0 ∷ 0 ∷ 1 ∷ 0 ∷ 1 ∷ 0 ∷ 0 ∷ 0 ∷ 0 ∷ 1 ∷ 1 ∷ 0 ∷ 0 ∷ 0 ∷ 0 ∷ 2 ∷ 2 ∷ 1 ∷ 1 ∷ 1 ∷ 1 ∷ 0 ∷ 0 ∷ 1 ∷ 1 ∷ 0 ∷ 0 ∷ 1 ∷ 1 ∷ 0 ∷ 0 ∷ 1 ∷ 0 ∷ 1 ∷ 1 ∷ 1 ∷ 1 ∷ 1 ∷ 1 ∷ 1 ∷ 1 ∷ 1 ∷ 0 ∷ 1 ∷ 1 ∷ 1 ∷ 1 ∷ 1 ∷ 1 ∷ 1 ∷ 0 ∷ 0 ∷ 0 ∷ 0 ∷ 0 ∷ 0 ∷ 0 ∷ 0 ∷ 0 ∷ 0 ∷ 0 ∷ 0 ∷ 0 ∷ 0 ∷ 0 ∷ 0 ∷ 0 ∷ 0 ∷ 0 ∷ 0 ∷ 0 ∷ 0 ∷ 0 ∷ 0 ∷ 0 ∷ 0 ∷ 0 ∷ 0 ∷ 0 ∷ 0 ∷ 0 ∷ 0 ∷ 0 ∷ 0 ∷ 0 ∷ 0 ∷ 1 ∷ 1 ∷ 0 ∷ 0 ∷ 0 ∷ 0 ∷ 0 ∷ 0 ∷ 0 ∷ 0 ∷ 0 ∷ 0 ∷ 0 ∷ 0 ∷ []
+-- A place as a list of numbers.
+unfoldable pub code : Place → List ℕ
+code dead = 0 ∷ []
+code (heading hs) = 1 ∷ hs
+code headed = 2 ∷ []
+code padded = 3 ∷ []
+code counted = 4 ∷ []
+code (ready c) = 5 ∷ c ∷ []
+code (inside c w) = 6 ∷ c ∷ w
+code (digits c) = 7 ∷ c ∷ []
+code (comment c) = 8 ∷ c ∷ []
+
+-- Where a place stands in a list, counted from 0; the list's length if it is not there.
+unfoldable pub indexIn : List Place → Place → ℕ
+indexIn [] p = 0
+indexIn (q ∷ qs) p = let later = suc (indexIn qs p) in pick (same (code p) (code q)) 0 later
+
+-- The number of a place.
+unfoldable pub numberOf : Place → ℕ
+numberOf p = indexIn places p
+
+-- How many bytes at the least a run to the place takes besides two for each token: one right after a name; two from a gate's sign =
+-- up to its opening parenthesis, which ends the gate's name; and one right after that of `and(` or `or(`.
+unfoldable pub spareOf : Place → ℕ
+spareOf dead = 0
+spareOf (heading hs) = 0
+spareOf headed = 0
+spareOf padded = 0
+spareOf counted = 0
+spareOf (ready c) =
+    pick (mem c (map (λ (r : Row). r .named) points)) 1
+    (pick (leb 26 c && leb c 31) 2 (pick (eqb c 32) 1 0))
+spareOf (inside c w) = pick (eqb c 26) 2 0
+spareOf (digits c) = 1
+spareOf (comment c) = 0
 
 unfoldable pub spare : ℕ → ℕ
-spare i = getD spares i 0
+spare i = spareOf (placeOf i)

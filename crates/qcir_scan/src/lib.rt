@@ -1,10 +1,10 @@
-// Takes the bytes of a QCIR text and collects the file's tokens: the machine of qcir_text, by tables.
-ghost use mathlib.Core.List.{List};
+// Takes the bytes of a QCIR text and collects the file's tokens: the machine of qcir_spelling, by tables.
 ghost use mathlib.Core.Path.{_≡_};
-ghost use Prim.Native.Nat.{ℕ, _+_, _%_, _≤_, _<_};
+ghost use Prim.Native.Nat.{_+_, _%_, _≤_, _<_};
 ghost use lib.Dec.{eqb};
-ghost use lib.ListN.{length, getD, set};
+ghost use lib.ListN.{length, set};
 ghost use Rattle.qcir.specs.Spelling.{isSpace, isDigit};
+ghost use Rattle.qcir_header.specs.Header.{headerEnd};
 ghost use Rattle.qcir_scan.specs.Tables.{Tables, entryAt};
 ghost use Rattle.qcir_scan.specs.Held.{
   Holds,
@@ -22,24 +22,25 @@ ghost use Rattle.qcir_scan.specs.Held.{
 
 mod table;
 
+use qcir_header::HEADER;
 use table::COLUMNS;
 use table::MOVES;
 
-// Numbers of places: where no file goes on, the start, and where a file may end.
+// Numbers of places: where no file goes on, right after the header, and where a file may end.
 const DEAD: usize = 0;
 
-const START: usize = 1;
+const HEADED: usize = 1;
 
-const DONE: usize = 36;
+const DONE: usize = 27;
 
 // From here on the places between two signs, those of names, of comment lines and of words.
-const BETWEEN: usize = 13;
+const BETWEEN: usize = 4;
 
-const NAMES: usize = 59;
+const NAMES: usize = 50;
 
-const COMMENTS: usize = 74;
+const COMMENTS: usize = 65;
 
-const WORDS: usize = 77;
+const WORDS: usize = 68;
 
 // What an entry of the table does if a name begins; if less, the pending name ends in this role, or,
 // if 0, nothing is done; if more, a further digit of the name is taken.
@@ -70,34 +71,52 @@ pub struct Scanned {
     pub count: usize,
 }
 
-// Scans a text. If it is a file, the arrays hold its tokens.
+// Scans a text whose header ends at a position, or is wrong there. If the text is a file, the arrays hold its tokens.
 //
-// The contract rules out a scanner that reports a spelling error late, and one that accepts a name above 65,535.
-pub fn scan(text: &[u8], roles: &mut [u8], numbers: &mut [u16], positions: &mut [u16]) -> Scanned
+// The contract rules out a scanner that reports a spelling error late, one that accepts a name above 65,535, and one that
+// accepts a name with a leading zero.
+pub fn scan(
+    text: &[u8],
+    at: usize,
+    roles: &mut [u8],
+    numbers: &mut [u16],
+    positions: &mut [u16],
+) -> Scanned
     requires { ⌜ length (now text) ≤ 65536 ⌝ }
+    requires { ⌜ at ≡ headerEnd (now text) 0 ⌝ }
     requires { ⌜ Wide (now roles) (now numbers) (now positions) ⌝ }
     ensures { λ r. ⌜ Answers (now (text .entry)) (now (roles .exit)) (now (numbers .exit)) (now (positions .exit)) r ⌝ }
 {
-    walk(&MOVES, &COLUMNS, text, roles, numbers, positions)
+    if at < HEADER.len() {
+        let position = at as u32;
+        return Scanned {
+            spelled: false,
+            position,
+            count: 0,
+        };
+    }
+    walk(&MOVES, &COLUMNS, text, at, roles, numbers, positions)
 }
 
-// Takes the bytes one after the other, up to the first where no file goes on.
+// Takes the bytes after the header one after the other, up to the first where no file goes on.
 fn walk(
-    moves: &[u16; 4092],
+    moves: &[u16; 2990],
     columns: &[u16; 256],
     text: &[u8],
+    at: usize,
     roles: &mut [u8],
     numbers: &mut [u16],
     positions: &mut [u16],
 ) -> Scanned
     requires { ⌜ Tables (now moves) (now columns) ⌝ }
     requires { ⌜ length (now text) ≤ 65536 ⌝ }
+    requires { ⌜ (at ≡ headerEnd (now text) 0) × (9 ≤ at) ⌝ }
     requires { ⌜ Wide (now roles) (now numbers) (now positions) ⌝ }
     ensures { λ r. ⌜ Answers (now (text .entry)) (now (roles .exit)) (now (numbers .exit)) (now (positions .exit)) r ⌝ }
 {
     let mut q = Progress {
-        at: 0,
-        place: START,
+        at,
+        place: HEADED,
         number: 0,
         begin: 0,
         count: 0,
@@ -124,7 +143,7 @@ fn walk(
 
 // Takes one byte and the run after it, or the digits of a name.
 fn advance(
-    moves: &[u16; 4092],
+    moves: &[u16; 2990],
     columns: &[u16; 256],
     text: &[u8],
     q: Progress,
@@ -136,7 +155,10 @@ fn advance(
     requires { ⌜ length (now text) ≤ 65536 ⌝ }
     requires { ⌜ (q .at < length (now text)) × (0 < q .place) ⌝ }
     requires { ⌜ Holds (now text) (now roles) (now numbers) (now positions) q ⌝ }
-    ensures { λ r. ⌜ Holds (now (text .entry)) (now (roles .exit)) (now (numbers .exit)) (now (positions .exit)) r × (q .at < r .at) ⌝ }
+    ensures { λ r. ⌜
+        Holds (now (text .entry)) (now (roles .exit)) (now (numbers .exit)) (now (positions .exit)) r
+        × (q .at < r .at)
+        ⌝ }
 {
     let at = q.at;
     let byte = text[at];
@@ -198,12 +220,12 @@ fn skip_word(text: &[u8], q: Progress) -> Progress
     requires { ⌜ q .at ≤ length (now text) ⌝ }
     ensures { λ r. ⌜ GoesOn (now (text .entry)) q r ⌝ }
 {
-    let q = skip_two(text, q, 109, b'n', b'd', 39);
-    let q = skip_two(text, q, 112, b'o', b'r', 41);
-    let q = skip_two(text, q, 114, b'x', b'i', 116);
-    let q = skip_two(text, q, 116, b's', b't', 118);
-    let q = skip_two(text, q, 119, b'o', b'r', 121);
-    skip_two(text, q, 121, b'a', b'l', 123)
+    let q = skip_two(text, q, 100, b'n', b'd', 30);
+    let q = skip_two(text, q, 103, b'o', b'r', 32);
+    let q = skip_two(text, q, 105, b'x', b'i', 107);
+    let q = skip_two(text, q, 107, b's', b't', 109);
+    let q = skip_two(text, q, 110, b'o', b'r', 112);
+    skip_two(text, q, 112, b'a', b'l', 114)
 }
 
 // Takes two letters that lead from a place to the next, if it is this place and the text goes on with them.
@@ -321,9 +343,9 @@ fn is_digit(byte: u8) -> bool
 }
 
 // The table's entry for a byte at a place.
-fn entry_at(moves: &[u16; 4092], columns: &[u16; 256], place: usize, byte: u8) -> u16
+fn entry_at(moves: &[u16; 2990], columns: &[u16; 256], place: usize, byte: u8) -> u16
     requires { ⌜ Tables (now moves) (now columns) ⌝ }
-    requires { ⌜ place < 124 ⌝ }
+    requires { ⌜ place < 115 ⌝ }
     ensures { λ r. ⌜ r ≡ entryAt place byte ⌝ }
 {
     moves[columns[byte as usize] as usize + place]
@@ -333,7 +355,11 @@ fn entry_at(moves: &[u16; 4092], columns: &[u16; 256], place: usize, byte: u8) -
 fn put_token(roles: &mut [u8], numbers: &mut [u16], positions: &mut [u16], q: Progress, role: u8)
     requires { ⌜ Wide (now roles) (now numbers) (now positions) ⌝ }
     requires { ⌜ (q .count < 32768) × (q .number ≤ 65535) × (q .begin < 65536) ⌝ }
-    ensures { λ _. ⌜ (now (roles .exit) ≡ set (now (roles .entry)) (q .count) role) × (now (numbers .exit) ≡ set (now (numbers .entry)) (q .count) (q .number)) × (now (positions .exit) ≡ set (now (positions .entry)) (q .count) (q .begin)) ⌝ }
+    ensures { λ _. ⌜
+        (now (roles .exit) ≡ set (now (roles .entry)) (q .count) role)
+        × (now (numbers .exit) ≡ set (now (numbers .entry)) (q .count) (q .number))
+        × (now (positions .exit) ≡ set (now (positions .entry)) (q .count) (q .begin))
+        ⌝ }
 {
     let count = q.count;
     roles[count] = role;
@@ -374,10 +400,10 @@ fn count_after(role: u8, count: usize) -> usize
 }
 
 // The text may end here: its end is read as LF.
-fn is_done(moves: &[u16; 4092], columns: &[u16; 256], place: usize) -> bool
+fn is_done(moves: &[u16; 2990], columns: &[u16; 256], place: usize) -> bool
     requires { ⌜ Tables (now moves) (now columns) ⌝ }
-    requires { ⌜ place < 124 ⌝ }
-    ensures { λ r. ⌜ r ≡ eqb (entryAt place 10 % 256) 36 ⌝ }
+    requires { ⌜ place < 115 ⌝ }
+    ensures { λ r. ⌜ r ≡ eqb (entryAt place 10 % 256) 27 ⌝ }
 {
     (entry_at(moves, columns, place, LF) % 256) as usize == DONE
 }

@@ -1,2 +1,3 @@
 pub mod Roles
 pub mod Tokens
+pub mod Files

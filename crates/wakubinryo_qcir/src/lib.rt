@@ -2,7 +2,7 @@
 // words.
 ghost use mathlib.Core.Path.{_≡_};
 ghost use Rattle.refusals.specs.Verdict.{Plain};
-ghost use Rattle.qcir.specs.Reading.{limits, buffers, Reading, TableWritten};
+ghost use Rattle.qcir.specs.Reading.{limits, buffers, Reading, Only, TableWritten};
 ghost use Rattle.qcir_reader.specs.Reads.{answerOf};
 ghost use Rattle.wakubinryo_qcir.specs.Words.{writtenAnswer, readOutcome};
 use qcir_reader::Answer;
@@ -20,6 +20,9 @@ pub extern "C" fn wakubinryo_read_qcir(
 )
     ensures reading { λ _.
         ⌜ Reading limits (now (text .entry)) (buffers (now (words .entry)) (now (list .entry)))
+        (readOutcome (now (answer .exit)) (buffers (now (words .exit)) (now (list .exit)))) ⌝ }
+    ensures only { λ _.
+        ⌜ Only limits (now (text .entry)) (buffers (now (words .entry)) (now (list .entry)))
         (readOutcome (now (answer .exit)) (buffers (now (words .exit)) (now (list .exit)))) ⌝ }
     ensures table { λ _.
         ⌜ TableWritten (limits .names) (now (text .entry))

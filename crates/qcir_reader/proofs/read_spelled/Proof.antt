@@ -1,7 +1,9 @@
 -- `qcir_reader::read_spelled` meets its contract.
 -- Assumes nothing.
 use mathlib.Core.Path.{sym, _∙_}
-use Rattle.qcir_text.proofs.Spelling.{complete, sound, ordered}
+use Rattle.refusals.specs.Verdict.{refusal}
+use Rattle.qcir_spelling.proofs.Spelling.{sound}
+use Rattle.qcir_reader.proofs.Stages.{refuses}
 use Rattle.qcir_reader.proofs.Texts.{misspelled-reads, spelled-reads, holds-file}
 use native.Mathlib.Omega.{arith}
 use borrow.Author.Needs.{needs}
@@ -34,7 +36,8 @@ read-tokens-requires c κs =
     let s = c .before .before .before .before .before .before .before .before .before .before .before .before .before .before .before .before in
     let n = c .before .before .before .before .before .before .before .before .before .scan in
     let h = c .before .before .before .before .before .if1 .taken in
-    holds-file (s .args .text .now) _ _ _ _ (sym (n .ensures .spelled-is) ∙ h) (n .ensures .tokens-are h) (record { roles-hold = omega (arith, n .ensures .few, n .kept .1 .0); numbers-hold = omega (arith, n .ensures .few, n .kept .1 .1 .0); positions-hold = omega (arith, n .ensures .few, n .kept .1 .1 .1 .0) }) (n .ensures .few)
+    let f = sound 65535 (s .args .text .now) (sym (n .ensures .spelled-is) ∙ h) in
+    (f .file, holds-file (s .args .text .now) _ _ _ _ (f .file) (f .spells) (n .ensures .tokens-are h) (record { roles-hold = omega (arith, n .ensures .few, n .kept .1 .1 .0); numbers-hold = omega (arith, n .ensures .few, n .kept .1 .1 .1 .0); positions-hold = omega (arith, n .ensures .few, n .kept .1 .1 .1 .1 .0) }) (n .ensures .few))
 
 same-length : tie.Need-same-length
 same-length c = search needs
@@ -48,17 +51,21 @@ returns c =
     let n = c .before .before .before .before .before .before .before .before .before .before .before .before .before .before .scan in
     let h = c .before .before .before .before .before .before .before .before .before .before .if1 .taken in
     let f = sound 65535 (s .args .text .now) (sym (n .ensures .spelled-is) ∙ h) in
-    spelled-reads (s .args .text .now) (s .args .words .now) (s .args .list .now) _ _ _ (f .file) (s .pre) (f .spells)
-    (c .before .before .before .before .read-tokens .ensures (f .file) (n .ensures .tokens-are h ∙ complete (f .spells) .1) (ordered (f .spells)))
+    let held = holds-file (s .args .text .now) _ _ _ _ (f .file) (f .spells) (n .ensures .tokens-are h) (record { roles-hold = omega (arith, n .ensures .few, n .kept .1 .1 .0); numbers-hold = omega (arith, n .ensures .few, n .kept .1 .1 .1 .0); positions-hold = omega (arith, n .ensures .few, n .kept .1 .1 .1 .1 .0) }) (n .ensures .few) in
+    spelled-reads (s .args .text .now) (s .args .words .now) (s .args .list .now) _ _ _ (f .file) (s .pre .0) (f .spells) (c .before .before .before .before .read-tokens .ensures (f .file) held)
+
+refusal-requires : tie.Need-refusal-requires
+refusal-requires c κs = search needs
 
 refused-requires : tie.Need-refused-requires
 refused-requires c κs = search needs
 
 returns-2 : tie.Need-returns-2
 returns-2 c =
-    let s = c .before .before .before .before .before .before .before .before .before .before .before .before in
-    let n = c .before .before .before .before .before .scan .ensures in
-    misspelled-reads (s .args .text .now) (s .args .words .now) (s .args .list .now) _ _ (s .pre) (sym (n .spelled-is) ∙ c .before .if1 .left) (n .position-is) (c .refused .ensures)
+    let s = c .before .before .before .before .before .before .before .before .before .before .before .before .before in
+    let n = c .before .before .before .before .before .before .scan in
+    let v = c .before .refusal in
+    misspelled-reads (s .args .text .now) (s .args .words .now) (s .args .list .now) _ _ (s .pre .0) (sym (n .ensures .spelled-is) ∙ c .before .before .if1 .left) (n .ensures .position-is) (refuses _ (v .result) (refusal 10 (n .result .position)) (v .ensures) (c .refused .ensures))
 
 pub read-spelled-spec : {M : Type 1} → statement M
 read-spelled-spec =
@@ -75,5 +82,6 @@ read-spelled-spec =
     same-length
     same-length-2
     returns
+    refusal-requires
     refused-requires
     returns-2)

@@ -4,8 +4,7 @@ use Prim.Native.Nat.{_+_, _<_}
 use native.Mathlib.Omega.{arith}
 use lib.ListN.{getD}
 use borrow.Author.Needs.{needs}
-use Rattle.qcir_scan.specs.Tables.{entryAt}
-use Rattle.qcir_scan.proofs.Rule.{in-table}
+use Rattle.qcir_scan.proofs.Columns.{in-table, table-entry}
 use Rattle.qcir_scan.proofs.entry_at.Statement.{statement}
 use Rattle.qcir_scan.proofs.entry_at.Tie as tie
 
@@ -20,7 +19,7 @@ cast-result c =
     let start = c .before in
     let a = start .args in
     let w : a .byte < 256 = search needs in
-    let l : getD (a .columns .now) (a .byte) 0 + a .place < 4092 = rw (start .pre .0 .columns-are) (in-table (a .place) (start .pre .1) (a .byte) w) in
+    let l : getD (a .columns .now) (a .byte) 0 + a .place < 2990 = rw (start .pre .0 .columns-are) (in-table (a .place) (start .pre .1) (a .byte) w) in
     omega arith
 
 add-result : tie.Need-add-result
@@ -28,7 +27,7 @@ add-result c =
     let start = c .before in
     let a = start .args in
     let w : a .byte < 256 = search needs in
-    let l : getD (a .columns .now) (a .byte) 0 + a .place < 4092 = rw (start .pre .0 .columns-are) (in-table (a .place) (start .pre .1) (a .byte) w) in
+    let l : getD (a .columns .now) (a .byte) 0 + a .place < 2990 = rw (start .pre .0 .columns-are) (in-table (a .place) (start .pre .1) (a .byte) w) in
     omega arith
 
 mul-result-2 : tie.Need-mul-result-2
@@ -36,7 +35,7 @@ mul-result-2 c =
     let start = c .before in
     let a = start .args in
     let w : a .byte < 256 = search needs in
-    let l : getD (a .columns .now) (a .byte) 0 + a .place < 4092 = rw (start .pre .0 .columns-are) (in-table (a .place) (start .pre .1) (a .byte) w) in
+    let l : getD (a .columns .now) (a .byte) 0 + a .place < 2990 = rw (start .pre .0 .columns-are) (in-table (a .place) (start .pre .1) (a .byte) w) in
     omega arith
 
 element-copy-out-result-2 : tie.Need-element-copy-out-result-2
@@ -44,12 +43,16 @@ element-copy-out-result-2 c =
     let start = c .before in
     let a = start .args in
     let w : a .byte < 256 = search needs in
-    let l : getD (a .columns .now) (a .byte) 0 + a .place < 4092 = rw (start .pre .0 .columns-are) (in-table (a .place) (start .pre .1) (a .byte) w) in
+    let l : getD (a .columns .now) (a .byte) 0 + a .place < 2990 = rw (start .pre .0 .columns-are) (in-table (a .place) (start .pre .1) (a .byte) w) in
     omega arith
 
 returns : tie.Need-returns
-unfolding entryAt
-returns c = let t = c .before .before .pre .0 in rw (t .moves-are, t .columns-are)
+returns c =
+    let start = c .before .before in
+    let a = start .args in
+    let w : a .byte < 256 = search needs in
+    let t = start .pre .0 in
+    rw (t .moves-are, t .columns-are) (table-entry (a .place) (start .pre .1) (a .byte) w)
 
 pub entry-at-spec : {M : Type 1} → statement M
 entry-at-spec =

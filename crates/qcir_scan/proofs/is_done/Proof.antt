@@ -14,7 +14,7 @@ cast-result : tie.Need-cast-result
 cast-result c = search needs
 
 returns : tie.Need-returns
-returns c = ap (λ e. eqb (e % 256) 36) (c .entry-at .ensures)
+returns c = ap (λ e. eqb (e % 256) 27) (c .entry-at .ensures)
 
 pub is-done-spec : {M : Type 1} → statement M
 is-done-spec = tie.close (tie.spec entry-at-requires cast-result returns)

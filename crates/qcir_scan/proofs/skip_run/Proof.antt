@@ -11,13 +11,13 @@ use Rattle.qcir_scan.specs.Held.{Between, InComment}
 use Rattle.qcir_scan.proofs.skip_run.Statement.{statement}
 use Rattle.qcir_scan.proofs.skip_run.Tie as tie
 
-between-is : (i : ℕ) → (leb 13 i && ltb i 59) ≡ true → Between i
+between-is : (i : ℕ) → (leb 4 i && ltb i 50) ≡ true → Between i
 between-is i t =
-    record { first = leb-true 13 i (and-left (leb 13 i) _ t); last = ltb-true i 59 (and-right (leb 13 i) _ t) }
+    record { first = leb-true 4 i (and-left (leb 4 i) _ t); last = ltb-true i 50 (and-right (leb 4 i) _ t) }
 
-comment-is : (i : ℕ) → (leb 74 i && ltb i 77) ≡ true → InComment i
+comment-is : (i : ℕ) → (leb 65 i && ltb i 68) ≡ true → InComment i
 comment-is i t =
-    record { first = leb-true 74 i (and-left (leb 74 i) _ t); last = ltb-true i 77 (and-right (leb 74 i) _ t) }
+    record { first = leb-true 65 i (and-left (leb 65 i) _ t); last = ltb-true i 68 (and-right (leb 65 i) _ t) }
 
 skip-spaces-requires : tie.Need-skip-spaces-requires
 skip-spaces-requires c κs =

@@ -10,16 +10,16 @@ use Rattle.qcir_scan.proofs.walk.Statement.{statement}
 use Rattle.qcir_scan.proofs.walk.Tie as tie
 
 abbrev Inv-loop : tie.InvT-loop
-Inv-loop moves columns text roles₀ numbers₀ positions₀ q₀ roles numbers positions q = Holds text roles numbers positions q × (0 < q .place)
+Inv-loop moves columns text at roles₀ numbers₀ positions₀ q₀ roles numbers positions q = Holds text roles numbers positions q × (0 < q .place)
 
 abbrev μ-loop : tie.MeasureT-loop
-μ-loop moves columns text roles₀ numbers₀ positions₀ q₀ roles numbers positions q = length text - q .at
+μ-loop moves columns text at roles₀ numbers₀ positions₀ q₀ roles numbers positions q = length text - q .at
 
 loop-holds : tie.Need-loop-holds Inv-loop μ-loop
 loop-holds c =
     let start = c .before .before .before .before in
     let a = start .args in
-    (holds-start (a .text .now) (a .roles .now) (a .numbers .now) (a .positions .now) (start .pre .1 .1), omega arith)
+    (holds-start (a .text .now) (a .roles .now) (a .numbers .now) (a .positions .now) (a .at) (start .pre .1 .1 .0 .0) (start .pre .1 .1 .0 .1) (start .pre .1 .1 .1), omega arith)
 
 advance-requires : tie.Need-advance-requires Inv-loop μ-loop
 advance-requires c κs =
@@ -36,13 +36,13 @@ cast-position c =
     omega (arith, c .before .before .before .before .before .before .before .before .before .advance .ensures .0 .within, start .pre .1 .0)
 
 same-length : tie.Need-same-length Inv-loop μ-loop
-same-length c = omega (arith, c .before .before .before .before .before .before .before .before .before .advance .ensures .0 .wide .roles-wide, c .before .before .before .before .before .before .before .before .before .before .before .before .before .before .before .before .before .before .before .before .pre .1 .1 .roles-wide)
+same-length c = omega (arith, c .before .before .before .before .before .before .before .before .before .advance .ensures .0 .wide .roles-wide, c .before .before .before .before .before .before .before .before .before .before .before .before .before .before .before .before .before .before .before .before .pre .1 .1 .1 .roles-wide)
 
 same-length-2 : tie.Need-same-length-2 Inv-loop μ-loop
-same-length-2 c = omega (arith, c .before .before .before .before .before .before .before .before .before .advance .ensures .0 .wide .numbers-wide, c .before .before .before .before .before .before .before .before .before .before .before .before .before .before .before .before .before .before .before .before .pre .1 .1 .numbers-wide)
+same-length-2 c = omega (arith, c .before .before .before .before .before .before .before .before .before .advance .ensures .0 .wide .numbers-wide, c .before .before .before .before .before .before .before .before .before .before .before .before .before .before .before .before .before .before .before .before .pre .1 .1 .1 .numbers-wide)
 
 same-length-3 : tie.Need-same-length-3 Inv-loop μ-loop
-same-length-3 c = omega (arith, c .before .before .before .before .before .before .before .before .before .advance .ensures .0 .wide .positions-wide, c .before .before .before .before .before .before .before .before .before .before .before .before .before .before .before .before .before .before .before .before .pre .1 .1 .positions-wide)
+same-length-3 c = omega (arith, c .before .before .before .before .before .before .before .before .before .advance .ensures .0 .wide .positions-wide, c .before .before .before .before .before .before .before .before .before .before .before .before .before .before .before .before .before .before .before .before .pre .1 .1 .1 .positions-wide)
 
 returns : tie.Need-returns Inv-loop μ-loop
 returns c =

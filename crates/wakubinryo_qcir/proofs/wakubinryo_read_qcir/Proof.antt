@@ -10,7 +10,7 @@ read-requires : tie.Need-read-requires
 read-requires c κs = search needs
 
 put-answer-requires : tie.Need-put-answer-requires
-put-answer-requires c κs = reading-plain _ _ _ _ (c .before .before .before .before .read .ensures .reading)
+put-answer-requires c κs = reading-plain _ _ _ _ (c .before .before .before .before .read .ensures .0)
 
 same-length : tie.Need-same-length
 same-length c = search needs

@@ -1,0 +1,4 @@
+pub mod Appending
+pub mod Nodes
+pub mod Roles
+pub mod Stored

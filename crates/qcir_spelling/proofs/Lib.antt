@@ -1,0 +1,17 @@
+pub mod Rows
+pub mod Points
+pub mod Signs
+pub mod Files
+pub mod Turns
+pub mod Runs
+pub mod Words
+pub mod Complete
+pub mod Few
+pub mod Grammar
+pub mod Sound
+pub mod Live
+pub mod Order
+pub mod Unique
+pub mod Unbounded
+pub mod Positions
+pub mod Spelling
