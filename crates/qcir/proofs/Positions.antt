@@ -7,8 +7,8 @@ use lib.ListN.{length}
 use Rattle.qcir.specs.File.{File}
 use Rattle.qcir.specs.Spelling.{Sign, word, newline, fileSigns, valueFrom, header, Spelled, Spells}
 use Rattle.qcir.specs.Spelling.{end as end-at, space as space-at, a-word as word-at, a-name as name-at, line-end as line-end-at, blank-line as blank-line-at, comment-line as comment-line-at}
-use Rattle.qcir.specs.Positions.{unplacedName, unplaced, unplacedSign, Says, SpelledUnplaced, end, space, a-word, a-name, line-end, blank-line, comment-line, SpellsUnplaced, SpellsSays, SaysSpells}
-use Rattle.qcir.proofs.PositionsSigns.{Alike, no-sign, same-word, same-name, same-line, file-signs, placed-file}
+use Rattle.qcir.specs.Positions.{unplacedName, unplaced, Says, SpelledUnplaced, end, space, a-word, a-name, line-end, blank-line, comment-line, SpellsUnplaced, SpellsSays, SaysSpells}
+use Rattle.qcir.proofs.PositionsSigns.{unplacedSign, Alike, no-sign, same-word, same-name, same-line, file-signs, placed-file}
 
 -- The text, whose first byte has position p, spells signs that are ss but for positions.
 record SpelledLike (most p : ℕ) (ss : List Sign) (t : List ℕ) : Type 0 where

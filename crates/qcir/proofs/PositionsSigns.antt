@@ -8,7 +8,13 @@ use Prim.Native.Nat.{ℕ}
 use Rattle.lists.specs.Choice.{pick}
 use Rattle.qcir.specs.File.{Name, Literal, Gate, junction-gate, xor-gate, quantified-gate, Line, File}
 use Rattle.qcir.specs.Spelling.{Sign, word, name, newline, comma, closing, opening, minus-sign, semicolon, equals, output-word, free-word, xor-word, quantifierWord, junctionWord, literalSigns, namesSigns, inputsSigns, anyInputsSigns, listSigns, freeSigns, prefixSigns, outputSigns, gateSigns, gatesSigns, fileSigns}
-use Rattle.qcir.specs.Positions.{unplacedName, unplacedLiteral, unplacedGate, unplacedLine, unplaced, unplacedSign}
+use Rattle.qcir.specs.Positions.{unplacedName, unplacedLiteral, unplacedGate, unplacedLine, unplaced}
+
+-- The sign, at position 0 if it is a name.
+unfoldable pub unplacedSign : Sign → Sign
+unplacedSign (word w) = word w
+unplacedSign (name x) = name (unplacedName x)
+unplacedSign newline = newline
 
 -- Signs that differ in positions only.
 pub data Alike : List Sign → List Sign → Type 0 where

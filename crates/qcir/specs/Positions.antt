@@ -41,12 +41,6 @@ unplaced f =
       gates = map unplacedGate (f .gates);
     }
 
--- The sign, at position 0 if it is a name.
-unfoldable pub unplacedSign : Sign → Sign
-unplacedSign (word w) = word w
-unplacedSign (name x) = name (unplacedName x)
-unplacedSign newline = newline
-
 -- The text says the file: it spells one that is the same apart from positions.
 pub record Says (most : ℕ) (text : List ℕ) (f : File) : Type 0 where
   pub placed : File

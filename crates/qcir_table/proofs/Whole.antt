@@ -18,7 +18,7 @@ use Rattle.qcir_nodes.specs.Nodes.{Added, addLiteral, Room, Wrote}
 use Rattle.qcir_nodes.proofs.Appending.{write-after}
 use Rattle.qcir_nodes.proofs.Nodes.{follows-literal}
 use Rattle.qcir_table.specs.Passes.{Writing, gatesWritten, outputIndex, Lines, linesWritten, NodesOf}
-use Rattle.qcir_table.specs.Fits.{Fits}
+use Rattle.qcir_table.specs.TableFits.{TableFits}
 use Rattle.qcir_table.proofs.Gates.{counted}
 use Rattle.qcir_table.proofs.Lines.{lines-counted}
 use Rattle.qcir_table.proofs.Table.{TableParts, table-parts}
@@ -68,7 +68,7 @@ module _ (roles numbers : List ℕ) (count k : ℕ) where
     pub list-fits : lines .progress .listed ≤ length list
     pub few-entries : lines .progress .listed ≤ limit
 
-  pub enough : (words list : List ℕ) → k ≡ outputIndex roles count → (f : File) × HoldsNames roles numbers count f × Fits f words list → Enough words list
+  pub enough : (words list : List ℕ) → k ≡ outputIndex roles count → (f : File) × HoldsNames roles numbers count f × TableFits f words list → Enough words list
   enough words list e (f, (ps, h), w) =
       let t = subst (TableParts roles numbers ps f count) (sym e) (table-parts roles numbers ps f count (h .tokens)) in
       let s = sizes in

@@ -24,7 +24,7 @@ ghost use Rattle.qcir_table.specs.Passes.{
   linesWritten,
   NodesOf,
 };
-ghost use Rattle.qcir_table.specs.Fits.{Fits};
+ghost use Rattle.qcir_table.specs.TableFits.{TableFits};
 use formula::EXISTS_BLOCK;
 use formula::FOR_ALL_BLOCK;
 use formula::block_node;
@@ -226,7 +226,7 @@ fn write_outer(
 // The contract rules out a writer that takes inputs from right to left, and one by which the first
 // prefix line's block is lowest.
 pub fn write_table(roles: &[u8], numbers: &[u16], count: usize, words: &mut [u32], list: &mut [u32])
-    requires { ⌜ ((f : File) × HoldsNames (now roles) (now numbers) count f × Fits f (now words) (now list)) ⌝ }
+    requires { ⌜ ((f : File) × HoldsNames (now roles) (now numbers) count f × TableFits f (now words) (now list)) ⌝ }
     ensures { λ r. ⌜ ((f : File) → HoldsNames (now (roles .entry)) (now (numbers .entry)) count f
         → (now (words .exit) ≡ overwrite (now (words .entry)) 0 (tableWords f))
         × (now (list .exit) ≡ overwrite (now (list .entry)) 0 (tableList f))) ⌝ }

@@ -9,7 +9,7 @@ use Rattle.qcir.specs.File.{File}
 use Rattle.qcir.specs.Table.{tableWords, tableList}
 
 -- The file's table is within the limits and fits the two buffers.
-pub record Fits (f : File) (words list : List ℕ) : Type 0 where
+pub record TableFits (f : File) (words list : List ℕ) : Type 0 where
   pub words-fit : length (tableWords f) ≤ length words
   pub list-fits : length (tableList f) ≤ length list
   pub few-nodes : nodeCount (tableWords f) ≤ limit
