@@ -21,7 +21,10 @@ limit = 4096
 abbrev pub tableLimits : TableLimits
 tableLimits = record { nodes = limit; entries = limit; counts = limit; highest = 65535; blocks = true }
 
--- The limits of a prenex form's matrix: a table without blocks, so without a list, whose numbers go up to this one. A form has at most
--- 4,096 nodes of its table, 5 for each of as many blocks and 4 for each of as many bound variables.
+-- The limits of a prenex form's matrix: a table without blocks, so without a list, of so many nodes and with numbers up to this one.
+abbrev pub matrixWithin : ℕ → ℕ → TableLimits
+matrixWithin nodes highest = record { nodes = nodes; entries = 0; counts = 0; highest = highest; blocks = false }
+
+-- A form has at most 4,096 nodes of its table, 5 for each of as many blocks and 4 for each of as many bound variables.
 abbrev pub matrixLimits : ℕ → TableLimits
-matrixLimits highest = record { nodes = 40960; entries = 0; counts = 0; highest = highest; blocks = false }
+matrixLimits highest = matrixWithin 40960 highest

@@ -11,6 +11,7 @@ use mir.Val.{Fits}
 use lib.ListN.{length, getD, set, length-set}
 use lib.Seq.{getD-set-same, getD-set-other}
 use Rattle.lists.specs.Choice.{clash}
+use Rattle.lists.specs.Members.{maximum}
 use Rattle.lists.specs.Parts.{highest}
 use Rattle.formula.specs.Node.{isBlock}
 use Rattle.formula.specs.declared.NodeWords.{NodeWords}
@@ -22,7 +23,7 @@ use Rattle.acceptance.specs.Limits.{limit}
 use Rattle.acceptance.specs.Verdict.{verdict}
 use Rattle.acceptance.proofs.Accepted.{accepted-holds}
 use Rattle.prenex_form.specs.Scope.{inner, level}
-use Rattle.prenex_form.specs.Names.{maximum, highestAt, highestNumber, boundCount}
+use Rattle.prenex_form.specs.Names.{highestAt, highestNumber, boundCount}
 use Rattle.prenex_form.proofs.Paths.{inner-is, not-inner, inner-root}
 use Rattle.prenex_form.proofs.NameLaws.{none-bound}
 use Rattle.arrays.specs.Held.{enclosing, isMember, Parents, NodeLevels, LevelChains, MemberChains, Starts}

@@ -9,12 +9,13 @@ use native.Mathlib.Numerals.{add-one}
 use lib.ListN.{length, getD, take, drop, length-drop}
 use lib.Seq.{take-suc, getD-drop}
 use Rattle.lists.specs.Choice.{clash}
+use Rattle.lists.specs.Members.{maximum}
 use Rattle.lists.specs.Parts.{highest}
 use Rattle.formula.specs.Node.{Node, constant, variable, negation, operator, block, isBlock}
 use Rattle.formula.specs.declared.NodeWords.{NodeWords}
 use Rattle.formula.specs.Words.{range, wordsAt, nodeAt}
 use Rattle.formula.proofs.Nodes.{node-block}
-use Rattle.prenex_form.specs.Names.{maximum, highestAt}
+use Rattle.prenex_form.specs.Names.{highestAt}
 use Rattle.arrays.specs.Held.{isMember}
 
 pub maximum-none : (ls : List ℕ) (first : ℕ) → 0 ≡ maximum (range ls first 0)

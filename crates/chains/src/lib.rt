@@ -5,11 +5,12 @@ ghost use mathlib.Core.Bool.{true};
 ghost use mathlib.Core.Path.{_≡_};
 ghost use Prim.Native.Nat.{suc, _+_, _<_, _≤_, max};
 ghost use lib.ListN.{length, getD, set};
+ghost use Rattle.lists.specs.Members.{maximum};
 ghost use Rattle.formula.specs.Words.{nodeCount, range, nodeAt, tableOf};
 ghost use Rattle.refusals.specs.Verdict.{accepted};
 ghost use Rattle.acceptance.specs.Limits.{limit};
 ghost use Rattle.acceptance.specs.Verdict.{verdict};
-ghost use Rattle.prenex_form.specs.Names.{maximum, highestNumber, boundCount};
+ghost use Rattle.prenex_form.specs.Names.{highestNumber, boundCount};
 ghost use Rattle.arrays.specs.Held.{
   isMember,
   Parents,

@@ -10,7 +10,7 @@ use lib.ListN.{length}
 use borrow.Author.Tests.{eqb-true, eq-eqb, not-true}
 use Rattle.lists.specs.Choice.{pick, pick-yes, pick-no, Is, is-true, is-false, look, clash, absent, and-left, and-right, and-both, or-left, or-right, or-cases}
 use Rattle.lists.specs.Members.{mem, times}
-use Rattle.lists.specs.Parts.{sum, highest}
+use Rattle.lists.specs.Parts.{passing, sum, highest}
 use Rattle.lists.proofs.Members.{mem-one, mem-head, mem-tail, times-zero}
 use Rattle.lists.proofs.Parts.{sum-cong, sum-mono, sum-add, sum-zero, term-le, highest-ge}
 use Rattle.lists.proofs.Passing.{passing-lists, passing-length}
@@ -57,10 +57,10 @@ through-free at x (operator f a b) i m h n =
 through-free at x (block q xs a) i m h n = and-both _ _ (ap not n) (one-operand i a at m h)
 
 -- x stands at a variable node of the table.
-record Occurs (t : Table) (x : ℕ) : Type 0 where
-  node : ℕ
-  within : node < t .size
-  variable-is : t .node node ≡ variable x
+pub record Occurs (t : Table) (x : ℕ) : Type 0 where
+  pub node : ℕ
+  pub within : node < t .size
+  pub variable-is : t .node node ≡ variable x
 
 module _ (t : Table) (tree : Tree t) where
   free-occurs-at : (x f i : ℕ) → i < t .size → freeAt f t x i ≡ true → Occurs t x
@@ -101,7 +101,7 @@ pub form-by-list : FormByList
 form-by-list ns ps xs tree v u same = formCoincidence ns ps xs v u (λ x e. same x (form-free-listed ns ps xs tree .members x ∙ e))
 
 -- How many: 1 at a variable node, 0 at another.
-variables : Node → ℕ
+unfoldable pub variables : Node → ℕ
 variables (constant b) = 0
 variables (variable x) = 1
 variables (negation a) = 0
@@ -130,36 +130,34 @@ sum-last : (f : ℕ → ℕ) (n m : ℕ) → n ≡ suc m → sum f n ≡ sum f m
 unfolding sum
 sum-last f n m e = ap (sum f) e
 
-module _ (t : Table) (tree : Tree t) where
-  -- a free number stands at some node
-  free-held : (x : ℕ) → pick (free t x) 1 0 ≤ sum (λ i. pick (standsAt x (t .node i)) 1 0) (t .size)
+-- There are no more numbers that pass a test than variable nodes, if each of them stands at one.
+module _ (t : Table) (p : ℕ → Bool) (stands : (x : ℕ) → p x ≡ true → Occurs t x) where
+  held-once : (x : ℕ) → pick (p x) 1 0 ≤ sum (λ i. pick (standsAt x (t .node i)) 1 0) (t .size)
   unfolding standsAt
-  free-held x = go (look (free t x))
+  held-once x = go (look (p x))
     where
-      go : Is (free t x) → pick (free t x) 1 0 ≤ sum (λ i. pick (standsAt x (t .node i)) 1 0) (t .size)
+      go : Is (p x) → pick (p x) 1 0 ≤ sum (λ i. pick (standsAt x (t .node i)) 1 0) (t .size)
       go (is-true e) =
-          let o = free-occurs t tree x e in
+          let o = stands x e in
           let s : standsAt x (t .node (o .node)) ≡ true = ap (standsAt x) (o .variable-is) ∙ eq-eqb x x refl in
           omega (
             arith,
-            pick-yes {A = ℕ} (free t x) 1 0 e,
+            pick-yes {A = ℕ} (p x) 1 0 e,
             pick-yes {A = ℕ} (standsAt x (t .node (o .node))) 1 0 s,
             term-le (λ i. pick (standsAt x (t .node i)) 1 0) (t .size) (o .node) (o .within),
           )
-      go (is-false e) = omega (arith, pick-no {A = ℕ} (free t x) 1 0 e)
+      go (is-false e) = omega (arith, pick-no {A = ℕ} (p x) 1 0 e)
 
-  -- so there are no more free numbers than variable nodes
-  free-variables : length (freeVariables t) ≤ sum (λ i. variables (t .node i)) (t .size)
-  unfolding freeVariables
-  free-variables =
-      let m : ℕ = suc (highestVariable t) in
+  pub passing-variables : (m : ℕ) → length (passing p m) ≤ sum (λ i. variables (t .node i)) (t .size)
+  passing-variables m =
       let held : ℕ → ℕ → ℕ = λ x i. pick (standsAt x (t .node i)) 1 0 in
-      let a : sum (λ x. pick (free t x) 1 0) m ≤ sum (λ x. sum (held x) (t .size)) m = sum-mono _ _ m (λ x h. free-held x) in
+      let a : sum (λ x. pick (p x) 1 0) m ≤ sum (λ x. sum (held x) (t .size)) m = sum-mono _ _ m (λ x h. held-once x) in
       let b : sum (λ x. sum (held x) (t .size)) m ≡ sum (λ i. sum (λ x. held x i) m) (t .size) = sum-swap held m (t .size) in
       let c : sum (λ i. sum (λ x. held x i) m) (t .size) ≤ sum (λ i. variables (t .node i)) (t .size) =
       sum-mono _ _ (t .size) (λ i h. numbers-held (t .node i) m) in
-      omega (arith, passing-length (free t) m)
+      omega (arith, passing-length p m)
 
+module _ (t : Table) (tree : Tree t) where
   -- nothing names the last node
   root-unnamed : (m : ℕ) → t .size ≡ suc m → timesNamed t m ≡ 0
   unfolding timesNamed
@@ -194,4 +192,6 @@ module _ (t : Table) (tree : Tree t) where
       omega (arith, operands-all)
 
 pub free-few : FreeFew
-free-few t tree = omega (arith, free-variables t tree, leaves-few t tree)
+unfolding freeVariables
+free-few t tree =
+    omega (arith, passing-variables t (free t) (free-occurs t tree) (suc (highestVariable t)), leaves-few t tree)

@@ -4,7 +4,7 @@ use mathlib.Core.Path.{_≡_, refl, ap}
 use mathlib.Core.List.{List, headD, tail, map, flatMap, List·Memᴰ, List·Memᴰ·head, List·Memᴰ·tail}
 use Rattle.lists.specs.Choice.{pick}
 use Rattle.lists.specs.Search.{lowest}
-use Rattle.lists.specs.Members.{mem, all, distinct, times, place}
+use Rattle.lists.specs.Members.{mem, all, distinct, times, place, maximum}
 use Rattle.lists.specs.Parts.{upTo, numbers, sum, highest, overwrite}
 use Rattle.formula.specs.Node.{dual, operands, isBlock, bound}
 use Rattle.formula.specs.Words.{field, isBlockKind, range, nodeOf, wordsOf, wordList, nodeWords, nodeAt, tableOf}
@@ -15,7 +15,7 @@ use Rattle.refusals.specs.Verdict.{firstTwo, refusal, notATree, accepted}
 use Rattle.refusals.specs.Outcome.{refused, done, unlessRefused, unlessShort}
 use Rattle.acceptance.specs.Verdict.{isNumberTo, partialNode, tooLarge, wellFormed, forwardReference, rangePastEnd, countAt, tooManyVariables, badVariable, nodeFault, notNamedOnce, treeRefusal, verdictWithin}
 use Rattle.prenex_form.specs.Scope.{parent, pathUp, path, above, binder, inner, howMany, level, depth}
-use Rattle.prenex_form.specs.Names.{maximum, highestAt, highestNumber, boundCount, firstName, newNames, newName, innerBoundBelow, innerBelow, copies, definitionVariable}
+use Rattle.prenex_form.specs.Names.{highestAt, highestNumber, boundCount, firstName, newNames, newName, innerBoundBelow, innerBelow, copies, definitionVariable}
 use Rattle.prenex_form.specs.Levels.{blocksAt, levels, quantifierAt, levelQuantifier}
 use Rattle.prenex_form.specs.Matrix.{kept, renamed, firstNodes, bodyOf, equation, guard, constraint, further, constraints, levelJoin, levelNodes, nodesTo, prenexNodes, writtenNodes}
 use Rattle.prenex_form.specs.Prefix.{blockCount, leading, prefixBlock, prefixBlocks, writtenPrefix, writtenVariables}

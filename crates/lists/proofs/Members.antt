@@ -9,8 +9,8 @@ use native.Mathlib.Nat.{le-of-suc-le-suc, not-suc-le-zero}
 use lib.Dec.{eqb}
 use lib.ListN.{length, getD, replicate}
 use borrow.Author.Tests.{eqb-true, eq-eqb, ne-eqb, not-true}
-use Rattle.lists.specs.Choice.{pick, pick-yes, pick-no, Is, is-true, is-false, look, clash, and-left, and-right, and-both, or-left, or-right, or-neither-left, or-neither-right, or-neither, absent, same-test}
-use Rattle.lists.specs.Members.{mem, all, distinct, times, place, Ascending}
+use Rattle.lists.specs.Choice.{pick, pick-yes, pick-no, Is, is-true, is-false, look, clash, and-left, and-right, and-both, or-left, or-right, or-neither-left, or-neither-right, or-neither, or-cases, absent, same-test}
+use Rattle.lists.specs.Members.{mem, all, distinct, times, maximum, place, Ascending}
 
 pub or-group : (a b c d : Bool) → b ≡ (c || d) → (a || b) ≡ ((a || c) || d)
 or-group true b c d h = refl
@@ -230,3 +230,45 @@ ascending-one (x ∷ xs) (y ∷ ys) p q e =
     let rest : (j : ℕ) → times j xs ≡ times j ys =
     λ j. let same : pick {A = ℕ} (eqb j x) 1 0 ≡ pick (eqb j y) 1 0 = ap (λ (z : ℕ). pick (eqb j z) 1 0) heads in omega (arith, e j) in
     let tails : xs ≡ ys = ascending-one xs ys (ascending-tail x xs p) (ascending-tail y ys q) rest in rw (heads, tails)
+
+-- A number that a list holds, and none twice, stands in it once.
+pub times-distinct : (x : ℕ) (xs : List ℕ) → distinct xs ≡ true → mem x xs ≡ true → times x xs ≡ 1
+unfolding distinct times mem
+times-distinct x [] u m = clash m refl
+times-distinct x (y ∷ ys) u m = go (look (eqb x y)) (times-distinct x ys)
+  where
+    go : Is (eqb x y) → (distinct ys ≡ true → mem x ys ≡ true → times x ys ≡ 1) → pick (eqb x y) 1 0 + times x ys ≡ 1
+    go (is-true e) next =
+        let none : mem y ys ≡ false = not-true (mem y ys) (and-left (not (mem y ys)) (distinct ys) u) in
+        let z : times x ys ≡ 0 = times-zero x ys (ap (λ z. mem z ys) (eqb-true x y e) ∙ none) in
+        omega (arith, pick-yes {A = ℕ} (eqb x y) 1 0 e)
+    go (is-false e) next =
+        let o : times x ys ≡ 1 = next (and-right (not (mem y ys)) (distinct ys) u) (rw e at m) in
+        omega (arith, pick-no {A = ℕ} (eqb x y) 1 0 e)
+
+-- so no number stands in it more often
+pub times-at-most : (x : ℕ) (xs : List ℕ) → distinct xs ≡ true → times x xs ≤ 1
+times-at-most x xs u = go (look (mem x xs))
+  where
+    go : Is (mem x xs) → times x xs ≤ 1
+    go (is-true m) = omega (arith, times-distinct x xs u m)
+    go (is-false m) = omega (arith, times-zero x xs m)
+
+-- No element is above the highest.
+pub maximum-ge : (xs : List ℕ) (x : ℕ) → mem x xs ≡ true → x ≤ maximum xs
+unfolding maximum mem
+maximum-ge [] x m = clash m refl
+maximum-ge (y ∷ ys) x m =
+    or-cases (eqb x y) (mem x ys) m (λ e. omega (arith, eqb-true x y e)) (λ k. omega (arith, maximum-ge ys x k))
+
+-- It is no higher than a bound of all elements,
+pub maximum-le : (xs : List ℕ) (m : ℕ) → ((x : ℕ) → mem x xs ≡ true → x ≤ m) → maximum xs ≤ m
+unfolding maximum
+maximum-le [] m h = omega arith
+maximum-le (x ∷ xs) m h = omega (arith, h x (mem-head x xs), maximum-le xs m (λ y k. h y (mem-tail y x xs k)))
+
+-- and that of two lists is the higher of theirs.
+pub maximum-append : (xs ys : List ℕ) → maximum (xs ++ ys) ≡ Prim.Native.Nat.max (maximum xs) (maximum ys)
+unfolding maximum
+maximum-append [] ys = omega arith
+maximum-append (x ∷ xs) ys = omega (arith, maximum-append xs ys)

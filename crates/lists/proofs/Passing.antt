@@ -1,7 +1,7 @@
 -- Laws of the numbers below n that pass a test: they are the list of those that pass it, and there is one such list.
 -- Assumes nothing.
 use mathlib.Core.Path.{_≡_, refl, sym, _∙_, ap, subst}
-use mathlib.Core.Bool.{Bool, true, false, _||_}
+use mathlib.Core.Bool.{Bool, true, false, not, _||_}
 use mathlib.Core.List.{List, [], _∷_, _++_, append-nil}
 use Prim.Native.Nat.{ℕ, zero, suc, _+_, _≤_, _<_}
 use native.Mathlib.Omega.{arith}
@@ -10,8 +10,8 @@ use lib.Dec.{eqb, ltb}
 use lib.ListN.{length, getD, length-append, List·getD-append}
 use lib.Seq.{getD-append-add}
 use borrow.Author.Tests.{eqb-true, eqb-false, ltb-true, ltb-false}
-use Rattle.lists.specs.Choice.{pick, pick-yes, pick-no, Is, is-true, is-false, look, clash, absent, same-test}
-use Rattle.lists.specs.Members.{mem, times, place, Ascending, StrictlyAscending, ListOf}
+use Rattle.lists.specs.Choice.{pick, pick-yes, pick-no, Is, is-true, is-false, look, clash, and-both, absent, same-test}
+use Rattle.lists.specs.Members.{mem, distinct, times, place, Ascending, StrictlyAscending, ListOf}
 use Rattle.lists.specs.Parts.{upTo, sum, passing}
 use Rattle.lists.proofs.Members.{mem-one, mem-head, mem-nil, mem-getD, place-lt, getD-place, times-zero, ascending-one}
 use Rattle.lists.proofs.Parts.{length-upTo, mem-upTo, mem-upTo-from, sum-cong}
@@ -38,6 +38,13 @@ strict-head x xs up =
     let l : place x xs < length xs = place-lt x xs m in
     let e : getD xs (place x xs) 0 ≡ x = getD-place x xs 0 m in
     let h : x < getD xs (place x xs) 0 = up 0 (suc (place x xs)) (omega arith) (omega arith) in omega arith)
+
+-- so none stands twice
+pub strict-distinct : (xs : List ℕ) → StrictlyAscending xs → distinct xs ≡ true
+unfolding distinct
+strict-distinct [] up = refl
+strict-distinct (x ∷ xs) up =
+    and-both (not (mem x xs)) (distinct xs) (ap not (strict-head x xs up)) (strict-distinct xs (strict-tail x xs up))
 
 strict-ascending : (xs : List ℕ) → StrictlyAscending xs → Ascending xs
 strict-ascending xs up k m l h = go (look (eqb k m))

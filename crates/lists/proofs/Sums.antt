@@ -2,7 +2,7 @@
 -- Assumes nothing.
 use mathlib.Core.Path.{_≡_, refl, sym, _∙_, ap}
 use mathlib.Core.Bool.{Bool, true}
-use mathlib.Core.List.{List, [], _∷_}
+use mathlib.Core.List.{List, [], _∷_, _++_}
 use Prim.Native.Nat.{ℕ, zero, suc, _+_, _≤_, _<_}
 use native.Mathlib.Omega.{arith}
 use native.Mathlib.Nat.{not-suc-le-zero}
@@ -10,9 +10,9 @@ use lib.Dec.{eqb, ltb}
 use lib.ListN.{length}
 use borrow.Author.Tests.{eqb-true, eqb-false, ne-eqb, ltb-true, ltb-false}
 use Rattle.lists.specs.Choice.{pick, pick-yes, pick-no, Is, is-true, is-false, look}
-use Rattle.lists.specs.Members.{mem, times}
+use Rattle.lists.specs.Members.{mem, distinct, times, maximum}
 use Rattle.lists.specs.Parts.{sum}
-use Rattle.lists.proofs.Members.{mem-head, mem-tail}
+use Rattle.lists.proofs.Members.{mem-left, mem-right, mem-head, mem-tail, times-zero, times-positive, times-at-most, maximum-ge}
 use Rattle.lists.proofs.Parts.{sum-mono, sum-add, sum-zero, pick-le}
 
 pub sum-swap : (f : ℕ → ℕ → ℕ) (n m : ℕ) → sum (λ i. sum (f i) m) n ≡ sum (λ j. sum (λ i. f i j) n) m
@@ -61,3 +61,24 @@ sum-times (y ∷ ys) n h =
 pub ones-le : (p : ℕ → Bool) (n : ℕ) → sum (λ x. pick (p x) 1 0) n ≤ n
 ones-le p n =
     omega (arith, sum-mono (λ x. pick (p x) 1 0) (λ x. 1) n (λ x h. pick-le (p x) 1), sum-ones (λ x. 1) n (λ x h. refl))
+
+-- Numbers of which none stands twice are no more than those that they are taken from,
+module _ (xs ys : List ℕ) (once : distinct xs ≡ true) (among : (x : ℕ) → mem x xs ≡ true → mem x ys ≡ true) where
+  times-among : (x : ℕ) → times x xs ≤ times x ys
+  times-among x = go (look (mem x xs))
+    where
+      go : Is (mem x xs) → times x xs ≤ times x ys
+      go (is-true m) = omega (arith, times-at-most x xs once, times-positive x ys (among x m))
+      go (is-false m) = omega (arith, times-zero x xs m)
+
+  pub distinct-few : length xs ≤ length ys
+  distinct-few =
+      let top : ℕ = suc (maximum (xs ++ ys)) in
+      let a = sum-times xs top (λ x m. omega (arith, maximum-ge (xs ++ ys) x (mem-left x xs ys m))) in
+      let b = sum-times ys top (λ x m. omega (arith, maximum-ge (xs ++ ys) x (mem-right x xs ys m))) in
+      omega (arith, a, b, sum-mono (λ x. times x xs) (λ x. times x ys) top (λ x h. times-among x))
+
+-- and no more than the numbers below n, if they are among these.
+pub distinct-below : (xs : List ℕ) (n : ℕ) → distinct xs ≡ true → ((x : ℕ) → mem x xs ≡ true → x < n) → length xs ≤ n
+distinct-below xs n once low =
+    omega (arith, sum-times xs n low, sum-mono (λ x. times x xs) (λ x. 1) n (λ x h. times-at-most x xs once), sum-ones (λ x. 1) n (λ x h. refl))

@@ -28,6 +28,11 @@ unfoldable pub times : ℕ → List ℕ → ℕ
 times x [] = 0
 times x (y ∷ ys) = pick (eqb x y) 1 0 + times x ys
 
+-- the highest element; 0 if there is none
+unfoldable pub maximum : List ℕ → ℕ
+maximum [] = 0
+maximum (x ∷ xs) = Prim.Native.Nat.max x (maximum xs)
+
 -- the place of x in the list, counted from 0; the list's length if it is not there
 unfoldable pub place : ℕ → List ℕ → ℕ
 place x [] = 0

@@ -8,7 +8,7 @@ use native.Mathlib.Omega.{arith}
 use lib.Dec.{leb}
 use borrow.Author.Tests.{leb-true, le-leb, eqb-true, eq-eqb}
 use Rattle.lists.specs.Choice.{clash, absent, and-left, and-right, and-both, or-neither}
-use Rattle.lists.specs.Members.{mem, all}
+use Rattle.lists.specs.Members.{mem, all, maximum}
 use Rattle.lists.proofs.Members.{mem-nil, all-mem}
 use Rattle.lists.proofs.Parts.{highest-le}
 use Rattle.formula.specs.Node.{Node, constant, variable, negation, operator, block, isBlock, bound}
@@ -21,7 +21,7 @@ use Rattle.acceptance.specs.Limits.{TableLimits, tableLimits, matrixLimits}
 use Rattle.acceptance.specs.Verdict.{isNumberTo, wellFormed}
 use Rattle.acceptance.specs.Accepted.{AcceptedWithin, Accepted}
 use Rattle.acceptance.proofs.Accepted.{Formed, formed-constant, formed-variable, formed-negation, formed-operator, formed-exists, formed-for-all, formed-cases}
-use Rattle.prenex_form.specs.Names.{maximum, highestAt, highestNumber, boundCount}
+use Rattle.prenex_form.specs.Names.{highestAt, highestNumber, boundCount}
 
 -- numbers from 1 up to m
 

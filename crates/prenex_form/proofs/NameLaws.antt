@@ -9,7 +9,7 @@ use lib.Dec.{eqb, ltb}
 use lib.ListN.{length, getD}
 use borrow.Author.Tests.{lt-ltb, le-ltb, eqb-true, ne-eqb}
 use Rattle.lists.specs.Choice.{pick, pick-yes, pick-no, Is, is-true, is-false, look, clash, and-left, and-right, and-both}
-use Rattle.lists.specs.Members.{mem, place, distinct}
+use Rattle.lists.specs.Members.{mem, place, distinct, maximum}
 use Rattle.lists.specs.Parts.{sum}
 use Rattle.lists.proofs.Search.{lowest-holds}
 use Rattle.lists.proofs.Members.{place-lt}
@@ -17,7 +17,7 @@ use Rattle.lists.proofs.Parts.{length-numbers, getD-numbers, mem-numbers, numbe
 use Rattle.formula.specs.Node.{Node, constant, variable, negation, operator, block, Table, isBlock, bound}
 use Rattle.formula.specs.Tree.{count, boundBelow}
 use Rattle.prenex_form.specs.Scope.{covers, binder, inner, above}
-use Rattle.prenex_form.specs.Names.{maximum, highestAt, highestNumber, boundCount, firstName, newNames, newName, innerBoundBelow, innerBelow, copies, definitionVariable}
+use Rattle.prenex_form.specs.Names.{highestAt, highestNumber, boundCount, firstName, newNames, newName, innerBoundBelow, innerBelow, copies, definitionVariable}
 
 maximum-ge : (x : ℕ) (xs : List ℕ) → mem x xs ≡ true → x ≤ maximum xs
 unfolding maximum mem

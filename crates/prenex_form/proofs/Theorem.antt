@@ -114,7 +114,7 @@ module _ (t : Table) (ns ps xs : List ℕ) (p : PrenexOf t ns ps xs) where
   matrix-binds : (i : ℕ) → i < nodeCount ns → bound (nodeAt ns [] i) ≡ []
   matrix-binds i h = binds-nothing _ (is-block ns [] i ∙ formed-plain (highestName t) (wordsAt ns i) (p .matrix-formed i h))
 
-  matrix-accepted : AcceptedWithin (matrixLimits 77823) ns []
+  pub matrix-accepted : AcceptedWithin (matrixLimits 77823) ns []
   unfolding tableOf boundBelow count distinct all
   matrix-accepted =
       record {

@@ -1,18 +1,14 @@
 -- The names of a prenex form (document 01, "Names").
 -- Assumes nothing.
-use mathlib.Core.List.{List, [], _∷_}
-use Prim.Native.Nat.{ℕ, _+_, max}
+use mathlib.Core.List.{List}
+use Prim.Native.Nat.{ℕ, _+_}
 use lib.Dec.{ltb}
 use Rattle.lists.specs.Choice.{pick}
-use Rattle.lists.specs.Members.{place}
+use Rattle.lists.specs.Members.{place, maximum}
 use Rattle.lists.specs.Parts.{sum, highest, numbers}
 use Rattle.formula.specs.Node.{Node, constant, variable, negation, operator, block, Table, bound}
 use Rattle.formula.specs.Tree.{count, boundBelow}
 use Rattle.prenex_form.specs.Scope.{binder, inner}
-
-unfoldable pub maximum : List ℕ → ℕ
-maximum [] = 0
-maximum (x ∷ xs) = max x (maximum xs)
 
 -- The highest number at a node: its own at a variable node, the highest covered entry at a block.
 unfoldable pub highestAt : Node → ℕ

@@ -134,6 +134,15 @@ module _ (f : File) (placed : misplaced f ≡ []) (used : notUsedOnce f ≡ []) 
   unfolding storeMatrix
   matrix-stored = literal-stores (Ranged f) (storeGates emptyDraft (f .gates)) [] [] (fileMeaning f) (f .output) (output-ranged f placed) gates-stored
 
+  -- With the prefix lines kept as prefix, the matrix alone is a tree, and what was stored last is its root.
+  pub matrix-tree : Tree (tableOf (matrixWords f) (matrixList f))
+  unfolding matrixWords matrixList
+  matrix-tree = stored-tree (storeMatrix f) matrix-stored
+
+  pub matrix-root : nodeCount (matrixWords f) - 1 ≡ storeMatrix f .node
+  unfolding matrixWords
+  matrix-root = root (storeMatrix f) matrix-stored
+
   file-stored : Stores (Ranged f) (storeGates emptyDraft (f .gates)) [] [] (fileMeaning f)
       (prefixValue (f .prefix) (literalValue (fileMeaning f) (f .output))) (storeFile f)
   unfolding storeFile

@@ -39,6 +39,11 @@ pub const UNBOUND_VARIABLE: u32 = 12;
 
 pub const GATE_NOT_USED_ONCE: u32 = 13;
 
+// The refusals of prenex forms (request S-5).
+pub const MALFORMED_MATRIX: u32 = 14;
+
+pub const MALFORMED_PREFIX: u32 = 15;
+
 // The two lowest nodes that name a node; a node that names it twice stands twice. 0 and 0 where there
 // is nothing to say.
 pub struct Users {

@@ -4,8 +4,8 @@ use mathlib.Core.Path.{_≡_}
 use Prim.Native.Nat.{_-_, _≤_}
 use native.Mathlib.Omega.{arith}
 use borrow.Author.Needs.{needs}
+use Rattle.lists.specs.Members.{maximum}
 use Rattle.formula.specs.Words.{range}
-use Rattle.prenex_form.specs.Names.{maximum}
 use Rattle.chains.proofs.Highest.{maximum-none, maximum-next}
 use Rattle.chains.proofs.highest_entry.Statement.{statement}
 use Rattle.chains.proofs.highest_entry.Tie as tie
