@@ -1,5 +1,6 @@
 /*
- * wakubinryo: QCIR files to formula tables, and these to prenex form.
+ * wakubinryo: QCIR files to formula tables, these to prenex form, and prenex
+ * forms to QCIR files.
  *
  * FORMULA TABLES
  *
@@ -97,13 +98,40 @@
  *
  * Order: 10, 11, 13, 12, 2, 6, 9; of several names the lowest is the position.
  *
+ * A QCIR text is written from a prenex form: the header without a count; a free
+ * line of the numbers, ascending, that stand in no prefix block and occur in
+ * a line that follows, if any; a line for each prefix block that isn't empty;
+ * the output line; then and and xor gates in node order, numbered from one
+ * above the highest number in the free and prefix lines. Not nodes become minus
+ * signs, an operator becomes a fixed row (a constant, an operand, and of signed
+ * operands, or xor, with a sign on the whole), and an operand that the row
+ * ignores isn't written, nor what hangs on it. Constants are and() gates. Each
+ * line ends in LF; one space follows a comma and stands on each side of =, and
+ * there is no other.
+ *
+ * The refusals of writing are 9 above and these:
+ *
+ *   number  given when                                                position
+ *   14      the nodes are none, not a multiple of four words or over  0
+ *           40,960
+ *           a node is malformed (3 above, a block being malformed,    node
+ *           names up to 77,823) or names a node not below it (4), or
+ *           the nodes are no tree (8)
+ *   15      the prefix is no multiple of three words                  0
+ *           the first block with a kind not 5 or 6, a range past the  block
+ *           list's end, or a name outside 1 to 77,823 or earlier in
+ *           the prefix
+ *
+ * Order: 14, with the nodes upward, each tested for 3 and 4, and then for 8;
+ * 15; 9.
+ *
  * MEMORY
  *
  * All lengths count elements: 32-bit words, or bytes of a text. A call reads
  * what is lent to it as const, writes the answer and the buffers lent to it,
  * and touches nothing else: it allocates nothing and keeps nothing. It uses
- * less than 256 KiB of stack, reading a QCIR text less than 1 MiB; this is
- * measured, not proved. On refusal no buffer has changed, whatever the
+ * less than 256 KiB of stack, reading or writing a QCIR text less than 1 MiB;
+ * this is measured, not proved. On refusal no buffer has changed, whatever the
  * buffers held. If done, a buffer's words after the last one written keep
  * their content. Pointers are aligned and not null, even where the length is
  * 0, and what is written must not overlap anything else lent.
@@ -163,6 +191,19 @@ enum {
     WAKUBINRYO_ENTRIES_READ = 3, /* list entries written */
     WAKUBINRYO_READ_ANSWER = 4
 };
+
+/* The answer of writing a QCIR text, of 64-bit words. */
+enum {
+    WAKUBINRYO_BYTES_WRITTEN = 2, /* bytes of the text */
+    WAKUBINRYO_WRITE_ANSWER = 3
+};
+
+/*
+ * Bytes that are always enough for the QCIR text of a form with so many nodes,
+ * prefix blocks and list entries.
+ */
+#define WAKUBINRYO_TEXT_ROOM(nodes, blocks, entries) \
+    (31 * ((size_t)(nodes) + 1) + 7 * (size_t)(blocks) + 8 * (size_t)(entries))
 
 /*
  * Measures a table.
@@ -248,6 +289,29 @@ void wakubinryo_read_qcir(const uint8_t *text, size_t text_len,
                           uint32_t *words, size_t words_len,
                           uint32_t *list, size_t list_len,
                           uint32_t answer[WAKUBINRYO_READ_ANSWER]);
+
+/*
+ * Writes a prenex form as a QCIR text.
+ *
+ * Numbers 0, 9, 14 and 15. The answer is of 64-bit words: a prefix may have
+ * more empty blocks than 32 bits count. If done, text holds the bytes of the
+ * text, and bytes after the last one keep their content. It gives 9 exactly if
+ * neither 14 nor 15 applies and text is shorter than that;
+ * WAKUBINRYO_TEXT_ROOM is always enough. A form that wakubinryo_lift writes is
+ * never refused by 14 or 15.
+ *
+ * The text spells exactly one QCIR file, and this has the form's truth value
+ * under every valuation: so what wakubinryo_read_qcir reads, lifted and written,
+ * is a file with the first one's truth value. No gate of it is misplaced or
+ * used other than once, and every variable is bound or in the free line. Read
+ * again with the prefix lines as prefix, and written again, it gives the same
+ * bytes.
+ */
+void wakubinryo_write_qcir(const uint32_t *nodes, size_t nodes_len,
+                           const uint32_t *prefix, size_t prefix_len,
+                           const uint32_t *variables, size_t variables_len,
+                           uint8_t *text, size_t text_len,
+                           uint64_t answer[WAKUBINRYO_WRITE_ANSWER]);
 
 #ifdef __cplusplus
 }

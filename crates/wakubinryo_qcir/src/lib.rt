@@ -1,10 +1,11 @@
-// The C interface of QCIR files: reading under its C name. include/wakubinryo.h says the promise in
-// words.
+// The C interface of QCIR files: reading and writing under their C names. include/wakubinryo.h says the
+// promises in words.
 ghost use mathlib.Core.Path.{_≡_};
 ghost use Rattle.refusals.specs.Verdict.{Plain};
 ghost use Rattle.qcir.specs.Reading.{limits, buffers, Reading, Only, TableWritten};
 ghost use Rattle.qcir_reader.specs.Reads.{answerOf};
-ghost use Rattle.wakubinryo_qcir.specs.Words.{writtenAnswer, readOutcome};
+ghost use Rattle.qcir_writer.specs.Writing.{answerOf as writingOf, writeOutcome, TextWritten, RoomEnough};
+ghost use Rattle.wakubinryo_qcir.specs.Words.{writtenAnswer, readOutcome, textAnswer, textOutcome};
 use qcir_reader::Answer;
 
 // Reads a QCIR text into a formula table: number, position, words and list entries written.
@@ -37,4 +38,35 @@ fn put_answer(answer: &mut [u32; 4], a: Answer)
 {
     let v = a.verdict;
     *answer = [v.number, v.position, a.words, a.entries];
+}
+
+// Writes a prenex form as a QCIR text: number, position and bytes written.
+//
+// The contract rules out an answer whose position and bytes are exchanged, and a writing that takes the
+// prefix for the list.
+#[no_mangle]
+pub extern "C" fn wakubinryo_write_qcir(
+    nodes: &[u32],
+    prefix: &[u32],
+    variables: &[u32],
+    text: &mut [u8],
+    answer: &mut [u64; 3],
+)
+    ensures outcome { λ _.
+        ⌜ textOutcome (now (answer .exit)) (now (text .exit))
+        ≡ writeOutcome (now (nodes .entry)) (now (prefix .entry)) (now (variables .entry)) (now (text .entry)) ⌝ }
+    ensures written { λ _.
+        ⌜ TextWritten (now (nodes .entry)) (now (prefix .entry)) (now (variables .entry))
+        (textOutcome (now (answer .exit)) (now (text .exit))) ⌝ }
+    ensures room { λ _.
+        ⌜ RoomEnough (now (nodes .entry)) (now (prefix .entry)) (now (variables .entry)) (now (text .entry))
+        (textOutcome (now (answer .exit)) (now (text .exit))) ⌝ }
+{
+    put_text_answer(answer, qcir_writer::write(nodes, prefix, variables, text));
+}
+
+fn put_text_answer(answer: &mut [u64; 3], a: qcir_writer::Answer)
+    ensures { λ _. ⌜ textAnswer (now (answer .exit)) ≡ writingOf a ⌝ }
+{
+    *answer = [a.number as u64, a.position, a.bytes as u64];
 }

@@ -1,0 +1,4 @@
+pub mod Order
+pub mod Names
+pub mod Accepted
+pub mod Flags

@@ -1,0 +1,4 @@
+pub mod Verdict
+pub mod Order
+pub mod Accepted
+pub mod Steps

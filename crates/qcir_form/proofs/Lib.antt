@@ -1,0 +1,17 @@
+pub mod Bound
+pub mod Names
+pub mod NamesSigns
+pub mod Numbers
+pub mod Occurs
+pub mod Placed
+pub mod PlacedForm
+pub mod PlacedLines
+pub mod PlacedNodes
+pub mod Room
+pub mod Rows
+pub mod Truth
+pub mod TruthNodes
+pub mod UsedOnce
+pub mod UsedOnceCount
+pub mod Weights
+pub mod Written

@@ -1,0 +1,4 @@
+pub mod Rows
+pub mod File
+pub mod Laws
+pub mod Promise

@@ -1,0 +1,12 @@
+pub mod Words
+pub mod Shapes
+pub mod Stored
+pub mod Lines
+pub mod Matrix
+pub mod FormLines
+pub mod OpenNames
+pub mod PrefixLines
+pub mod RoundTrip
+pub mod Passes
+pub mod Unplaced
+pub mod Theorem

@@ -1,0 +1,36 @@
+-- `qcir_text::put_output` meets its contract.
+-- Assumes nothing.
+use native.Mathlib.Omega.{arith}
+use borrow.Author.Needs.{needs}
+use Rattle.qcir_text.proofs.Lines.{put-output-line}
+use Rattle.qcir_text.proofs.put_output.Statement.{statement}
+use Rattle.qcir_text.proofs.put_output.Tie as tie
+
+slice-aggregate-put-word : tie.Need-slice-aggregate-put-word
+slice-aggregate-put-word c = search needs
+
+put-word-requires : tie.Need-put-word-requires
+put-word-requires c κs = search needs
+
+put-literal-requires : tie.Need-put-literal-requires
+put-literal-requires c κs = search needs
+
+put-close-requires : tie.Need-put-close-requires
+put-close-requires c κs = search needs
+
+same-length : tie.Need-same-length
+same-length c = search needs
+
+returns : tie.Need-returns
+returns c = (put-output-line _ (c .before .before .before .before .before .before .before .before .before .before .put-word .ensures) (c .before .before .before .before .before .before .put-literal .ensures .0) (c .before .before .put-close .ensures .0), omega arith)
+
+pub put-output-spec : {M : Type 1} → statement M
+put-output-spec =
+    tie.close
+    (tie.spec
+    slice-aggregate-put-word
+    put-word-requires
+    put-literal-requires
+    put-close-requires
+    same-length
+    returns)

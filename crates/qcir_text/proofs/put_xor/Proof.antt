@@ -1,0 +1,39 @@
+-- `qcir_text::put_xor` meets its contract.
+-- Assumes nothing.
+use native.Mathlib.Omega.{arith}
+use borrow.Author.Needs.{needs}
+use Rattle.qcir_text.proofs.Lines.{put-xor-line}
+use Rattle.qcir_text.proofs.put_xor.Statement.{statement}
+use Rattle.qcir_text.proofs.put_xor.Tie as tie
+
+put-number-requires : tie.Need-put-number-requires
+put-number-requires c κs = search needs
+
+slice-aggregate-put-word : tie.Need-slice-aggregate-put-word
+slice-aggregate-put-word c = search needs
+
+put-word-requires : tie.Need-put-word-requires
+put-word-requires c κs = search needs
+
+put-inputs-requires : tie.Need-put-inputs-requires
+put-inputs-requires c κs = search needs
+
+same-length : tie.Need-same-length
+same-length c = search needs
+
+returns : tie.Need-returns
+returns c = (
+  put-xor-line _ _ _ (c .before .before .before .before .before .before .before .before .before .before .before .put-number .ensures .0) (c .before .before .before .before .before .before .put-word .ensures) (c .before .before .put-inputs .ensures .0),
+  omega arith,
+)
+
+pub put-xor-spec : {M : Type 1} → statement M
+put-xor-spec =
+    tie.close
+    (tie.spec
+    put-number-requires
+    slice-aggregate-put-word
+    put-word-requires
+    put-inputs-requires
+    same-length
+    returns)

@@ -1,0 +1,4 @@
+pub mod Text
+pub mod Laws
+pub mod Put
+pub mod Pieces

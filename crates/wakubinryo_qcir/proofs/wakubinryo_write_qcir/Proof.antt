@@ -1,0 +1,26 @@
+-- `wakubinryo_qcir::wakubinryo_write_qcir` meets its contract.
+-- Assumes nothing.
+use borrow.Author.Needs.{needs}
+use Rattle.wakubinryo_qcir.proofs.Answers.{write-said}
+use Rattle.wakubinryo_qcir.proofs.wakubinryo_write_qcir.Statement.{statement}
+use Rattle.wakubinryo_qcir.proofs.wakubinryo_write_qcir.Tie as tie
+
+write-requires : tie.Need-write-requires
+write-requires c κs = search needs
+
+put-text-answer-requires : tie.Need-put-text-answer-requires
+put-text-answer-requires c κs = search needs
+
+same-length : tie.Need-same-length
+same-length c = search needs
+
+returns : tie.Need-returns
+returns c =
+    let s = c .before .before .before .before .before .before .before .before .before .before in
+    let f = c .before .before .before .write in
+    write-said (s .args .nodes .now) (s .args .prefix .now) (s .args .variables .now) (s .args .text .now) _ (f .result) _
+    (c .put-text-answer .ensures) (f .ensures)
+
+pub wakubinryo-write-qcir-spec : {M : Type 1} → statement M
+wakubinryo-write-qcir-spec =
+    tie.close (tie.spec write-requires put-text-answer-requires same-length returns)
