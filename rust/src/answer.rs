@@ -3,7 +3,7 @@
 use std::error::Error;
 use std::fmt::{self, Display, Formatter};
 
-/// Why a table, a file or a call is refused. The value is the refusal's number;
+/// Why a table, a file, a form or a call is refused. The value is the refusal's number;
 /// the word in brackets is document 01's.
 #[derive(Clone, Copy, Debug, PartialEq, Eq, PartialOrd, Ord, Hash)]
 #[repr(u32)]
@@ -37,10 +37,16 @@ pub enum Reason {
     UnboundVariable = 12,
     /// A gate that is not used exactly once.
     GateNotUsedOnce = 13,
+    /// A form's matrix with a fault of 1, 3, 4 or 8, a block node, over 40,960
+    /// nodes, or a name over 77,823.
+    MalformedMatrix = 14,
+    /// A prefix that is not whole blocks of kind 5 or 6, a range outside the
+    /// list, or a name outside 1 to 77,823 or earlier in the prefix.
+    MalformedPrefix = 15,
 }
 
 impl Reason {
-    pub const ALL: [Reason; 13] = [
+    pub const ALL: [Reason; 15] = [
         Reason::PartialNode,
         Reason::TooLarge,
         Reason::MalformedNode,
@@ -54,6 +60,8 @@ impl Reason {
         Reason::MisplacedName,
         Reason::UnboundVariable,
         Reason::GateNotUsedOnce,
+        Reason::MalformedMatrix,
+        Reason::MalformedPrefix,
     ];
 
     pub fn from_number(number: u32) -> Option<Reason> {
@@ -69,7 +77,7 @@ impl Reason {
     pub const fn at(self, position: usize) -> Refusal {
         Refusal {
             reason: self,
-            position: position as u32,
+            position: position as u64,
             users: None,
         }
     }
@@ -91,16 +99,18 @@ impl Display for Reason {
             Reason::MisplacedName => "name misplaced",
             Reason::UnboundVariable => "unbound variable",
             Reason::GateNotUsedOnce => "gate not used exactly once",
+            Reason::MalformedMatrix => "malformed matrix",
+            Reason::MalformedPrefix => "malformed prefix",
         })
     }
 }
 
-/// A refusal and its position: the node, byte (10, 11) or name (12, 13) that it
-/// speaks of, 0 where it speaks of none.
+/// A refusal and its position: the node, byte (10, 11), name (12, 13) or prefix
+/// block (15) that it speaks of, 0 where it speaks of none.
 #[derive(Clone, Copy, Debug, PartialEq, Eq)]
 pub struct Refusal {
     pub reason: Reason,
-    pub position: u32,
+    pub position: u64,
     /// The two lowest nodes that name a node not named exactly once (8); one
     /// that names it twice stands twice. None if no node names it, and for
     /// every other reason.
@@ -113,12 +123,23 @@ impl Refusal {
         Refusal { users, ..self }
     }
 
+    /// Number and position, where neither passes 32 bits: everywhere but in an
+    /// answer of writing a form.
+    fn number_and_position(self) -> [u32; 2] {
+        let position = u32::try_from(self.position);
+        [
+            self.reason.number(),
+            position.expect("a position of 32 bits"),
+        ]
+    }
+
     /// The verdict that an answer over a table begins with: number, position,
     /// first user, second user.
     fn words(self) -> [u32; 4] {
         // A user is above the node that it names, so no user is node 0.
         let [first, second] = self.users.unwrap_or_default();
-        [self.reason.number(), self.position, first, second]
+        let [number, position] = self.number_and_position();
+        [number, position, first, second]
     }
 }
 
@@ -193,6 +214,10 @@ pub type CountAnswer = [u32; 5];
 /// Answers of reading a file as the C interface gives them.
 pub type WrittenAnswer = [u32; 4];
 
+/// Answers of writing a form as the C interface gives them: number, position,
+/// bytes.
+pub type TextAnswer = [u64; 3];
+
 /// The words of an answer of measuring or lifting.
 pub fn size_words(answer: Result<Sizes, Refusal>) -> SizesAnswer {
     match answer {
@@ -221,6 +246,17 @@ pub fn count_words(answer: Result<u32, Refusal>) -> CountAnswer {
 pub fn written_words(answer: Result<Written, Refusal>) -> WrittenAnswer {
     match answer {
         Ok(Written { words, entries }) => [0, 0, words, entries],
-        Err(r) => [r.reason.number(), r.position, 0, 0],
+        Err(r) => {
+            let [number, position] = r.number_and_position();
+            [number, position, 0, 0]
+        }
+    }
+}
+
+/// The words of an answer of writing a form.
+pub fn text_words(answer: Result<usize, Refusal>) -> TextAnswer {
+    match answer {
+        Ok(bytes) => [0, 0, bytes as u64],
+        Err(r) => [r.reason.number().into(), r.position, 0],
     }
 }

@@ -213,7 +213,7 @@ pub(crate) fn numbers(rng: &mut Rng, many: usize) -> Vec<u32> {
     numbers
 }
 
-fn shuffle<T>(rng: &mut Rng, items: &mut [T]) {
+pub(crate) fn shuffle<T>(rng: &mut Rng, items: &mut [T]) {
     for i in (1..items.len()).rev() {
         items.swap(i, rng.below(i + 1));
     }
@@ -548,7 +548,9 @@ pub fn damaged(rng: &mut Rng, profile: &Profile, reason: Reason) -> Option<(Tabl
         | Reason::MalformedText
         | Reason::MisplacedName
         | Reason::UnboundVariable
-        | Reason::GateNotUsedOnce => return None,
+        | Reason::GateNotUsedOnce
+        | Reason::MalformedMatrix
+        | Reason::MalformedPrefix => return None,
     };
     Some((table, reason.at(position).used_by(users)))
 }

@@ -1,8 +1,9 @@
 //! A safe wrapper over the static libraries wakubinryo_tables and
 //! wakubinryo_qcir, and what its tests and its benchmarks need: an
-//! implementation in plain Rust ([`reference`] and, for QCIR files, [`qcir`]),
-//! truth values by brute force ([`brute`], [`circuit`]) and tables and files to
-//! try ([`generate`], [`generate_qcir`]).
+//! implementation in plain Rust ([`reference`] and, for QCIR files, [`qcir`] and
+//! [`write_qcir`](mod@write_qcir)), reading without limits ([`read_back`]), truth
+//! values by brute force ([`brute`], [`circuit`]) and tables, files and forms to
+//! try ([`generate`], [`generate_qcir`], [`generate_forms`]).
 //!
 //! A formula table is a slice of words, four to a node, and a list of variable
 //! numbers. See `include/wakubinryo.h` for what each call promises.
@@ -10,13 +11,19 @@
 pub mod answer;
 pub mod brute;
 pub mod circuit;
+pub mod comparators;
 pub mod generate;
+pub mod generate_forms;
 pub mod generate_qcir;
 pub mod qcir;
+pub mod read_back;
 pub mod reference;
 pub mod timing;
+pub mod words;
+pub mod write_qcir;
 
-pub use answer::{CountAnswer, Reason, Refusal, Sizes, SizesAnswer, Written, WrittenAnswer};
+pub use answer::{CountAnswer, Reason, Refusal, Sizes, SizesAnswer};
+pub use answer::{TextAnswer, Written, WrittenAnswer};
 pub use reference::{Node, WIDTH};
 
 mod ffi {
@@ -59,12 +66,23 @@ mod ffi {
             list_len: usize,
             answer: *mut u32,
         );
+        pub fn wakubinryo_write_qcir(
+            nodes: *const u32,
+            nodes_len: usize,
+            prefix: *const u32,
+            prefix_len: usize,
+            variables: *const u32,
+            variables_len: usize,
+            text: *mut u8,
+            text_len: usize,
+            answer: *mut u64,
+        );
     }
 }
 
 /// The calls as they are, with their answers as words.
 pub mod raw {
-    use super::{ffi, CountAnswer, SizesAnswer, WrittenAnswer};
+    use super::{ffi, CountAnswer, SizesAnswer, TextAnswer, WrittenAnswer};
 
     pub fn measure(words: &[u32], list: &[u32], answer: &mut SizesAnswer) {
         // SAFETY: the call reads the two slices and writes the answer, no more.
@@ -140,10 +158,33 @@ pub mod raw {
             )
         }
     }
+
+    pub fn write_qcir(
+        nodes: &[u32],
+        prefix: &[u32],
+        variables: &[u32],
+        text: &mut [u8],
+        answer: &mut TextAnswer,
+    ) {
+        // SAFETY: as above.
+        unsafe {
+            ffi::wakubinryo_write_qcir(
+                nodes.as_ptr(),
+                nodes.len(),
+                prefix.as_ptr(),
+                prefix.len(),
+                variables.as_ptr(),
+                variables.len(),
+                text.as_mut_ptr(),
+                text.len(),
+                answer.as_mut_ptr(),
+            )
+        }
+    }
 }
 
-fn refusal(number: u32, position: u32, users: [u32; 2]) -> Refusal {
-    let reason = Reason::from_number(number).expect("the library answers 0 to 13");
+fn refusal(number: u32, position: u64, users: [u32; 2]) -> Refusal {
+    let reason = Reason::from_number(number).expect("the library answers 0 to 15");
     let users = (users != [0, 0]).then_some(users);
     Refusal {
         reason,
@@ -155,7 +196,9 @@ fn refusal(number: u32, position: u32, users: [u32; 2]) -> Refusal {
 fn sizes(answer: SizesAnswer) -> Result<Sizes, Refusal> {
     match answer {
         [0, _, _, _, sizes @ ..] => Ok(Sizes::from_words(sizes)),
-        [number, position, first, second, ..] => Err(refusal(number, position, [first, second])),
+        [number, position, first, second, ..] => {
+            Err(refusal(number, position.into(), [first, second]))
+        }
     }
 }
 
@@ -187,7 +230,9 @@ pub fn free_variables(words: &[u32], list: &[u32], names: &mut [u32]) -> Result<
     raw::free_variables(words, list, names, &mut answer);
     match answer {
         [0, _, _, _, written] => Ok(written),
-        [number, position, first, second, _] => Err(refusal(number, position, [first, second])),
+        [number, position, first, second, _] => {
+            Err(refusal(number, position.into(), [first, second]))
+        }
     }
 }
 
@@ -241,7 +286,7 @@ pub fn read_qcir_into(
     raw::read_qcir(text, words, list, &mut answer);
     match answer {
         [0, _, words, entries] => Ok(Written { words, entries }),
-        [number, position, ..] => Err(refusal(number, position, [0, 0])),
+        [number, position, ..] => Err(refusal(number, position.into(), [0, 0])),
     }
 }
 
@@ -255,4 +300,36 @@ pub fn read_qcir(text: &[u8]) -> Result<Table, Refusal> {
     table.words.truncate(written.words as usize);
     table.list.truncate(written.entries as usize);
     Ok(table)
+}
+
+/// Writes a prenex form as a QCIR file into a buffer and says how many bytes
+/// it takes.
+pub fn write_qcir(form: &PrenexForm, text: &mut [u8]) -> Result<usize, Refusal> {
+    let mut answer = TextAnswer::default();
+    raw::write_qcir(
+        &form.nodes,
+        &form.prefix,
+        &form.variables,
+        text,
+        &mut answer,
+    );
+    match answer {
+        [0, _, bytes] => Ok(bytes as usize),
+        [number, position, _] => Err(refusal(number as u32, position, [0, 0])),
+    }
+}
+
+/// Bytes enough for the file of any form with so many nodes, prefix blocks and
+/// variables.
+pub const fn qcir_room(nodes: usize, blocks: usize, entries: usize) -> usize {
+    31 * (nodes + 1) + 7 * blocks + 8 * entries
+}
+
+/// Allocates room and writes a prenex form as a QCIR file.
+pub fn qcir_text(form: &PrenexForm) -> Result<Vec<u8>, Refusal> {
+    let (nodes, blocks) = (form.nodes.len() / WIDTH, form.prefix.len() / 3);
+    let mut text = vec![0; qcir_room(nodes, blocks, form.variables.len())];
+    let bytes = write_qcir(form, &mut text)?;
+    text.truncate(bytes);
+    Ok(text)
 }

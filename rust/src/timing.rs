@@ -1,4 +1,4 @@
-//! What the two benchmarks share: how often each side runs, medians and growth.
+//! What the benchmarks share: how often each side runs, medians and growth.
 
 use std::time::Duration;
 
