@@ -24,7 +24,7 @@ use Rattle.acceptance.specs.Verdict.{isNumberTo, rangePastEnd}
 use Rattle.form_check.specs.Verdict.{formLimits, repeats, namesBefore, badBlock, prefixVerdict}
 use Rattle.form_check.specs.Accepted.{prefixNames}
 use Rattle.form_check.specs.declared.BlockWords.{BlockWords}
-use Rattle.form_check.specs.Steps.{Flagged, newName, newNames, pushed, blockWordsAt, fittingBlock}
+use Rattle.form_check.specs.Steps.{NamesFlagged, newName, newNames, pushed, blockWordsAt, fittingBlock}
 use Rattle.form_check.proofs.Names.{names-next, names-are}
 
 -- Names pushed one by one are those of both lists.
@@ -54,7 +54,7 @@ unfolding pushed
 maximum-pushed before [] = ap maximum (sym (append-nil before))
 maximum-pushed before (y ∷ ys) = maximum-pushed (y ∷ before) ys ∙ maximum-middle before y ys
 
-pub flagged-pushed : (before xs bound : List ℕ) (highest : ℕ) → Flagged (pushed before xs) bound highest → Flagged (before ++ xs) bound highest
+pub flagged-pushed : (before xs bound : List ℕ) (highest : ℕ) → NamesFlagged (pushed before xs) bound highest → NamesFlagged (before ++ xs) bound highest
 flagged-pushed before xs bound highest f =
     record {
       wide = f .wide;
@@ -62,12 +62,12 @@ flagged-pushed before xs bound highest f =
       highest-is = f .highest-is ∙ maximum-pushed before xs;
     }
 
-pub flagged-none : (bound : List ℕ) → length bound ≡ 77824 → ((x : ℕ) → getD bound x 0 ≡ 0) → Flagged [] bound 0
+pub flagged-none : (bound : List ℕ) → length bound ≡ 77824 → ((x : ℕ) → getD bound x 0 ≡ 0) → NamesFlagged [] bound 0
 unfolding mem digit maximum
 flagged-none bound w z = record { wide = w; flag-is = z; highest-is = refl }
 
 -- One name.
-module _ (names bound : List ℕ) (highest : ℕ) (f : Flagged names bound highest) (x : ℕ) where
+module _ (names bound : List ℕ) (highest : ℕ) (f : NamesFlagged names bound highest) (x : ℕ) where
   pub no-name : isNumberTo 77823 x ≡ false → false ≡ newName names x
   unfolding newName
   no-name n = rw n refl
@@ -96,7 +96,7 @@ module _ (names bound : List ℕ) (highest : ℕ) (f : Flagged names bound highe
   unfolding newName
   name-new n z = rw (n, flag-clear z) refl
 
-  pub flagged-next : x < 77824 → (h : ℕ) → h ≡ max x highest → Flagged (x ∷ names) (set bound x 1) h
+  pub flagged-next : x < 77824 → (h : ℕ) → h ≡ max x highest → NamesFlagged (x ∷ names) (set bound x 1) h
   unfolding mem digit maximum
   flagged-next l h e =
       record {
@@ -127,11 +127,11 @@ module _ (xs : List ℕ) (k end : ℕ) where
 -- the whole list is the answer from here.
 pub record Reached (xs before : List ℕ) (first end : ℕ) (bound : List ℕ) (highest k : ℕ) : Type 0 where
   pub so-far : List ℕ
-  pub flagged : Flagged so-far bound highest
+  pub flagged : NamesFlagged so-far bound highest
   pub same-new : newNames before (range xs first (end - first)) ≡ newNames so-far (range xs k (end - k))
   pub same-pushed : pushed before (range xs first (end - first)) ≡ pushed so-far (range xs k (end - k))
 
-pub reached-start : (xs before : List ℕ) (first end : ℕ) (bound : List ℕ) (highest : ℕ) → Flagged before bound highest
+pub reached-start : (xs before : List ℕ) (first end : ℕ) (bound : List ℕ) (highest : ℕ) → NamesFlagged before bound highest
     → Reached xs before first end bound highest first
 reached-start xs before first end bound highest f =
     record { so-far = before; flagged = f; same-new = refl; same-pushed = refl }
@@ -143,7 +143,7 @@ module _ (xs before : List ℕ) (first end : ℕ) (bound : List ℕ) (highest k 
       sym (p .same-new ∙ ap (newNames (p .so-far)) (range-next xs k end l h) ∙ and-off-left _ _ n)
 
   pub reached-next : k < end → end ≤ length xs → newName (p .so-far) (getD xs k 0) ≡ true → (next : List ℕ) (top : ℕ)
-      → Flagged (getD xs k 0 ∷ p .so-far) next top → Reached xs before first end next top (k + 1)
+      → NamesFlagged (getD xs k 0 ∷ p .so-far) next top → Reached xs before first end next top (k + 1)
   unfolding newNames pushed
   reached-next l h n next top f =
       record {
@@ -157,7 +157,7 @@ module _ (xs before : List ℕ) (first end : ℕ) (bound : List ℕ) (highest k 
   unfolding newNames
   reached-new l = sym (p .same-new ∙ ap (newNames (p .so-far)) (range-empty xs k end l))
 
-  pub reached-flagged : end ≤ k → Flagged (pushed before (range xs first (end - first))) bound highest
+  pub reached-flagged : end ≤ k → NamesFlagged (pushed before (range xs first (end - first))) bound highest
   unfolding pushed
   reached-flagged l = rw (p .same-pushed, range-empty xs k end l) (p .flagged)
 
@@ -212,8 +212,8 @@ module _ (ps xs : List ℕ) (j : ℕ) (b : BlockWords) (e : b ≡ blockWordsAt p
 
   -- the flags once the block's names are pushed
   pub block-flagged : (bound : List ℕ) (highest : ℕ)
-      → Flagged (pushed (namesBefore ps xs j) (range xs (b .first) (b .first + b .count - b .first))) bound highest
-      → Flagged (namesBefore ps xs (j + 1)) bound highest
+      → NamesFlagged (pushed (namesBefore ps xs j) (range xs (b .first) (b .first + b .count - b .first))) bound highest
+      → NamesFlagged (namesBefore ps xs (j + 1)) bound highest
   block-flagged bound highest f =
       rw (add-one, names-next ps xs j)
       (flagged-pushed (namesBefore ps xs j) (blockAt ps xs j .variables) bound highest (rw block-names at f))
@@ -224,7 +224,7 @@ binds-names [] x = refl
 binds-names (b ∷ bs) x = mem-append x (b .variables) (prefixNames bs) ∙ ap (λ t. mem x (b .variables) || t) (binds-names bs x)
 
 -- which names the prefix binds, by the flags
-pub flags-bind : (ps xs bound : List ℕ) (highest : ℕ) → Flagged (prefixNames (blocksOf ps xs)) bound highest
+pub flags-bind : (ps xs bound : List ℕ) (highest : ℕ) → NamesFlagged (prefixNames (blocksOf ps xs)) bound highest
     → (x : ℕ) → getD bound x 0 ≡ digit (binds (blocksOf ps xs) x)
 flags-bind ps xs bound highest f x = f .flag-is x ∙ ap digit (binds-names (blocksOf ps xs) x)
 
@@ -249,7 +249,7 @@ module _ (ps xs : List ℕ) where
 
     -- past the last: the names of all blocks are flagged
     pub prefix-flagged : length ps / prefixWidth ≤ j → (bound : List ℕ) (highest : ℕ)
-        → (j ≡ length ps / prefixWidth → Flagged (namesBefore ps xs j) bound highest) → Flagged (prefixNames (blocksOf ps xs)) bound highest
+        → (j ≡ length ps / prefixWidth → NamesFlagged (namesBefore ps xs j) bound highest) → NamesFlagged (prefixNames (blocksOf ps xs)) bound highest
     prefix-flagged l bound highest f =
         let all : j ≡ length ps / prefixWidth = omega (arith, lowest-le (badBlock formLimits ps xs) (length ps / prefixWidth)) in
-        rw (names-are ps xs) (subst (λ k. Flagged (namesBefore ps xs k) bound highest) all (f all))
+        rw (names-are ps xs) (subst (λ k. NamesFlagged (namesBefore ps xs k) bound highest) all (f all))

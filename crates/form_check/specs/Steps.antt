@@ -15,7 +15,7 @@ use Rattle.form_check.specs.Verdict.{formLimits}
 use Rattle.form_check.specs.declared.BlockWords.{BlockWords}
 
 -- The flags are those of these names, and this is the highest of them.
-pub record Flagged (names bound : List ℕ) (highest : ℕ) : Type 0 where
+pub record NamesFlagged (names bound : List ℕ) (highest : ℕ) : Type 0 where
   pub wide : length bound ≡ 77824
   pub flag-is : (x : ℕ) → getD bound x 0 ≡ digit (mem x names)
   pub highest-is : highest ≡ maximum names

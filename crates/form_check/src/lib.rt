@@ -20,7 +20,7 @@ ghost use Rattle.form_check.specs.Verdict.{
 };
 ghost use Rattle.form_check.specs.Accepted.{prefixNames};
 ghost use Rattle.form_check.specs.Steps.{
-  Flagged,
+  NamesFlagged,
   newName,
   newNames,
   pushed,
@@ -89,11 +89,11 @@ fn refused(number: u32, position: usize) -> FormVerdict
 
 // Refusal 15. Of a prefix that it does not apply to, the names are then flagged.
 fn check_prefix(prefix: &[u32], variables: &[u32], bound: &mut [u8]) -> Checked
-    requires { ⌜ Flagged [] (now bound) 0 ⌝ }
+    requires { ⌜ NamesFlagged [] (now bound) 0 ⌝ }
     ensures { λ r. ⌜ refusal (r .verdict .number) (r .verdict .position)
         ≡ prefixVerdict formLimits (now (prefix .entry)) (now (variables .entry)) ⌝ }
     ensures { λ r. ⌜ (r .verdict .number ≡ 0
-        → Flagged (prefixNames (blocksOf (now (prefix .entry)) (now (variables .entry)))) (now (bound .exit)) (r .highest)) ⌝ }
+        → NamesFlagged (prefixNames (blocksOf (now (prefix .entry)) (now (variables .entry)))) (now (bound .exit)) (r .highest)) ⌝ }
 {
     let mut highest: u32 = 0;
     if !(prefix.len() % PREFIX_WIDTH == 0) {
@@ -111,11 +111,11 @@ fn check_prefix(prefix: &[u32], variables: &[u32], bound: &mut [u8]) -> Checked
 
 // The first block at fault, or the number of blocks. Where there is none, the names of all are flagged.
 fn first_bad(prefix: &[u32], variables: &[u32], bound: &mut [u8], highest: &mut u32) -> usize
-    requires { ⌜ Flagged [] (now bound) (now highest) ⌝ }
+    requires { ⌜ NamesFlagged [] (now bound) (now highest) ⌝ }
     ensures { λ r. ⌜ r ≡ lowest (badBlock formLimits (now (prefix .entry)) (now (variables .entry)))
         (length (now (prefix .entry)) / prefixWidth) ⌝ }
     ensures { λ r. ⌜ (r ≡ length (now (prefix .entry)) / prefixWidth
-        → Flagged (namesBefore (now (prefix .entry)) (now (variables .entry)) r) (now (bound .exit)) (now (highest .exit))) ⌝ }
+        → NamesFlagged (namesBefore (now (prefix .entry)) (now (variables .entry)) r) (now (bound .exit)) (now (highest .exit))) ⌝ }
 {
     let m = prefix.len() / PREFIX_WIDTH;
     let mut j: usize = 0;
@@ -138,10 +138,10 @@ fn take_block(
     j: usize,
 ) -> bool
     requires { ⌜ j < length (now prefix) / prefixWidth ⌝ }
-    requires { ⌜ Flagged (namesBefore (now prefix) (now variables) j) (now bound) (now highest) ⌝ }
+    requires { ⌜ NamesFlagged (namesBefore (now prefix) (now variables) j) (now bound) (now highest) ⌝ }
     ensures { λ r. ⌜ r ≡ not (badBlock formLimits (now (prefix .entry)) (now (variables .entry)) j) ⌝ }
     ensures { λ r. ⌜ (r ≡ true
-        → Flagged (namesBefore (now (prefix .entry)) (now (variables .entry)) (j + 1)) (now (bound .exit)) (now (highest .exit))) ⌝ }
+        → NamesFlagged (namesBefore (now (prefix .entry)) (now (variables .entry)) (j + 1)) (now (bound .exit)) (now (highest .exit))) ⌝ }
 {
     let block = block_at(prefix, j);
     if !block_fits(block, variables.len()) {
@@ -192,9 +192,9 @@ fn flag_names(
 ) -> bool
     requires { ⌜ (first ≤ end) × (end ≤ length (now variables)) ⌝ }
     requires { ⌜ length (now bound) ≡ 77824 ⌝ }
-    ensures { λ r. ⌜ ((before : List ℕ) → Flagged before (now (bound .entry)) (now (highest .entry))
+    ensures { λ r. ⌜ ((before : List ℕ) → NamesFlagged before (now (bound .entry)) (now (highest .entry))
         → (r ≡ newNames before (range (now (variables .entry)) first (end - first)))
-        × (r ≡ true → Flagged (pushed before (range (now (variables .entry)) first (end - first)))
+        × (r ≡ true → NamesFlagged (pushed before (range (now (variables .entry)) first (end - first)))
         (now (bound .exit)) (now (highest .exit)))) ⌝ }
 {
     let mut k = first;
@@ -210,8 +210,8 @@ fn flag_names(
 // Flags x if it is a name and not flagged yet.
 fn flag_name(x: u32, bound: &mut [u8], highest: &mut u32) -> bool
     requires { ⌜ length (now bound) ≡ 77824 ⌝ }
-    ensures { λ r. ⌜ ((names : List ℕ) → Flagged names (now (bound .entry)) (now (highest .entry))
-        → (r ≡ newName names x) × (r ≡ true → Flagged (x ∷ names) (now (bound .exit)) (now (highest .exit)))) ⌝ }
+    ensures { λ r. ⌜ ((names : List ℕ) → NamesFlagged names (now (bound .entry)) (now (highest .entry))
+        → (r ≡ newName names x) × (r ≡ true → NamesFlagged (x ∷ names) (now (bound .exit)) (now (highest .exit)))) ⌝ }
 {
     if !matrix_check::is_name(x) {
         return false;

@@ -20,7 +20,7 @@ use Rattle.acceptance.specs.Limits.{matrixWithin}
 use Rattle.acceptance.specs.Verdict.{isNumberTo}
 use Rattle.form_check.specs.Accepted.{AcceptedFormWithin, prefixNames}
 use Rattle.qcir.specs.File.{prefixVariables, numbersOf}
-use Rattle.qcir_form.specs.File.{isGate, gateNumber, occurs, openNames, prefixLines, firstGate}
+use Rattle.qcir_form.specs.File.{isGate, gateNumber, occurs, freeNames, prefixLines, firstGate}
 use Rattle.qcir_form.specs.Laws.{FileFromOne, FileUpTo}
 use Rattle.qcir_form.proofs.Numbers.{prefix-numbers, occurs-from, open-lists, MatrixNode, matrix-node}
 use Rattle.qcir_form.proofs.PlacedForm.{outerOf, firstOf, endOf, form-outer, form-rising, form-output}
@@ -44,7 +44,7 @@ module _ (nodes most : ℕ) (ns ps xs : List ℕ) (form : AcceptedFormWithin (ma
   abbrev blocks : List Block
   blocks = blocksOf ps xs
 
-  open-number : (x : ℕ) → mem x (openNames table blocks) ≡ true → isNumberTo most x ≡ true
+  open-number : (x : ℕ) → mem x (freeNames table blocks) ≡ true → isNumberTo most x ≡ true
   unfolding tableOf
   open-number x m =
       let o = occurs-from table x (and-left (occurs table x) _ (sym (open-lists table blocks .members x) ∙ m)) in
@@ -52,7 +52,7 @@ module _ (nodes most : ℕ) (ns ps xs : List ℕ) (form : AcceptedFormWithin (ma
 
   outer-number : (x : ℕ) → mem x (outerOf table blocks) ≡ true → isNumberTo most x ≡ true
   outer-number x m =
-      or-cases (mem x (openNames table blocks)) (mem x (numbersOf (prefixVariables (prefixLines blocks)))) (sym (mem-append x (openNames table blocks) _) ∙ m)
+      or-cases (mem x (freeNames table blocks)) (mem x (numbersOf (prefixVariables (prefixLines blocks)))) (sym (mem-append x (freeNames table blocks) _) ∙ m)
       (open-number x)
       (λ k. all-mem (isNumberTo most) (prefixNames blocks) x (form .numbered) (ap (mem x) (sym (prefix-numbers blocks)) ∙ k))
 

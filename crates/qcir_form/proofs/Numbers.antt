@@ -28,7 +28,7 @@ use Rattle.acceptance.proofs.Accepted.{Formed, formed-constant, formed-variable
 use Rattle.form_check.specs.Accepted.{prefixNames}
 use Rattle.qcir.specs.File.{Line, lineVariables, prefixVariables, numbersOf}
 use Rattle.qcir.proofs.GateLines.{numbers-append}
-use Rattle.qcir_form.specs.File.{written, named, isGate, gateNumber, occurs, openNames, listLines, prefixLines, firstGate}
+use Rattle.qcir_form.specs.File.{written, named, isGate, gateNumber, occurs, freeNames, listLines, prefixLines, firstGate}
 
 -- The numbers of gates.
 
@@ -113,30 +113,30 @@ module _ (t : Table) where
       omega (arith, highest-ge (λ i. numberAt (t .node i)) (t .size) (o .0) (o .1))
 
   -- The open names are the names that occur and that no block binds, ascending.
-  pub open-lists : (bs : List Block) → ListOf (λ x. occurs t x && not (binds bs x)) (openNames t bs)
-  unfolding openNames
+  pub open-lists : (bs : List Block) → ListOf (λ x. occurs t x && not (binds bs x)) (freeNames t bs)
+  unfolding freeNames
   open-lists bs =
       passing-lists (λ x. occurs t x && not (binds bs x)) (suc (highestVariable t))
       (λ x e. occurs-below x (and-left (occurs t x) (not (binds bs x)) e))
 
   pub occurs-known : (bs : List Block) (x : ℕ) → occurs t x ≡ true
-      → mem x (openNames t bs ++ numbersOf (prefixVariables (prefixLines bs))) ≡ true
+      → mem x (freeNames t bs ++ numbersOf (prefixVariables (prefixLines bs))) ≡ true
   occurs-known bs x o = rw (prefix-numbers bs) (go (look (binds bs x)))
     where
-      go : Is (binds bs x) → mem x (openNames t bs ++ prefixNames bs) ≡ true
-      go (is-true b) = mem-right x (openNames t bs) (prefixNames bs) (binds-mem bs x ∙ b)
+      go : Is (binds bs x) → mem x (freeNames t bs ++ prefixNames bs) ≡ true
+      go (is-true b) = mem-right x (freeNames t bs) (prefixNames bs) (binds-mem bs x ∙ b)
       go (is-false b) =
-          mem-left x (openNames t bs) (prefixNames bs)
+          mem-left x (freeNames t bs) (prefixNames bs)
           (open-lists bs .members x ∙ and-both (occurs t x) (not (binds bs x)) o (ap not b))
 
   pub written-known : (bs : List Block) (i x : ℕ) → i < t .size → written t i ≡ true → t .node i ≡ variable x
-      → mem x (openNames t bs ++ numbersOf (prefixVariables (prefixLines bs))) ≡ true
+      → mem x (freeNames t bs ++ numbersOf (prefixVariables (prefixLines bs))) ≡ true
   written-known bs i x h w e = occurs-known bs x (occurs-in x i h w e)
 
   -- A name that is written is below the first gate.
   pub names-below : (bs : List Block) (i x : ℕ) → i < t .size → written t i ≡ true → t .node i ≡ variable x
-      → x < firstGate (openNames t bs) (prefixLines bs)
-  names-below bs i x h w e = known-below (openNames t bs) (prefixLines bs) x (written-known bs i x h w e)
+      → x < firstGate (freeNames t bs) (prefixLines bs)
+  names-below bs i x h w e = known-below (freeNames t bs) (prefixLines bs) x (written-known bs i x h w e)
 
 -- A node of a matrix whose numbers are from 1 up to m: no block, and its truth table is one of the sixteen.
 abbrev pub MatrixNode : ℕ → Node → Type 0

@@ -19,8 +19,8 @@ use Rattle.acceptance.specs.Limits.{matrixWithin}
 use Rattle.form_check.specs.Accepted.{AcceptedFormWithin}
 use Rattle.qcir.specs.File.{numbersOf}
 use Rattle.qcir.specs.Refusals.{gateNames, usedNumbers}
-use Rattle.qcir_form.specs.File.{written, occurs, openNames, matrixFile, formFile}
-use Rattle.qcir_form.specs.Laws.{OpenOccur}
+use Rattle.qcir_form.specs.File.{written, occurs, freeNames, matrixFile, formFile}
+use Rattle.qcir_form.specs.Laws.{FreeOccur}
 use Rattle.qcir_form.proofs.Numbers.{numbers-named, occurs-from, open-lists}
 use Rattle.qcir_form.proofs.PlacedLines.{rising-range}
 use Rattle.qcir_form.proofs.PlacedForm.{outer-below, form-rising}
@@ -48,12 +48,12 @@ module _ (nodes most : ℕ) (ns ps xs : List ℕ) (form : AcceptedFormWithin (ma
   abbrev here : ℕ → Bool
   here j = written table j && standsAt x (table .node j)
 
-  open-parts : mem x (openNames table blocks) ≡ true → (occurs table x ≡ true) × (binds blocks x ≡ false)
+  open-parts : mem x (freeNames table blocks) ≡ true → (occurs table x ≡ true) × (binds blocks x ≡ false)
   open-parts m =
       let p : (occurs table x && not (binds blocks x)) ≡ true = sym (open-lists table blocks .members x) ∙ m in
       (and-left (occurs table x) _ p, not-true (binds blocks x) (and-right (occurs table x) _ p))
 
-  open-used : mem x (openNames table blocks) ≡ true → used ≡ true
+  open-used : mem x (freeNames table blocks) ≡ true → used ≡ true
   unfolding tableOf standsAt
   open-used m = go (look used)
     where
@@ -66,12 +66,12 @@ module _ (nodes most : ℕ) (ns ps xs : List ℕ) (form : AcceptedFormWithin (ma
           let term = term-le (λ k. pick (here k) 1 0) (nodeCount ns) j (o .1) in
           absurd (omega (arith, form-used nodes most ns ps xs form x, times-zero x _ e, term, pick-yes {A = ℕ} (here j) 1 0 at))
 
-  open-no-gate : mem x (openNames table blocks) ≡ true → gate ≡ false
+  open-no-gate : mem x (freeNames table blocks) ≡ true → gate ≡ false
   open-no-gate m =
-      let below = outer-below table blocks x (mem-left x (openNames table blocks) _ m) in
+      let below = outer-below table blocks x (mem-left x (freeNames table blocks) _ m) in
       absent gate (λ g. omega (arith, rising-range (form-rising nodes most ns ps xs form) x g .0))
 
-  used-open : used ≡ true → gate ≡ false → binds blocks x ≡ false → mem x (openNames table blocks) ≡ true
+  used-open : used ≡ true → gate ≡ false → binds blocks x ≡ false → mem x (freeNames table blocks) ≡ true
   unfolding tableOf
   used-open u g b =
       let count = form-used nodes most ns ps xs form x in
@@ -82,7 +82,7 @@ module _ (nodes most : ℕ) (ns ps xs : List ℕ) (form : AcceptedFormWithin (ma
       let at : here j ≡ true = picked (here j) (r .2) in
       open-lists table blocks .members x ∙ and-both (occurs table x) _ (stands-occurs table x j (r .1) at) (ap not b)
 
-  open-is : mem x (openNames table blocks) ≡ (used && not gate && not (binds blocks x))
+  open-is : mem x (freeNames table blocks) ≡ (used && not gate && not (binds blocks x))
   open-is =
       same-test _ _
       (λ m. and-both (used && not gate) _ (and-both used _ (open-used m) (ap not (open-no-gate m))) (ap not (open-parts m .1)))
@@ -91,8 +91,8 @@ module _ (nodes most : ℕ) (ns ps xs : List ℕ) (form : AcceptedFormWithin (ma
       used-open (and-left used (not gate) both) (not-true gate (and-right used (not gate) both))
       (not-true (binds blocks x) (and-right (used && not gate) (not (binds blocks x)) e)))
 
-pub open-occur : OpenOccur
+pub free-occur : FreeOccur
 unfolding formFile matrixFile
-open-occur nodes most ns ps xs form =
-    subst (ListOf _) (sym (numbers-named (openNames (tableOf ns []) (blocksOf ps xs))))
+free-occur nodes most ns ps xs form =
+    subst (ListOf _) (sym (numbers-named (freeNames (tableOf ns []) (blocksOf ps xs))))
     record { members = open-is nodes most ns ps xs form; ascending = open-lists (tableOf ns []) (blocksOf ps xs) .ascending }

@@ -17,7 +17,7 @@ use Rattle.formula.specs.Form.{Block, binds, blocksOf}
 use Rattle.form_check.specs.Accepted.{prefixNames}
 use Rattle.qcir.specs.File.{Name, Gate, gateName, gateInputs, prefixVariables, numbersOf, namesOf}
 use Rattle.qcir.specs.Refusals.{gateNames, outerNames, quantifiedNames, repeated, repeatedInGates, laterPlaces, gatesListed, namingGates, without, earlyUses, misplaced}
-use Rattle.qcir_form.specs.File.{occurs, openNames, prefixLines, formFile}
+use Rattle.qcir_form.specs.File.{occurs, freeNames, prefixLines, formFile}
 use Rattle.qcir_form.specs.Laws.{FilePlaced}
 use Rattle.qcir_form.proofs.Numbers.{prefix-numbers, binds-mem, open-lists}
 use Rattle.qcir_form.proofs.PlacedLines.{Usable, outer-name, lower-gate, Rising, no-lines, a-line, rising-range, rising-distinct}
@@ -99,8 +99,8 @@ outer-distinct : (t : Table) (bs : List Block) → distinct (prefixNames bs) ≡
 outer-distinct t bs d =
     let open-names = open-lists t bs in
     let e : numbersOf (prefixVariables (prefixLines bs)) ≡ prefixNames bs = prefix-numbers bs in
-    distinct-append (openNames t bs) (numbersOf (prefixVariables (prefixLines bs)))
-    (strict-distinct (openNames t bs) (open-names .ascending))
+    distinct-append (freeNames t bs) (numbersOf (prefixVariables (prefixLines bs)))
+    (strict-distinct (freeNames t bs) (open-names .ascending))
     (ap distinct e ∙ d)
     (λ x m k. clash (sym (binds-mem bs x) ∙ ap (mem x) (sym e) ∙ k)
     (not-true (binds bs x) (and-right (occurs t x) _ (sym (open-names .members x) ∙ m))))

@@ -15,24 +15,24 @@ use Rattle.form_check.specs.Accepted.{AcceptedFormWithin}
 use Rattle.qcir.specs.File.{prefixVariables, numbersOf}
 use Rattle.qcir.specs.Refusals.{outerNames}
 use Rattle.qcir.proofs.GateLines.{numbers-append}
-use Rattle.qcir_form.specs.File.{named, gateNumber, openNames, prefixLines, firstGate, matrixFile, formFile}
+use Rattle.qcir_form.specs.File.{named, gateNumber, freeNames, prefixLines, firstGate, matrixFile, formFile}
 use Rattle.qcir_form.proofs.Written.{written-root}
 use Rattle.qcir_form.proofs.Numbers.{gate-grows, numbers-named, known-below, written-known, no-block}
 use Rattle.qcir_form.proofs.PlacedLines.{Usable, usable-up, Rising, usable, rising-gates}
 
 -- The numbers in the free and prefix lines, and the first gate's.
 abbrev pub outerOf : Table → List Block → List ℕ
-outerOf t bs = openNames t bs ++ numbersOf (prefixVariables (prefixLines bs))
+outerOf t bs = freeNames t bs ++ numbersOf (prefixVariables (prefixLines bs))
 
 abbrev pub firstOf : Table → List Block → ℕ
-firstOf t bs = firstGate (openNames t bs) (prefixLines bs)
+firstOf t bs = firstGate (freeNames t bs) (prefixLines bs)
 
 -- above the last one's
 abbrev pub endOf : Table → List Block → ℕ
 endOf t bs = gateNumber t (firstOf t bs) (t .size)
 
 pub outer-below : (t : Table) (bs : List Block) (x : ℕ) → mem x (outerOf t bs) ≡ true → x < firstOf t bs
-outer-below t bs x m = known-below (openNames t bs) (prefixLines bs) x m
+outer-below t bs x m = known-below (freeNames t bs) (prefixLines bs) x m
 
 module _ (nodes most : ℕ) (ns ps xs : List ℕ) (form : AcceptedFormWithin (matrixWithin nodes most) ns ps xs) where
   abbrev table : Table
@@ -51,8 +51,8 @@ module _ (nodes most : ℕ) (ns ps xs : List ℕ) (form : AcceptedFormWithin (ma
   pub form-outer : numbersOf (outerNames (formFile ns ps xs)) ≡ outerOf table blocks
   unfolding formFile matrixFile outerNames
   form-outer =
-      numbers-append (map named (openNames table blocks)) (prefixVariables (prefixLines blocks))
-      ∙ ap (λ l. l ++ numbersOf (prefixVariables (prefixLines blocks))) (numbers-named (openNames table blocks))
+      numbers-append (map named (freeNames table blocks)) (prefixVariables (prefixLines blocks))
+      ∙ ap (λ l. l ++ numbersOf (prefixVariables (prefixLines blocks))) (numbers-named (freeNames table blocks))
 
   pub form-rising : Rising (outerOf table blocks) (firstOf table blocks) (firstOf table blocks) (formFile ns ps xs .gates) (endOf table blocks)
   unfolding formFile matrixFile

@@ -28,7 +28,7 @@ use Rattle.qcir.specs.Spelling.{newline, header, freeSigns, prefixSigns, output
 use Rattle.qcir.specs.Unbounded.{namesUpTo}
 use Rattle.qcir_text.specs.Text.{signsText, fileText}
 use Rattle.qcir_form.specs.Rows.{row}
-use Rattle.qcir_form.specs.File.{rowHasGate, hasGate, written, isGate, gateNumber, nodeLiteralOf, nodeGates, gatesOf, occurs, openNames, prefixLines, firstGate, matrixFile, formFile, formText}
+use Rattle.qcir_form.specs.File.{rowHasGate, hasGate, written, isGate, gateNumber, nodeLiteralOf, nodeGates, gatesOf, occurs, freeNames, prefixLines, firstGate, matrixFile, formFile, formText}
 use Rattle.qcir_form.specs.Laws.{TextRoom}
 use Rattle.qcir_form.proofs.Numbers.{occurs-from}
 use Rattle.qcir_form.proofs.Names.{file-up-to}
@@ -59,8 +59,8 @@ module _ (t : Table) (bs : List Block) where
       let o = occurs-from t x (and-left (occurs t x) (not (binds bs x)) h) in
       record { node = o .0; within = o .1; variable-is = o .3 }
 
-  together : sum (λ i. digit (isGate t i)) (t .size) + length (openNames t bs) ≤ t .size
-  unfolding openNames isGate
+  together : sum (λ i. digit (isGate t i)) (t .size) + length (freeNames t bs) ≤ t .size
+  unfolding freeNames isGate
   together =
       let gates : ℕ → ℕ = λ i. digit (written t i && hasGate (t .node i)) in
       let vars : ℕ → ℕ = λ i. variables (t .node i) in
@@ -117,7 +117,7 @@ module _ (ns ps xs : List ℕ) (a : AcceptedForm ns ps xs) where
   bs = blocksOf ps xs
 
   first : ℕ
-  first = firstGate (openNames t bs) (prefixLines bs)
+  first = firstGate (freeNames t bs) (prefixLines bs)
 
   parts : length (formText ns ps xs) ≤ 31 * (nodeCount ns + 1) + weights (prefixSigns (prefixLines bs))
   unfolding formText formFile matrixFile t bs first gatesOf tableOf
@@ -126,7 +126,7 @@ module _ (ns ps xs : List ℕ) (a : AcceptedForm ns ps xs) where
       omega (
         arith,
         file-bytes f (77823 + nodeCount ns) (omega (arith, a .matrix .nodes-limit)) (file-up-to 40960 77823 ns ps xs a),
-        free-weighs (openNames t bs),
+        free-weighs (freeNames t bs),
         output-weighs (f .output),
         gates-weigh (isGate t) (λ i. nodeGates (nodeLiteralOf t first) (gateNumber t first i) (t .node i)) (t .size) (λ i. node-weighs _ _ (t .node i)),
         together t bs,

@@ -24,7 +24,7 @@ same-value true false h = clash h refl
 same-value false true h = clash h refl
 same-value false false h = refl
 
--- Row f has its operator's value at one pair of operands, and at each of the four.
+-- OperatorRow f has its operator's value at one pair of operands, and at each of the four.
 rightAt : ℕ → Bool → Bool → Bool
 rightAt f l r = Bool·beq (rowValue (row f) l r) (operatorValue f l r)
 

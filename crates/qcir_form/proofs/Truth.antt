@@ -24,7 +24,7 @@ use Rattle.formula.proofs.Unfolding.{value-node}
 use Rattle.qcir.specs.File.{Literal, Gate, Line, lineVariables}
 use Rattle.qcir.specs.Meaning.{Meaning, literalValue, meaning, prefixValue, fileTruth}
 use Rattle.qcir_form.specs.Rows.{RowKind, constant-row, left-row, right-row, and-row, xor-row, row}
-use Rattle.qcir_form.specs.File.{rowOperands, usedOperands, written, turned, rowHasGate, hasGate, rowLiteral, nodeLiteral, nodeGates, isGate, gateNumber, nodeLiteralOf, gatesOf, openNames, listLines, prefixLines, firstGate, matrixFile, formFile}
+use Rattle.qcir_form.specs.File.{rowOperands, usedOperands, written, turned, rowHasGate, hasGate, rowLiteral, nodeLiteral, nodeGates, isGate, gateNumber, nodeLiteralOf, gatesOf, freeNames, listLines, prefixLines, firstGate, matrixFile, formFile}
 use Rattle.qcir_form.specs.Laws.{FileTruth}
 use Rattle.qcir_form.proofs.Numbers.{gate-first, gate-grows, gate-rises, numbers-named, names-below, MatrixNode, matrix-node}
 use Rattle.qcir_form.proofs.TruthNodes.{literal-kept, gates-kept, no-gates, node-says}
@@ -192,7 +192,7 @@ unfolding fileTruth formFile matrixFile formTruth matrixTruth tableOf
 file-truth nodes most ns ps xs a v =
     let t : Table = tableOf ns [] in
     let bs : List Block = blocksOf ps xs in
-    let first : ℕ = firstGate (openNames t bs) (prefixLines bs) in
+    let first : ℕ = firstGate (freeNames t bs) (prefixLines bs) in
     prefix-value bs (literalValue (meaning start (gatesOf t first)) (nodeLiteralOf t first (t .size - 1))) v
     ∙ ap (λ f. quantify bs f v)
     (fun-ext (matrix-value t (a .matrix .proper .tree) first most (matrix-node nodes most ns (a .matrix)) (names-below t bs)))

@@ -137,8 +137,8 @@ unfoldable pub occurs : Table → ℕ → Bool
 occurs t x = someBelow (λ i. written t i && standsAt x (t .node i)) (t .size)
 
 -- "the open names (ascending) that occur in a gate or output line written": at a variable node, and in no prefix block.
-unfoldable pub openNames : Table → List Block → List ℕ
-openNames t bs = passing (λ x. occurs t x && not (binds bs x)) (suc (highestVariable t))
+unfoldable pub freeNames : Table → List Block → List ℕ
+freeNames t bs = passing (λ x. occurs t x && not (binds bs x)) (suc (highestVariable t))
 
 -- "one line for each nonempty block"
 unfoldable pub prefixLines : List Block → List Line
@@ -151,7 +151,7 @@ firstGate names lines = suc (maximum (names ++ numbersOf (prefixVariables lines)
 -- The file of a matrix under prefix blocks.
 unfoldable pub matrixFile : Table → List Block → File
 matrixFile t bs =
-    let names = openNames t bs in
+    let names = freeNames t bs in
     let lines = prefixLines bs in
     let first = firstGate names lines in
     record {

@@ -50,9 +50,9 @@ abbrev pub FileUpTo : Type 0
 FileUpTo = OfEveryFile (λ f ns ps xs most. namesUpTo (most + nodeCount ns) (fileSigns f) ≡ true)
 
 -- Its free line is what the request says, "the open names (ascending) that occur in a gate or output line written": ascending and once each,
--- the names that the output or an input has, but those of gates and those that a prefix block binds (open-occur, proofs/Occurs.antt).
-abbrev pub OpenOccur : Type 0
-OpenOccur =
+-- the names that the output or an input has, but those of gates and those that a prefix block binds (free-occur, proofs/Occurs.antt).
+abbrev pub FreeOccur : Type 0
+FreeOccur =
     OfEveryFile (λ f ns ps xs most. ListOf
     (λ x. mem x (usedNumbers f) && not (mem x (numbersOf (gateNames (f .gates)))) && not (binds (blocksOf ps xs) x))
     (numbersOf (f .free)))

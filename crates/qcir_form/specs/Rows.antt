@@ -19,17 +19,17 @@ pub data RowKind : Type 0 where
   xor-row : RowKind
 
 -- A row: the gate kind, and whether the left operand, the right one and the whole have a minus sign.
-pub record Row : Type 0 where
+pub record OperatorRow : Type 0 where
   pub kind : RowKind
   pub left : Bool
   pub right : Bool
   pub whole : Bool
 
-abbrev pub fixed : RowKind → Bool → Bool → Bool → Row
+abbrev pub fixed : RowKind → Bool → Bool → Bool → OperatorRow
 fixed kind left right whole = record { kind = kind; left = left; right = right; whole = whole }
 
 -- The rows of truth tables 0 to 15.
-unfoldable pub rows : List Row
+unfoldable pub rows : List OperatorRow
 rows =
     fixed constant-row false false true
     ∷ fixed and-row true true false
@@ -49,13 +49,13 @@ rows =
     ∷ fixed constant-row false false false
     ∷ []
 
--- Row f of a list of rows; past its end, the constant 1.
-unfoldable pub rowIn : List Row → ℕ → Row
+-- OperatorRow f of a list of rows; past its end, the constant 1.
+unfoldable pub rowIn : List OperatorRow → ℕ → OperatorRow
 rowIn [] f = fixed constant-row false false false
 rowIn (r ∷ rs) zero = r
 rowIn (r ∷ rs) (suc f) = rowIn rs f
 
-unfoldable pub row : ℕ → Row
+unfoldable pub row : ℕ → OperatorRow
 row f = rowIn rows f
 
 -- What a row's gate says of the values of its operands, without the sign on the whole. An `and()` gate is 1.
@@ -67,7 +67,7 @@ kindValue and-row l r = l && r
 kindValue xor-row l r = xor l r
 
 -- A minus sign takes the other value.
-unfoldable pub rowValue : Row → Bool → Bool → Bool
+unfoldable pub rowValue : OperatorRow → Bool → Bool → Bool
 rowValue w l r = xor (w .whole) (kindValue (w .kind) (xor (w .left) l) (xor (w .right) r))
 
 -- The rule of the rows: each has its operator's value (row-rule, proofs/Rows.antt).

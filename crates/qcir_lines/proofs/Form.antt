@@ -15,11 +15,11 @@ use Rattle.qcir_text.specs.Put.{Put}
 use Rattle.qcir_text.specs.Pieces.{named, literalOf}
 use Rattle.qcir_text.proofs.Put.{put-then, put-as}
 use Rattle.qcir_text.proofs.Files.{file-text}
-use Rattle.qcir_form.specs.File.{nodeLiteralOf, openNames, prefixLines, firstGate, matrixFile, formFile, formText}
+use Rattle.qcir_form.specs.File.{nodeLiteralOf, freeNames, prefixLines, firstGate, matrixFile, formFile, formText}
 use Rattle.qcir_form.proofs.Written.{written-root}
 use Rattle.qcir_form.proofs.Room.{text-short}
 use Rattle.qcir_literals.specs.Literals.{Filled}
-use Rattle.qcir_lines.specs.Lines.{textBound, OpenFlags, flaggedBelow, blocksText, gatesText, Writable}
+use Rattle.qcir_lines.specs.Lines.{textBound, FreeFlags, flaggedBelow, blocksText, gatesText, Writable}
 use Rattle.qcir_lines.proofs.Free.{flagged-open}
 use Rattle.qcir_lines.proofs.Prefix.{prefix-text, form-writable}
 use Rattle.qcir_lines.proofs.Gates.{gates-text}
@@ -41,8 +41,8 @@ abbrev pub gatesPiece : List ℕ → List ℕ → List ℕ
 gatesPiece ns literals = gatesText ns literals (nodeCount ns)
 
 module _ {ns ps xs names : List ℕ} {highest : ℕ} {literals : List ℕ} (form : AcceptedForm ns ps xs)
-    (flags : OpenFlags (tableOf ns []) (blocksOf ps xs) names highest)
-    (held : Filled (tableOf ns []) (firstGate (openNames (tableOf ns []) (blocksOf ps xs)) (prefixLines (blocksOf ps xs))) literals) where
+    (flags : FreeFlags (tableOf ns []) (blocksOf ps xs) names highest)
+    (held : Filled (tableOf ns []) (firstGate (freeNames (tableOf ns []) (blocksOf ps xs)) (prefixLines (blocksOf ps xs))) literals) where
   abbrev t : Table
   t = tableOf ns []
 
@@ -50,9 +50,9 @@ module _ {ns ps xs names : List ℕ} {highest : ℕ} {literals : List ℕ} (form
   bs = blocksOf ps xs
 
   abbrev first : ℕ
-  first = firstGate (openNames t bs) (prefixLines bs)
+  first = firstGate (freeNames t bs) (prefixLines bs)
 
-  free-is : signsText (freeSigns (map named (openNames t bs))) ≡ freePiece names highest
+  free-is : signsText (freeSigns (map named (freeNames t bs))) ≡ freePiece names highest
   free-is = ap (λ ys. signsText (freeSigns (map named ys))) (sym (flagged-open t bs names highest flags))
 
   output-is : signsText (outputSigns (nodeLiteralOf t first (t .size - 1))) ≡ outputPiece ns literals

@@ -20,9 +20,9 @@ use Rattle.qcir_text.specs.Put.{Put}
 use Rattle.qcir_text.specs.Pieces.{named, openText}
 use Rattle.qcir_text.proofs.Put.{put-none, put-then, put-as}
 use Rattle.qcir_text.proofs.Texts.{end-signs, free-text, open-more}
-use Rattle.qcir_form.specs.File.{occurs, openNames}
+use Rattle.qcir_form.specs.File.{occurs, freeNames}
 use Rattle.qcir_form.proofs.Numbers.{open-lists}
-use Rattle.qcir_lines.specs.Lines.{OpenFlags, flaggedBelow, nameText}
+use Rattle.qcir_lines.specs.Lines.{FreeFlags, flaggedBelow, nameText}
 
 -- What stands of the free line before its end.
 abbrev pub openLine : List ℕ → ℕ → List ℕ
@@ -110,12 +110,12 @@ module _ (first : Bool) (flag x : ℕ) where
   name-next e d = pick-yes (eqb flag 2) _ _ (eq-eqb flag 2 e) ∙ pick-no first _ _ d
 
 -- The names that are flagged are the open ones that occur.
-pub flagged-open : (t : Table) (bs : List Block) (names : List ℕ) (highest : ℕ) → OpenFlags t bs names highest
-    → flaggedBelow names (suc highest) ≡ openNames t bs
+pub flagged-open : (t : Table) (bs : List Block) (names : List ℕ) (highest : ℕ) → FreeFlags t bs names highest
+    → flaggedBelow names (suc highest) ≡ freeNames t bs
 unfolding flaggedBelow
 flagged-open t bs names highest fs =
     let flag : ℕ → Bool = λ x. eqb (getD names x 0) 2 in
     let l = passing-lists flag (suc highest) (λ x e. omega (arith, fs .above x (sym (fs .flagged x) ∙ e))) in
-    one-list (λ x. occurs t x && not (binds bs x)) (passing flag (suc highest)) (openNames t bs)
+    one-list (λ x. occurs t x && not (binds bs x)) (passing flag (suc highest)) (freeNames t bs)
     (record { members = λ x. l .members x ∙ fs .flagged x; ascending = l .ascending })
     (open-lists t bs)

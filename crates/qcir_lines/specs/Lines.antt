@@ -25,7 +25,7 @@ abbrev pub textBound : ℕ
 textBound = 4194304
 
 -- The flag 2 stands at each name that is open and occurs in a gate or output line, and at no other name. None of them is above `highest`.
-pub record OpenFlags (t : Table) (bs : List Block) (names : List ℕ) (highest : ℕ) : Type 0 where
+pub record FreeFlags (t : Table) (bs : List Block) (names : List ℕ) (highest : ℕ) : Type 0 where
   pub size : length names ≡ 77824
   pub flagged : (x : ℕ) → eqb (getD names x 0) 2 ≡ (occurs t x && not (binds bs x))
   pub above : (x : ℕ) → (occurs t x && not (binds bs x)) ≡ true → x ≤ highest

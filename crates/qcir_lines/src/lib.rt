@@ -16,12 +16,12 @@ ghost use Rattle.qcir_text.specs.Text.{signsText};
 ghost use Rattle.qcir_text.specs.Put.{Put};
 ghost use Rattle.qcir_text.specs.Pieces.{named, literalOf, numberBound, lastLine, AllWritable};
 ghost use Rattle.qcir_form.specs.Rows.{RowKind};
-ghost use Rattle.qcir_form.specs.File.{rowGates, openNames, prefixLines, firstGate, formText};
+ghost use Rattle.qcir_form.specs.File.{rowGates, freeNames, prefixLines, firstGate, formText};
 ghost use Rattle.qcir_rows.specs.Codes.{kindCode, rowTable};
 ghost use Rattle.qcir_literals.specs.Literals.{Filled};
 ghost use Rattle.qcir_lines.specs.Lines.{
   lastStart,
-  OpenFlags,
+  FreeFlags,
   flaggedBelow,
   nameText,
   blockText,
@@ -31,7 +31,7 @@ ghost use Rattle.qcir_lines.specs.Lines.{
   gatesText,
 };
 use form_check::PREFIX_WIDTH;
-use qcir_marks::OPEN;
+use qcir_marks::FREE;
 use qcir_rows::AND_ROW;
 use qcir_rows::LEFT_ROW;
 use qcir_rows::NAME;
@@ -54,9 +54,9 @@ pub fn put_text(
     text: &mut [u8],
 ) -> usize
     requires { ⌜ AcceptedForm (now nodes) (now prefix) (now variables) ⌝ }
-    requires { ⌜ OpenFlags (tableOf (now nodes) []) (blocksOf (now prefix) (now variables)) (now names) highest ⌝ }
+    requires { ⌜ FreeFlags (tableOf (now nodes) []) (blocksOf (now prefix) (now variables)) (now names) highest ⌝ }
     requires { ⌜ Filled (tableOf (now nodes) [])
-        (firstGate (openNames (tableOf (now nodes) []) (blocksOf (now prefix) (now variables)))
+        (firstGate (freeNames (tableOf (now nodes) []) (blocksOf (now prefix) (now variables)))
         (prefixLines (blocksOf (now prefix) (now variables)))) (now literals) ⌝ }
     requires { ⌜ length (now literals) ≡ 40960 ⌝ }
     ensures { λ r. ⌜ Put (now (text .entry)) 0
@@ -80,7 +80,7 @@ fn put_free(names: &[u8], highest: u32, text: &mut [u8], at: usize) -> usize
     let mut next = at;
     let mut x: u32 = 0;
     while x <= highest {
-        next = put_open_name(names[x as usize], x, text, next, next == at);
+        next = put_free_name(names[x as usize], x, text, next, next == at);
         x += 1;
     }
     if next == at {
@@ -90,12 +90,12 @@ fn put_free(names: &[u8], highest: u32, text: &mut [u8], at: usize) -> usize
 }
 
 // Puts a name into the free line if its flag is 2.
-fn put_open_name(flag: u8, x: u32, text: &mut [u8], at: usize, first: bool) -> usize
+fn put_free_name(flag: u8, x: u32, text: &mut [u8], at: usize, first: bool) -> usize
     requires { ⌜ (x < numberBound) × (at ≤ lastLine) ⌝ }
     ensures { λ r. ⌜ Put (now (text .entry)) at (nameText first flag x) (now (text .exit)) r ⌝ }
     ensures { λ r. ⌜ r ≤ at + 11 ⌝ }
 {
-    if flag != OPEN {
+    if flag != FREE {
         return at;
     }
     if first {

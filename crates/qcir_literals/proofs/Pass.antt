@@ -20,7 +20,7 @@ use Rattle.qcir_text.specs.Pieces.{literalOf, numberBound}
 use Rattle.qcir_form.specs.File.{usedOperands, hasGate, nodeLiteral, written, isGate, gateNumber, nodeLiteralOf}
 use Rattle.qcir_form.proofs.Written.{written-down, written-from, used-lower, literal-used, literal-step}
 use Rattle.qcir_literals.proofs.Codes.{digit-low}
-use Rattle.qcir_literals.specs.Literals.{Holds, FilledTo, Filled, WordFor, NodeFilled, skipped, stored}
+use Rattle.qcir_literals.specs.Literals.{HoldsLiteral, FilledTo, Filled, WordFor, NodeFilled, skipped, stored}
 
 -- Gate numbers.
 module _ (t : Table) (first : ℕ) where
@@ -82,7 +82,7 @@ module _ (t : Table) (tr : Tree t) (first : ℕ) where
           gate-is = f .gate-is ∙ sym (gate-next t first i ∙ rw off (add-zero (gateNumber t first i)));
         }
       where
-        go : (j : ℕ) → j < suc i → written t j ≡ true → written t i ≡ false → Is (eqb j i) → Holds (getD ls j 0) (nodeLiteralOf t first j)
+        go : (j : ℕ) → j < suc i → written t j ≡ true → written t i ≡ false → Is (eqb j i) → HoldsLiteral (getD ls j 0) (nodeLiteralOf t first j)
         go j l w off (is-true e) = clash w (ap (written t) (eqb-true j i e) ∙ off)
         go j l w off (is-false e) = let d = eqb-false j i e in f .filled j (omega arith) w
 
@@ -92,7 +92,7 @@ module _ (t : Table) (tr : Tree t) (first : ℕ) where
     unfolding isGate nodeLiteralOf
     store-next n word v =
         record {
-          filled = λ j l w. set-cases ls i word 0 room (λ x. Holds x (nodeLiteralOf t first j)) j (λ e. subst (λ m. Holds word (nodeLiteralOf t first m)) (sym e) own) (λ d. f .filled j (omega arith) w);
+          filled = λ j l w. set-cases ls i word 0 room (λ x. HoldsLiteral x (nodeLiteralOf t first j)) j (λ e. subst (λ m. HoldsLiteral word (nodeLiteralOf t first m)) (sym e) own) (λ d. f .filled j (omega arith) w);
           blank = λ j w. set-cases ls i word 0 room (λ x. x ≡ 0) j (λ e. clash on (ap (written t) (sym e) ∙ w)) (λ d. f .blank j w);
           ahead = λ j l. set-cases ls i word 0 room (λ x. x ≡ digit (written t j)) j (λ e. absurd (omega arith)) (λ d. f .ahead j (omega arith));
           low = λ j. set-cases ls i word 0 room (λ x. x < numberBound) j (λ e. v .low) (λ d. f .low j);
@@ -102,10 +102,10 @@ module _ (t : Table) (tr : Tree t) (first : ℕ) where
         on : written t i ≡ true
         on = mark-on (written t i) (λ z. n (f .ahead i (omega arith) ∙ z))
 
-        operand : (a : ℕ) → mem a (usedOperands (t .node i)) ≡ true → Holds (getD ls a 0) (nodeLiteralOf t first a)
+        operand : (a : ℕ) → mem a (usedOperands (t .node i)) ≡ true → HoldsLiteral (getD ls a 0) (nodeLiteralOf t first a)
         operand a m = f .filled a (used-lower t tr i a h m) (written-down t tr i a h on m)
 
-        own : Holds word (nodeLiteralOf t first i)
+        own : HoldsLiteral word (nodeLiteralOf t first i)
         own =
             record {
               literal-is =

@@ -14,13 +14,13 @@ use Rattle.qcir_text.specs.Pieces.{literalOf, numberBound}
 use Rattle.qcir_form.specs.File.{usedOperands, hasGate, nodeLiteral, written, gateNumber, nodeLiteralOf}
 
 -- A word holds the literal.
-pub record Holds (word : ℕ) (l : Literal) : Type 0 where
+pub record HoldsLiteral (word : ℕ) (l : Literal) : Type 0 where
   pub literal-is : literalOf word ≡ l
   pub real : 1 < word
 
 -- The literals of the nodes below i, the first gate's number being this one; nodes from i up are marked if they are written.
 pub record FilledTo (t : Table) (first i : ℕ) (literals : List ℕ) (gate : ℕ) : Type 0 where
-  pub filled : (j : ℕ) → j < i → written t j ≡ true → Holds (getD literals j 0) (nodeLiteralOf t first j)
+  pub filled : (j : ℕ) → j < i → written t j ≡ true → HoldsLiteral (getD literals j 0) (nodeLiteralOf t first j)
   pub blank : (j : ℕ) → written t j ≡ false → getD literals j 0 ≡ 0
   pub ahead : (j : ℕ) → i ≤ j → getD literals j 0 ≡ digit (written t j)
   pub low : (j : ℕ) → getD literals j 0 < numberBound
@@ -28,7 +28,7 @@ pub record FilledTo (t : Table) (first i : ℕ) (literals : List ℕ) (gate : �
 
 -- The literals of all nodes.
 pub record Filled (t : Table) (first : ℕ) (literals : List ℕ) : Type 0 where
-  pub filled : (j : ℕ) → written t j ≡ true → Holds (getD literals j 0) (nodeLiteralOf t first j)
+  pub filled : (j : ℕ) → written t j ≡ true → HoldsLiteral (getD literals j 0) (nodeLiteralOf t first j)
   pub blank : (j : ℕ) → written t j ≡ false → getD literals j 0 ≡ 0
   pub low : (j : ℕ) → getD literals j 0 < numberBound
 

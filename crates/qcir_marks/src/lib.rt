@@ -26,7 +26,7 @@ use qcir_rows::NAME;
 use qcir_rows::RIGHT_ROW;
 
 // The flag of a name that occurs in a gate or output line and had none.
-pub const OPEN: u8 = 2;
+pub const FREE: u8 = 2;
 
 // Marks the nodes that are written, and gives each name at one of them the flag 2 if it has none. The
 // result is the highest name that got one, 0 if none did.
@@ -129,6 +129,6 @@ fn flag_name(names: &mut [u8], x: u32, highest: u32) -> u32
     if names[at] > 0 {
         return highest;
     }
-    names[at] = OPEN;
+    names[at] = FREE;
     form_check::higher(highest, x)
 }

@@ -4,7 +4,7 @@ pub mod Stored
 pub mod Lines
 pub mod Matrix
 pub mod FormLines
-pub mod OpenNames
+pub mod FreeNames
 pub mod PrefixLines
 pub mod RoundTrip
 pub mod Passes

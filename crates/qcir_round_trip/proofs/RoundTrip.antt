@@ -13,7 +13,7 @@ use Rattle.acceptance.specs.Limits.{matrixWithin}
 use Rattle.form_check.specs.Accepted.{AcceptedFormWithin}
 use Rattle.qcir.specs.File.{File}
 use Rattle.qcir.specs.Table.{matrixWords, lineBlock, filePrefix, filePrefixWords, filePrefixList}
-use Rattle.qcir_form.specs.File.{written, named, nodeLiteralOf, gatesOf, occurs, openNames, prefixLines, firstGate, matrixFile, formFile}
+use Rattle.qcir_form.specs.File.{written, named, nodeLiteralOf, gatesOf, occurs, freeNames, prefixLines, firstGate, matrixFile, formFile}
 use Rattle.qcir_form.proofs.PlacedForm.{firstOf, form-tree, form-plain}
 use Rattle.qcir_form.proofs.Placed.{file-placed}
 use Rattle.qcir_form.proofs.UsedOnce.{file-used-once}
@@ -21,7 +21,7 @@ use Rattle.qcir_round_trip.specs.Laws.{RoundTrip}
 use Rattle.qcir_round_trip.proofs.Shapes.{FileFrom}
 use Rattle.qcir_round_trip.proofs.Matrix.{Plain, matrix-plain, matrix-whole, stored-written, stored-tree, stored-no-block, gates-again, output-again}
 use Rattle.qcir_round_trip.proofs.FormLines.{output-unplaced, gates-shapes}
-use Rattle.qcir_round_trip.proofs.OpenNames.{MatrixTree, same-occurs, same-open}
+use Rattle.qcir_round_trip.proofs.FreeNames.{MatrixTree, same-occurs, same-open}
 use Rattle.qcir_round_trip.proofs.PrefixLines.{lines-again, binds-again}
 
 module _ (nodes most : ℕ) (ns ps xs : List ℕ) (form : AcceptedFormWithin (matrixWithin nodes most) ns ps xs) where
@@ -92,9 +92,9 @@ module _ (nodes most : ℕ) (ns ps xs : List ℕ) (form : AcceptedFormWithin (ma
   pub names-occur : (x : ℕ) → occurs again x ≡ occurs table x
   names-occur = same-occurs again table again-matrix form-matrix first output-is gates-are
 
-  names-are : openNames again blocksAgain ≡ openNames table blocks
+  names-are : freeNames again blocksAgain ≡ freeNames table blocks
   names-are =
-      ap (openNames again) blocks-are
+      ap (freeNames again) blocks-are
       ∙ same-open again table again-matrix form-matrix first output-is gates-are
       (map lineBlock (prefixLines blocks)) blocks (binds-again blocks)
 

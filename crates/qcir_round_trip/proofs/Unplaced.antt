@@ -8,7 +8,7 @@ use Rattle.formula.specs.Words.{tableOf}
 use Rattle.formula.specs.Form.{Block, blocksOf}
 use Rattle.qcir.specs.File.{Gate}
 use Rattle.qcir.specs.Positions.{unplacedName, unplacedLiteral, unplacedGate, unplacedLine, unplaced}
-use Rattle.qcir_form.specs.File.{named, openNames, listLines, prefixLines, matrixFile, formFile}
+use Rattle.qcir_form.specs.File.{named, freeNames, listLines, prefixLines, matrixFile, formFile}
 use Rattle.qcir_form.proofs.PlacedForm.{firstOf}
 use Rattle.qcir_round_trip.proofs.Shapes.{Shape, one, both, differ, Shapes, no-gate, a-gate}
 use Rattle.qcir_round_trip.proofs.FormLines.{output-unplaced, gates-shapes}
@@ -46,7 +46,7 @@ matrix-unplaced t bs =
     let first = firstOf t bs in
     λ i.
     record {
-      free = names-unplaced (openNames t bs) i;
+      free = names-unplaced (freeNames t bs) i;
       prefix = lines-unplaced bs i;
       output = sym (output-unplaced t first (t .size - 1)) i;
       gates = gates-unplaced first _ (gates-shapes t first) i;

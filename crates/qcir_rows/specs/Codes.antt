@@ -22,11 +22,11 @@ abbrev pub nameCode : ℕ
 nameCode = 5
 
 -- A row: a minus sign is 1.
-unfoldable pub rowCode : Rattle.qcir_form.specs.Rows.Row → Row
+unfoldable pub rowCode : Rattle.qcir_form.specs.Rows.OperatorRow → Row
 rowCode r = record { kind = kindCode (r .kind); left = digit (r .left); right = digit (r .right); whole = digit (r .whole) }
 
 -- The sixteen rows, four numbers each.
-unfoldable pub rowNumbers : Rattle.qcir_form.specs.Rows.Row → List ℕ
+unfoldable pub rowNumbers : Rattle.qcir_form.specs.Rows.OperatorRow → List ℕ
 rowNumbers r = kindCode (r .kind) ∷ digit (r .left) ∷ digit (r .right) ∷ digit (r .whole) ∷ []
 
 unfoldable pub rowTable : List (List ℕ)

@@ -16,10 +16,10 @@ use Rattle.formula.specs.Words.{tableOf}
 use Rattle.formula.specs.Form.{Block, blocksOf, binds}
 use Rattle.acceptance.specs.Verdict.{isNumberTo}
 use Rattle.form_check.specs.Accepted.{AcceptedForm, prefixNames}
-use Rattle.qcir_form.specs.File.{occurs, openNames, prefixLines, firstGate}
+use Rattle.qcir_form.specs.File.{occurs, freeNames, prefixLines, firstGate}
 use Rattle.qcir_form.proofs.Numbers.{prefix-numbers, occurs-from, open-lists, matrix-node}
 use Rattle.qcir_marks.specs.Marks.{flagWith, Marked}
-use Rattle.qcir_lines.specs.Lines.{OpenFlags}
+use Rattle.qcir_lines.specs.Lines.{FreeFlags}
 
 -- A flag is 2 at a name that occurs and was not bound.
 flag-open : (bound found : Bool) → eqb (flagWith (digit bound) found) 2 ≡ (found && not bound)
@@ -76,7 +76,7 @@ module _ (ns ps xs before marks names : List ℕ) (last : ℕ) (a : AcceptedForm
           let o = occurs-from (tableOf ns []) last (and-left (occurs (tableOf ns []) last) (not (binds bs last)) (last-open (ltb-true 0 last e))) in
           number-low last (rw (o .3) at (matrix-node 40960 77823 ns (a .matrix) (o .0) (o .1)))
 
-  pub open-flags : length names ≡ 77824 → OpenFlags (tableOf ns []) bs names last
+  pub open-flags : length names ≡ 77824 → FreeFlags (tableOf ns []) bs names last
   unfolding is-open
   open-flags size =
       record {
@@ -88,24 +88,24 @@ module _ (ns ps xs before marks names : List ℕ) (last : ℕ) (a : AcceptedForm
         below = omega (arith, last-low);
       }
 
-  open-highest : maximum (openNames (tableOf ns []) bs) ≡ last
+  open-highest : maximum (freeNames (tableOf ns []) bs) ≡ last
   unfolding is-open
   open-highest =
       let list = open-lists (tableOf ns []) bs in
-      let up : maximum (openNames (tableOf ns []) bs) ≤ last = maximum-le _ last (λ x h. open-low x (sym (list .members x) ∙ h)) in
+      let up : maximum (freeNames (tableOf ns []) bs) ≤ last = maximum-le _ last (λ x h. open-low x (sym (list .members x) ∙ h)) in
       go (look (ltb 0 last)) up
     where
-      go : Is (ltb 0 last) → maximum (openNames (tableOf ns []) bs) ≤ last → maximum (openNames (tableOf ns []) bs) ≡ last
+      go : Is (ltb 0 last) → maximum (freeNames (tableOf ns []) bs) ≤ last → maximum (freeNames (tableOf ns []) bs) ≡ last
       go (is-false e) up = omega (arith, up, ltb-false 0 last e)
       go (is-true e) up =
           let list = open-lists (tableOf ns []) bs in
-          omega (arith, up, maximum-ge (openNames (tableOf ns []) bs) last (list .members last ∙ last-open (ltb-true 0 last e)))
+          omega (arith, up, maximum-ge (freeNames (tableOf ns []) bs) last (list .members last ∙ last-open (ltb-true 0 last e)))
 
   -- The first gate's number is one above both.
-  pub first-gate : (highest : ℕ) → highest ≡ maximum (prefixNames bs) → firstGate (openNames (tableOf ns []) bs) (prefixLines bs) ≡ 1 + max last highest
+  pub first-gate : (highest : ℕ) → highest ≡ maximum (prefixNames bs) → firstGate (freeNames (tableOf ns []) bs) (prefixLines bs) ≡ 1 + max last highest
   unfolding firstGate
   first-gate highest e =
-      let names = openNames (tableOf ns []) bs in
+      let names = freeNames (tableOf ns []) bs in
       let joined = ap (λ (ys : List ℕ). maximum (names ++ ys)) (prefix-numbers bs) ∙ maximum-append names (prefixNames bs) in
       omega (arith, joined, open-highest, e)
 

@@ -28,7 +28,7 @@ use Rattle.qcir_form.specs.Promise.{TextOf}
 use Rattle.qcir_form.proofs.Room.{text-room}
 use Rattle.qcir_text.specs.Put.{Put}
 use Rattle.qcir_round_trip.proofs.Theorem.{text-written}
-use Rattle.qcir_writer.specs.Writing.{writeOutcome, answerOf, after, TextWritten, RoomEnough}
+use Rattle.qcir_writer.specs.Writing.{writeOutcome, answerOf, after, TextWritten, RoomSuffices}
 
 no-elements : (l : List ℕ) → length l ≡ 0 → l ≡ []
 no-elements [] e = refl
@@ -130,8 +130,8 @@ module _ (ns ps xs before : List ℕ) where
           subst (λ (o : Outcome ℕ (List ℕ)). TextOf ns ps xs (take (o .answer .sizes) (o .buffers))) (sym e)
           (subst (TextOf ns ps xs) (sym (start-written h)) (text-written ns ps xs a))
 
-  pub outcome-room : RoomEnough ns ps xs before (writeOutcome ns ps xs before)
-  unfolding RoomEnough refused refusal done accepted written text
+  pub outcome-room : RoomSuffices ns ps xs before (writeOutcome ns ps xs before)
+  unfolding RoomSuffices refused refusal done accepted written text
   outcome-room = go way
     where
       number : Outcome ℕ (List ℕ) → ℕ
@@ -145,5 +145,5 @@ module _ (ns ps xs before : List ℕ) where
 
   -- An outcome that is the defined one keeps what is promised.
   pub promised : (o : Outcome ℕ (List ℕ)) → o ≡ writeOutcome ns ps xs before
-      → (o ≡ writeOutcome ns ps xs before) × (TextWritten ns ps xs o × RoomEnough ns ps xs before o)
-  promised o e = (e, (subst (TextWritten ns ps xs) (sym e) outcome-written, subst (RoomEnough ns ps xs before) (sym e) outcome-room))
+      → (o ≡ writeOutcome ns ps xs before) × (TextWritten ns ps xs o × RoomSuffices ns ps xs before o)
+  promised o e = (e, (subst (TextWritten ns ps xs) (sym e) outcome-written, subst (RoomSuffices ns ps xs before) (sym e) outcome-room))

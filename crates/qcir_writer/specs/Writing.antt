@@ -37,6 +37,6 @@ unfoldable pub TextWritten : List ℕ → List ℕ → List ℕ → Outcome ℕ 
 TextWritten ns ps xs o = o .answer .verdict .number ≡ 0 → TextOf ns ps xs (take (o .answer .sizes) (o .buffers))
 
 -- A buffer with the promised room is never too short.
-unfoldable pub RoomEnough : List ℕ → List ℕ → List ℕ → List ℕ → Outcome ℕ (List ℕ) → Type 0
-RoomEnough ns ps xs before o =
+unfoldable pub RoomSuffices : List ℕ → List ℕ → List ℕ → List ℕ → Outcome ℕ (List ℕ) → Type 0
+RoomSuffices ns ps xs before o =
     o .answer .verdict .number ≡ 9 → length before < roomFor (nodeCount ns) (length ps / prefixWidth) (length xs)

@@ -8,14 +8,14 @@ ghost use Rattle.formula.specs.Truth.{digit};
 ghost use Rattle.formula.specs.Words.{tableOf};
 ghost use Rattle.formula.specs.Form.{blocksOf, binds};
 ghost use Rattle.form_check.specs.Accepted.{AcceptedForm, prefixNames};
-ghost use Rattle.qcir_form.specs.File.{openNames, prefixLines, firstGate};
+ghost use Rattle.qcir_form.specs.File.{freeNames, prefixLines, firstGate};
 ghost use Rattle.qcir_literals.specs.Literals.{Filled};
-ghost use Rattle.qcir_lines.specs.Lines.{OpenFlags};
+ghost use Rattle.qcir_lines.specs.Lines.{FreeFlags};
 ghost use Rattle.qcir_writer.specs.Writing.{
   writeOutcome,
   after,
   TextWritten,
-  RoomEnough,
+  RoomSuffices,
 };
 use form_check::NAMES;
 use form_check::NODES;
@@ -40,7 +40,7 @@ pub fn write(nodes: &[u32], prefix: &[u32], variables: &[u32], text: &mut [u8]) 
     ensures written { λ r.
         ⌜ TextWritten (now (nodes .entry)) (now (prefix .entry)) (now (variables .entry)) (after r (now (text .exit))) ⌝ }
     ensures room { λ r.
-        ⌜ RoomEnough (now (nodes .entry)) (now (prefix .entry)) (now (variables .entry)) (now (text .entry))
+        ⌜ RoomSuffices (now (nodes .entry)) (now (prefix .entry)) (now (variables .entry)) (now (text .entry))
         (after r (now (text .exit))) ⌝ }
 {
     let mut names = [0u8; NAMES];
@@ -90,9 +90,9 @@ fn write_lines(
     text: &mut [u8],
 ) -> Answer
     requires { ⌜ AcceptedForm (now nodes) (now prefix) (now variables) ⌝ }
-    requires { ⌜ OpenFlags (tableOf (now nodes) []) (blocksOf (now prefix) (now variables)) (now names) last ⌝ }
+    requires { ⌜ FreeFlags (tableOf (now nodes) []) (blocksOf (now prefix) (now variables)) (now names) last ⌝ }
     requires { ⌜ Filled (tableOf (now nodes) [])
-        (firstGate (openNames (tableOf (now nodes) []) (blocksOf (now prefix) (now variables)))
+        (firstGate (freeNames (tableOf (now nodes) []) (blocksOf (now prefix) (now variables)))
         (prefixLines (blocksOf (now prefix) (now variables)))) (now literals) ⌝ }
     requires { ⌜ length (now literals) ≡ 40960 ⌝ }
     ensures { λ r. ⌜ after r (now (text .exit))

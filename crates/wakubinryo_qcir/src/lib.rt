@@ -4,7 +4,7 @@ ghost use mathlib.Core.Path.{_≡_};
 ghost use Rattle.refusals.specs.Verdict.{Plain};
 ghost use Rattle.qcir.specs.Reading.{limits, buffers, Reading, Only, TableWritten};
 ghost use Rattle.qcir_reader.specs.Reads.{answerOf};
-ghost use Rattle.qcir_writer.specs.Writing.{answerOf as writingOf, writeOutcome, TextWritten, RoomEnough};
+ghost use Rattle.qcir_writer.specs.Writing.{answerOf as writingOf, writeOutcome, TextWritten, RoomSuffices};
 ghost use Rattle.wakubinryo_qcir.specs.Words.{writtenAnswer, readOutcome, textAnswer, textOutcome};
 use qcir_reader::Answer;
 
@@ -59,7 +59,7 @@ pub extern "C" fn wakubinryo_write_qcir(
         ⌜ TextWritten (now (nodes .entry)) (now (prefix .entry)) (now (variables .entry))
         (textOutcome (now (answer .exit)) (now (text .exit))) ⌝ }
     ensures room { λ _.
-        ⌜ RoomEnough (now (nodes .entry)) (now (prefix .entry)) (now (variables .entry)) (now (text .entry))
+        ⌜ RoomSuffices (now (nodes .entry)) (now (prefix .entry)) (now (variables .entry)) (now (text .entry))
         (textOutcome (now (answer .exit)) (now (text .exit))) ⌝ }
 {
     put_text_answer(answer, qcir_writer::write(nodes, prefix, variables, text));

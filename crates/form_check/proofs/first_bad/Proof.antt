@@ -11,14 +11,14 @@ use borrow.Author.Tests.{not-true, not-false}
 use Rattle.lists.proofs.Search.{lowest-is, lowest-none}
 use Rattle.formula.specs.Form.{prefixWidth}
 use Rattle.form_check.specs.Verdict.{formLimits, namesBefore, badBlock}
-use Rattle.form_check.specs.Steps.{Flagged}
+use Rattle.form_check.specs.Steps.{NamesFlagged}
 use Rattle.form_check.proofs.Names.{names-none}
 use Rattle.form_check.proofs.first_bad.Statement.{statement}
 use Rattle.form_check.proofs.first_bad.Tie as tie
 
 abbrev Inv-loop : tie.InvT-loop
 Inv-loop prefix variables bound₀ highest₀ m j₀ bound highest j =
-    (j ≤ length prefix / prefixWidth) × Flagged (namesBefore prefix variables j) bound highest × ((k : ℕ) → k < j → badBlock formLimits prefix variables k ≡ false)
+    (j ≤ length prefix / prefixWidth) × NamesFlagged (namesBefore prefix variables j) bound highest × ((k : ℕ) → k < j → badBlock formLimits prefix variables k ≡ false)
 
 abbrev μ-loop : tie.MeasureT-loop
 μ-loop prefix variables bound₀ highest₀ m j₀ bound highest j = length prefix / prefixWidth - j

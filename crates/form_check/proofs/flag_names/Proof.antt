@@ -8,14 +8,14 @@ use native.Mathlib.Omega.{arith}
 use lib.ListN.{length}
 use borrow.Author.Needs.{needs}
 use borrow.Author.Tests.{not-true, not-false}
-use Rattle.form_check.specs.Steps.{Flagged}
+use Rattle.form_check.specs.Steps.{NamesFlagged}
 use Rattle.form_check.proofs.Flags.{Reached, reached-start, reached-bad, reached-next, reached-new, reached-flagged}
 use Rattle.form_check.proofs.flag_names.Statement.{statement}
 use Rattle.form_check.proofs.flag_names.Tie as tie
 
 abbrev Inv-loop : tie.InvT-loop
 Inv-loop variables bound₀ highest₀ first end k₀ bound highest k =
-    (first ≤ k) × (k ≤ end) × (length bound ≡ 77824) × ((before : List ℕ) → Flagged before bound₀ highest₀ → Reached variables before first end bound highest k)
+    (first ≤ k) × (k ≤ end) × (length bound ≡ 77824) × ((before : List ℕ) → NamesFlagged before bound₀ highest₀ → Reached variables before first end bound highest k)
 
 abbrev μ-loop : tie.MeasureT-loop
 μ-loop variables bound₀ highest₀ first end k₀ bound highest k = end - k

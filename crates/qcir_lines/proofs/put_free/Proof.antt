@@ -22,14 +22,14 @@ abbrev μ-loop : tie.MeasureT-loop
 loop-holds : tie.Need-loop-holds Inv-loop μ-loop
 loop-holds c = (omega arith, refl, omega arith, free-none _ _ _)
 
-cast-put-open-name : tie.Need-cast-put-open-name Inv-loop μ-loop
-cast-put-open-name c = search needs
+cast-put-free-name : tie.Need-cast-put-free-name Inv-loop μ-loop
+cast-put-free-name c = search needs
 
-shared-slice-read-put-open-name : tie.Need-shared-slice-read-put-open-name Inv-loop μ-loop
-shared-slice-read-put-open-name c = search needs
+shared-slice-read-put-free-name : tie.Need-shared-slice-read-put-free-name Inv-loop μ-loop
+shared-slice-read-put-free-name c = search needs
 
-put-open-name-requires : tie.Need-put-open-name-requires Inv-loop μ-loop
-put-open-name-requires c κs =
+put-free-name-requires : tie.Need-put-free-name-requires Inv-loop μ-loop
+put-free-name-requires c κs =
     let s = c .before .before .before .before .before .before in
     let l = c .before .before .before .loop in
     let h = c .before .before .loop-test .taken in
@@ -45,7 +45,7 @@ loop-again : tie.Need-loop-again Inv-loop μ-loop
 loop-again c =
     let s = c .before .before .before .before .before .before .before .before .before in
     let l = c .before .before .before .before .before .before .loop in
-    let p = c .before .before .put-open-name in
+    let p = c .before .before .put-free-name in
     (omega (arith, c .before .before .before .before .before .loop-test .taken), p .kept .1 .1 .0 ∙ l .inv .1, omega (arith, l .inv .2, p .ensures .1), free-name (s .args .names .now) (l .x) (eqb (l .next) (s .args .at)) (l .inv .3) (eqb-true (l .next) (s .args .at)) (eqb-false (l .next) (s .args .at)) (p .ensures .0))
 
 same-length : tie.Need-same-length Inv-loop μ-loop
@@ -82,9 +82,9 @@ put-free-spec =
     Inv-loop
     μ-loop
     loop-holds
-    cast-put-open-name
-    shared-slice-read-put-open-name
-    put-open-name-requires
+    cast-put-free-name
+    shared-slice-read-put-free-name
+    put-free-name-requires
     add-x
     loop-less
     loop-again

@@ -20,7 +20,7 @@ use Rattle.formula.specs.FreeVariables.{standsAt}
 use Rattle.formula.specs.Tree.{Tree}
 use Rattle.qcir.specs.File.{numbersOf}
 use Rattle.qcir.specs.Refusals.{gateNames, inputNumbers}
-use Rattle.qcir_form.specs.File.{written, nodeLiteralOf, gatesOf, occurs, openNames}
+use Rattle.qcir_form.specs.File.{written, nodeLiteralOf, gatesOf, occurs, freeNames}
 use Rattle.qcir_form.proofs.Numbers.{open-lists}
 use Rattle.qcir_form.proofs.UsedOnce.{used-count}
 
@@ -71,9 +71,9 @@ module _ (t s : Table) (p : MatrixTree t) (q : MatrixTree s) (first : ℕ)
   unfolding occurs
   same-occurs x = some-count _ (t .size) ∙ ap (ltb 0) (same-count x) ∙ sym (some-count _ (s .size))
 
-  pub same-open : (bs cs : List Block) → ((x : ℕ) → binds bs x ≡ binds cs x) → openNames t bs ≡ openNames s cs
+  pub same-open : (bs cs : List Block) → ((x : ℕ) → binds bs x ≡ binds cs x) → freeNames t bs ≡ freeNames s cs
   same-open bs cs h =
       let e : _≡_ {A = ℕ → Bool} (λ x. occurs t x && not (binds bs x)) (λ x. occurs s x && not (binds cs x)) =
       fun-ext (λ x. λ i. same-occurs x i && not (h x i)) in
-      one-list (λ x. occurs t x && not (binds bs x)) (openNames t bs) (openNames s cs) (open-lists t bs)
-      (subst (λ (p : ℕ → Bool). ListOf p (openNames s cs)) (sym e) (open-lists s cs))
+      one-list (λ x. occurs t x && not (binds bs x)) (freeNames t bs) (freeNames s cs) (open-lists t bs)
+      (subst (λ (p : ℕ → Bool). ListOf p (freeNames s cs)) (sym e) (open-lists s cs))

@@ -1,11 +1,11 @@
--- `qcir_lines::put_open_name` meets its contract.
+-- `qcir_lines::put_free_name` meets its contract.
 -- Assumes nothing.
 use native.Mathlib.Omega.{arith}
 use Rattle.qcir_text.proofs.Put.{put-none, put-as}
 use Rattle.qcir_lines.proofs.Free.{name-none, name-first, name-next}
 use borrow.Author.Needs.{needs}
-use Rattle.qcir_lines.proofs.put_open_name.Statement.{statement}
-use Rattle.qcir_lines.proofs.put_open_name.Tie as tie
+use Rattle.qcir_lines.proofs.put_free_name.Statement.{statement}
+use Rattle.qcir_lines.proofs.put_free_name.Tie as tie
 
 returns : tie.Need-returns
 returns c =
@@ -36,8 +36,8 @@ returns-3 c =
     let p = c .before .before .put-next-name in
     (put-as (name-next (s .args .first) (s .args .flag) (s .args .x) (c .before .before .before .before .before .if1 .left) (c .before .before .before .before .if2 .left)) (p .ensures .0), omega (arith, p .ensures .1))
 
-pub put-open-name-spec : {M : Type 1} → statement M
-put-open-name-spec =
+pub put-free-name-spec : {M : Type 1} → statement M
+put-free-name-spec =
     tie.close
     (tie.spec
     returns
