@@ -3,7 +3,7 @@
 use mathlib.Core.Path.{_≡_, refl, sym, _∙_, ap}
 use mathlib.Core.Bool.{Bool, true, false, not, _&&_, _||_, true≢false, or-false}
 use mathlib.Core.List.{List}
-use Prim.Native.Nat.{ℕ, zero, suc, _+_, _-_, _*_, _%_, _<_, _≤_}
+use Prim.Native.Nat.{ℕ, zero, suc, _+_, _*_, _%_, _<_, _≤_}
 use native.Mathlib.Omega.{arith}
 use lib.Dec.{eqb, leb, ltb}
 use lib.ListN.{length, length-take, length-drop}
@@ -13,17 +13,17 @@ use Rattle.lists.specs.Members.{mem, all, distinct}
 use Rattle.lists.specs.Parts.{sum}
 use Rattle.lists.proofs.Members.{all-mem, all-intro}
 use Rattle.lists.proofs.Parts.{sum-cong, sum-grows}
-use Rattle.formula.specs.Node.{operands, bound}
-use Rattle.formula.specs.Words.{width, nodeCount, field, isBlockKind, range, wordsAt, nodeOf, nodeAt, tableOf}
+use Rattle.formula.specs.Node.{operands, isBlock, bound}
+use Rattle.formula.specs.Words.{width, nodeCount, field, isBlockKind, isEmptyBlock, range, wordsAt, nodeOf, nodeAt, tableOf}
 use Rattle.formula.specs.declared.NodeWords.{NodeWords}
 use Rattle.formula.specs.Tree.{timesNamed, count, boundBelow}
-use Rattle.formula.proofs.Nodes.{Kind, kind-of, kind-constant, kind-variable, kind-negation, kind-operator, kind-exists, kind-for-all, kind-none}
+use Rattle.formula.proofs.Nodes.{Kind, kind-of, kind-constant, kind-variable, kind-negation, kind-operator, kind-exists, kind-for-all, kind-none, is-block}
 use Rattle.refusals.specs.Verdict.{refusal, notATree, accepted}
 use Rattle.refusals.specs.declared.Verdict.{Verdict}
 use Rattle.acceptance.specs.Limits.{TableLimits, tableLimits}
-use Rattle.acceptance.specs.Verdict.{isNumberTo, partialNode, tooLarge, wellFormed, forwardReference, rangePastEnd, countAt, tooManyVariables, badVariable, nodeFault, notNamedOnce, treeRefusal, verdictWithin, verdict}
+use Rattle.acceptance.specs.Verdict.{isNumberTo, partialNode, tooLarge, wellFormed, forwardReference, rangePastEnd, emptyBlock, countAt, tooManyVariables, badVariable, nodeFault, notNamedOnce, treeRefusal, verdictWithin, verdict}
 use Rattle.acceptance.specs.Order.{Whole, FirstThatApplies, partial, large, fault, not-tree, none}
-use Rattle.acceptance.specs.Accepted.{AcceptedWithin, Accepted}
+use Rattle.acceptance.specs.Accepted.{AcceptedWithin, LowerOperands, Accepted}
 use Rattle.acceptance.proofs.Order.{verdict-order}
 
 -- How many variables a node binds, by its kind.
@@ -86,12 +86,13 @@ bound-length ls w h (kind-exists e) = let f : w .a + w .b ≤ length ls = h (rw 
 bound-length ls w h (kind-for-all e) = let f : w .a + w .b ≤ length ls = h (rw e) in rw e (length-range ls (w .a) (w .b) f)
 bound-length ls w h (kind-none e1 e2 e3 e4 e5 e6) = rw (e1, e2, e3, e4, e5, e6)
 
--- A node without a fault is clear of the five tests, and the other way round.
+-- A node without a fault is clear of the six tests, and the other way round.
 
 record Clear (lim : TableLimits) (ws ls : List ℕ) (i : ℕ) : Type 0 where
   formed : wellFormed lim (wordsAt ws i) ≡ true
   lower : forwardReference i (wordsAt ws i) ≡ false
   fits : rangePastEnd ls (wordsAt ws i) ≡ false
+  some : emptyBlock lim (wordsAt ws i) ≡ false
   few : tooManyVariables (lim .counts) ws i ≡ false
   good : badVariable lim ls (wordsAt ws i) ≡ false
 
@@ -107,13 +108,14 @@ module _ (lim : TableLimits) (ws ls : List ℕ) (i : ℕ) where
       let r3 = pick-zero _ 2 _ e in
       let r4 = pick-zero _ 3 _ (r3 .1) in
       let r5 = pick-zero _ 4 _ (r4 .1) in
-      let r6 = pick-zero _ 5 _ (r5 .1) in
+      let r16 = pick-zero _ 15 _ (r5 .1) in
+      let r6 = pick-zero _ 5 _ (r16 .1) in
       let r7 = pick-zero _ 6 _ (r6 .1) in
-      record { formed = not-false _ (r3 .0); lower = r4 .0; fits = r5 .0; few = r6 .0; good = r7 .0 }
+      record { formed = not-false _ (r3 .0); lower = r4 .0; fits = r5 .0; some = r16 .0; few = r6 .0; good = r7 .0 }
 
   clear-fault : Clear lim ws ls i → nodeFault lim ws ls i ≡ 0
   unfolding nodeFault
-  clear-fault c = pick-no _ _ _ (ap not (c .formed)) ∙ pick-no _ _ _ (c .lower) ∙ pick-no _ _ _ (c .fits) ∙ pick-no _ _ _ (c .few) ∙ pick-no _ _ _ (c .good)
+  clear-fault c = pick-no _ _ _ (ap not (c .formed)) ∙ pick-no _ _ _ (c .lower) ∙ pick-no _ _ _ (c .fits) ∙ pick-no _ _ _ (c .some) ∙ pick-no _ _ _ (c .few) ∙ pick-no _ _ _ (c .good)
 
 -- What a verdict says, by the first refusal that applies.
 
@@ -152,11 +154,11 @@ module _ (lim : TableLimits) (ws ls : List ℕ) where
 
 -- What the tests of a clear node say of the table, and the other way round.
 
-and-when : (a b : Bool) → (a && b) ≡ false → a ≡ true → b ≡ false
+pub and-when : (a b : Bool) → (a && b) ≡ false → a ≡ true → b ≡ false
 and-when true b h e = h
 and-when false b h e = absurd (true≢false (sym e))
 
-and-not : (a b : Bool) → (a ≡ true → b ≡ false) → (a && b) ≡ false
+pub and-not : (a b : Bool) → (a ≡ true → b ≡ false) → (a && b) ≡ false
 and-not true b h = h refl
 and-not false b h = refl
 
@@ -172,6 +174,22 @@ count-at ws ls i h = bound-length ls (wordsAt ws i) h (kind-of (field ws i 0))
 pub counts-below : (ws ls : List ℕ) (n : ℕ) → ((i : ℕ) → i < n → Fits ws ls i) → boundBelow (tableOf ws ls) n ≡ sum (countAt ws) n
 unfolding boundBelow
 counts-below ws ls n h = sum-cong _ _ n (λ i l. count-at ws ls i (h i l))
+
+-- A node's count is 0 exactly if it binds nothing.
+module _ (lim : TableLimits) (ws ls : List ℕ) (i : ℕ) where
+  clear-some : Clear lim ws ls i → Fits ws ls i → lim .empty ≡ false → isBlock (nodeAt ws ls i) ≡ true → 0 < count (tableOf ws ls) i
+  unfolding emptyBlock isEmptyBlock tableOf
+  clear-some c f e b =
+      let k = sym (is-block ws ls i) ∙ b in
+      let n : field ws i 2 ≡ 0 → ⊥ = eqb-false _ _ (and-when _ _ (and-when _ _ (c .some) (ap not e)) k) in
+      omega (arith, count-at ws ls i f, count-block ws i k)
+
+  some-clear : (lim .empty ≡ false → isBlock (nodeAt ws ls i) ≡ true → 0 < count (tableOf ws ls) i) → Fits ws ls i
+      → emptyBlock lim (wordsAt ws i) ≡ false
+  unfolding emptyBlock isEmptyBlock tableOf
+  some-clear h f =
+      and-not _ _ (λ e. and-not _ _ (λ k. ne-eqb (field ws i 2) 0 (λ z.
+      let p = h (not-true _ e) (is-block ws ls i ∙ k) in omega (arith, count-at ws ls i f, count-block ws i k))))
 
 module _ (lim : TableLimits) (ws ls : List ℕ) (i : ℕ) where
   clear-fits : Clear lim ws ls i → Fits ws ls i
@@ -267,6 +285,7 @@ module _ (lim : TableLimits) (ws ls : List ℕ) where
         counts-limit = omega (arith, counts-few (lim .counts) ws (nodeCount ws) (λ i h. r .clear i h .few));
         formed = λ i h. r .clear i h .formed;
         fits = λ i h. clear-fits lim ws ls i (r .clear i h);
+        filled = λ e i h. clear-some lim ws ls i (r .clear i h) (clear-fits lim ws ls i (r .clear i h)) e;
         numbered = λ i h. clear-numbered lim ws ls i (r .clear i h);
       }
 
@@ -285,15 +304,23 @@ module _ (lim : TableLimits) (ws ls : List ℕ) where
               formed = r .formed i h;
               lower = lower-clear lim ws ls i (λ a m. r .proper .tree .lower i a h m);
               fits = fits-clear lim ws ls i (r .fits i h);
+              some = some-clear lim ws ls i (λ e. r .filled e i h) (r .fits i h);
               few = sum-few (lim .counts) ws i (nodeCount ws) h few;
               good = good-clear lim ws ls i (r .numbered i h) (r .proper .apart i h);
             };
         once = λ i h. named-once i (r .proper .tree .once i h);
       }
 
+  pub within-lower : AcceptedWithin lim ws ls → LowerOperands ws
+  unfolding tableOf
+  within-lower r i h = lower-clear lim ws ls i (λ a m. r .proper .tree .lower i a h m)
+
   pub within-holds : verdictWithin lim ws ls ≡ accepted → AcceptedWithin lim ws ls
   unfolding accepted
   within-holds e = fine-holds (zero-fine lim ws ls _ (verdict-order lim ws ls) (ap (λ v. v .number) e) .0)
+
+  pub within-zero : verdictWithin lim ws ls .number ≡ 0 → verdictWithin lim ws ls ≡ accepted
+  within-zero z = zero-fine lim ws ls _ (verdict-order lim ws ls) z .1
 
   pub holds-within : AcceptedWithin lim ws ls → verdictWithin lim ws ls ≡ accepted
   holds-within r = fine-accepted lim ws ls (holds-fine r) _ (verdict-order lim ws ls)
@@ -307,7 +334,7 @@ module _ (ws ls : List ℕ) where
   holds-accepted = holds-within tableLimits ws ls
 
   pub number-zero : verdict ws ls .number ≡ 0 → verdict ws ls ≡ accepted
-  number-zero z = zero-fine tableLimits ws ls _ (verdict-order tableLimits ws ls) z .1
+  number-zero = within-zero tableLimits ws ls
 
 -- The words of a well-formed node, by its kind.
 

@@ -1,13 +1,13 @@
 -- The verdict is the first refusal that applies.
 -- Assumes nothing.
 use mathlib.Core.Path.{_≡_, refl, sym, _∙_, subst}
-use mathlib.Core.Bool.{Bool, true, false, not}
+use mathlib.Core.Bool.{Bool, false, not}
 use mathlib.Core.List.{List}
-use Prim.Native.Nat.{ℕ, suc, _-_, _<_, _≤_}
+use Prim.Native.Nat.{ℕ, _-_, _<_, _≤_}
 use native.Mathlib.Omega.{arith}
 use lib.Dec.{eqb, ltb}
 use borrow.Author.Tests.{eqb-true, eqb-false, ltb-true, ltb-false, not-true, not-false}
-use Rattle.lists.specs.Choice.{pick, pick-yes, pick-no, Is, is-true, is-false, look}
+use Rattle.lists.specs.Choice.{pick-yes, pick-no, Is, is-true, is-false, look}
 use Rattle.lists.specs.Search.{lowest}
 use Rattle.lists.proofs.Search.{lowest-holds, lowest-before}
 use Rattle.formula.specs.Words.{nodeCount}
@@ -18,7 +18,7 @@ use Rattle.acceptance.specs.Verdict.{partialNode, tooLarge, nodeFault, n
 use Rattle.acceptance.specs.Order.{Whole, FirstThatApplies, partial, large, fault, not-tree, none, UsersOfEight}
 
 module _ (lim : TableLimits) (ws ls : List ℕ) where
-  -- whether a node has one of the faults 3 to 7
+  -- whether a node has one of the faults 3 to 7 and 16
   abbrev faulty : ℕ → Bool
   faulty i = not (eqb (nodeFault lim ws ls i) 0)
 

@@ -17,7 +17,8 @@ pub record Whole (lim : TableLimits) (ws ls : List ℕ) : Type 0 where
   pub whole : partialNode ws ≡ false
   pub small : tooLarge lim ws ls ≡ false
 
--- "Order: 1, 2; then nodes upward, each tested for 3 to 7 in that order; then 8. .. The first that applies is the answer."
+-- "Order: 1, 2; then nodes upward, each tested for 3 to 7 in that order; then 8. .. The first that applies is the answer." Refusal 16
+-- is one of a node's faults, between 5 and 6 (nodeFault).
 pub data FirstThatApplies (lim : TableLimits) (ws ls : List ℕ) : Verdict → Type 0 where
   partial : partialNode ws ≡ true → FirstThatApplies lim ws ls (refusal 1 0)
   large : partialNode ws ≡ false → tooLarge lim ws ls ≡ true → FirstThatApplies lim ws ls (refusal 2 0)

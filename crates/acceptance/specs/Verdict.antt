@@ -1,4 +1,4 @@
--- When a table is refused (document 01, "When the lifter says no"), refusals 1 to 8, within any limits.
+-- When a table is refused (document 01, "When the lifter says no"; request S-6): refusals 1 to 8 and 16, within any limits.
 -- Assumes nothing.
 use mathlib.Core.Bool.{Bool, not, _&&_, _||_}
 use mathlib.Core.List.{List}
@@ -9,12 +9,12 @@ use Rattle.lists.specs.Choice.{pick}
 use Rattle.lists.specs.Search.{lowest}
 use Rattle.lists.specs.Members.{all, distinct}
 use Rattle.lists.specs.Parts.{sum}
-use Rattle.formula.specs.Words.{width, nodeCount, isBlockKind, range, wordsAt, tableOf}
+use Rattle.formula.specs.Words.{width, nodeCount, isBlockKind, isEmptyBlock, range, wordsAt, tableOf}
 use Rattle.formula.specs.Tree.{users, timesNamed}
 use Rattle.formula.specs.declared.NodeWords.{NodeWords}
 use Rattle.refusals.specs.Verdict.{firstTwo, refusal, notATree, accepted}
 use Rattle.refusals.specs.declared.Verdict.{Verdict}
-use Rattle.acceptance.specs.Limits.{TableLimits, tableLimits}
+use Rattle.acceptance.specs.Limits.{TableLimits, tableLimits, storedLimits}
 
 -- "its number, 1 to 65,535": a number from 1 up to the highest.
 unfoldable pub isNumberTo : ℕ → ℕ → Bool
@@ -54,6 +54,10 @@ forwardReference i w =
 unfoldable pub rangePastEnd : List ℕ → NodeWords → Bool
 rangePastEnd ls w = isBlockKind (w .kind) && ltb (length ls) (w .a + w .b)
 
+-- Refusal 16, EmptyBlock (request S-6: empty block): "a count of 0 is now refused", where no block may be empty.
+unfoldable pub emptyBlock : TableLimits → NodeWords → Bool
+emptyBlock lim w = not (lim .empty) && isEmptyBlock w
+
 -- The count of node i, 0 where it is no block.
 unfoldable pub countAt : List ℕ → ℕ → ℕ
 countAt ws i = let w = wordsAt ws i in pick (isBlockKind (w .kind)) (w .b) 0
@@ -67,16 +71,18 @@ unfoldable pub badVariable : TableLimits → List ℕ → NodeWords → Bool
 badVariable lim ls w =
     isBlockKind (w .kind) && not (all (isNumberTo (lim .highest)) (range ls (w .a) (w .b)) && distinct (range ls (w .a) (w .b)))
 
--- "Nodes upward, each tested for 3 to 7 in that order": the first of them that applies to node i, 0 if none does.
+-- "Nodes upward, each tested for 3 to 7 in that order", and for 16, which is "tested after 5": the first of them that applies to node
+-- i, 0 if none does.
 unfoldable pub nodeFault : TableLimits → List ℕ → List ℕ → ℕ → ℕ
 nodeFault lim ws ls i =
     let w = wordsAt ws i in
     pick (not (wellFormed lim w)) 3
     (pick (forwardReference i w) 4
     (pick (rangePastEnd ls w) 5
+    (pick (emptyBlock lim w) 16
     (pick (tooManyVariables (lim .counts) ws i) 6
     (pick (badVariable lim ls w) 7
-    0))))
+    0)))))
 
 -- Refusal 8, NotATree (not a tree): "lowest node below the last that isn't named exactly once".
 unfoldable pub notNamedOnce : List ℕ → List ℕ → ℕ → Bool
@@ -87,8 +93,8 @@ notNamedOnce ws ls i = not (eqb (timesNamed (tableOf ws ls) i) 1)
 unfoldable pub treeRefusal : List ℕ → List ℕ → ℕ → Verdict
 treeRefusal ws ls i = notATree i (firstTwo (users (tableOf ws ls) i))
 
--- "Order: 1, 2; then nodes upward, each tested for 3 to 7 in that order; then 8. .. The first that applies is the answer, and no
--- other condition is ever a refusal."
+-- "Order: 1, 2; then nodes upward, each tested for 3 to 7 in that order" (and for 16); "then 8. .. The first that applies is the
+-- answer, and no other condition is ever a refusal."
 unfoldable pub verdictWithin : TableLimits → List ℕ → List ℕ → Verdict
 verdictWithin lim ws ls =
     let n = nodeCount ws in
@@ -100,9 +106,12 @@ verdictWithin lim ws ls =
     (pick (ltb j (n - 1)) (treeRefusal ws ls j)
     accepted)))
 
--- The verdict on a formula table, and which of its numbers are variables.
+-- The verdict on a formula table, that on a stored one, and which of their numbers are variables.
 abbrev pub verdict : List ℕ → List ℕ → Verdict
 verdict = verdictWithin tableLimits
+
+abbrev pub storedVerdict : List ℕ → List ℕ → Verdict
+storedVerdict = verdictWithin storedLimits
 
 abbrev pub isNumber : ℕ → Bool
 isNumber = isNumberTo 65535

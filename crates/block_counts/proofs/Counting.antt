@@ -10,7 +10,7 @@ use lib.Dec.{eqb}
 use borrow.Author.Tests.{eqb-true, eqb-false}
 use Rattle.lists.specs.Choice.{pick, pick-yes, pick-no, Is, is-true, is-false, look}
 use Rattle.lists.specs.Parts.{sum}
-use Rattle.lists.proofs.Parts.{highest-le}
+use Rattle.lists.proofs.Parts.{highest-le, pick-le}
 use Rattle.formula.specs.Node.{Table, isBlock}
 use Rattle.formula.specs.declared.NodeWords.{NodeWords}
 use Rattle.formula.specs.Words.{nodeCount, wordsAt, nodeAt, tableOf}
@@ -41,19 +41,10 @@ ones-le p (suc n) = go (look (p n)) (ones-le p n)
     go (is-false e) r = omega (arith, pick-no {A = ℕ} (p n) 1 0 e)
 
 module _ (t : Table) where
-  added-by-le : (i : ℕ) → addedBy t i ≤ 4 * count t i + 5
-  unfolding addedBy
-  added-by-le i = go (look (inner t i)) (look (eqb (count t i) 0))
-    where
-      go : Is (inner t i) → Is (eqb (count t i) 0) → pick (inner t i) (pick (eqb (count t i) 0) 3 (4 * count t i + 5)) 0 ≤ 4 * count t i + 5
-      go (is-true e) (is-true z) = rw (pick-yes _ _ _ e, pick-yes _ _ _ z) (omega arith)
-      go (is-true e) (is-false z) = rw (pick-yes _ _ _ e, pick-no _ _ _ z) (omega arith)
-      go (is-false e) z = rw (pick-no _ _ _ e) (omega arith)
-
   added-below : (n : ℕ) → sum (addedBy t) n ≤ 4 * boundBelow t n + 5 * n
-  unfolding sum boundBelow
+  unfolding sum boundBelow addedBy
   added-below zero = omega arith
-  added-below (suc n) = let r = added-below n in omega (arith, added-by-le n)
+  added-below (suc n) = let r = added-below n in omega (arith, pick-le (inner t n) (4 * count t n + 5))
 
   -- no node is passed yet
   pub counts-none : CountsFrom t (t .size) noBlocks
@@ -119,7 +110,7 @@ module _ (t : Table) where
           bound-is = omega (arith, s .bound-is, none-bound (t .node i) e);
           inner-is = omega (arith, s .inner-is, pick-no {A = ℕ} (inner t i) 1 0 n);
           inner-bound-is = omega (arith, s .inner-bound-is, pick-no {A = ℕ} (inner t i) (count t i) 0 n);
-          added-is = omega (arith, s .added-is, pick-no {A = ℕ} (inner t i) (pick (eqb (count t i) 0) 3 (4 * count t i + 5)) 0 n);
+          added-is = omega (arith, s .added-is, pick-no {A = ℕ} (inner t i) (4 * count t i + 5) 0 n);
           deepest-le = s .deepest-le;
           deepest-from = from-here (λ x. level t x ≤ c .deepest) i (t .size) (outer-level n) (s .deepest-from);
         }
@@ -133,7 +124,7 @@ module _ (t : Table) where
           bound-is = omega (arith, s .bound-is);
           inner-is = omega (arith, s .inner-is, pick-no {A = ℕ} (inner t i) 1 0 n);
           inner-bound-is = omega (arith, s .inner-bound-is, pick-no {A = ℕ} (inner t i) (count t i) 0 n);
-          added-is = omega (arith, s .added-is, pick-no {A = ℕ} (inner t i) (pick (eqb (count t i) 0) 3 (4 * count t i + 5)) 0 n);
+          added-is = omega (arith, s .added-is, pick-no {A = ℕ} (inner t i) (4 * count t i + 5) 0 n);
           deepest-le = s .deepest-le;
           deepest-from = from-here (λ x. level t x ≤ c .deepest) i (t .size) (outer-level n) (s .deepest-from);
         }
@@ -146,7 +137,7 @@ module _ (t : Table) where
           bound-is = omega (arith, s .bound-is);
           inner-is = omega (arith, s .inner-is, pick-yes {A = ℕ} (inner t i) 1 0 n);
           inner-bound-is = omega (arith, s .inner-bound-is, pick-yes {A = ℕ} (inner t i) (count t i) 0 n);
-          added-is = omega (arith, s .added-is, pick-yes {A = ℕ} (inner t i) (pick (eqb (count t i) 0) 3 (4 * count t i + 5)) 0 n);
+          added-is = omega (arith, s .added-is, pick-yes {A = ℕ} (inner t i) (4 * count t i + 5) 0 n);
           deepest-le = omega (arith, s .deepest-le, level-le-levels t tree i h);
           deepest-from = from-here (λ x. level t x ≤ max (c .deepest) (level t i)) i (t .size) (omega arith) (λ x k l. omega (arith, s .deepest-from x k l));
         }

@@ -2,7 +2,6 @@
 -- Assumes nothing.
 use mathlib.Core.Path.{_≡_}
 use Prim.Native.Nat.{ℕ, _+_, _*_, _<_, _≤_, max}
-use lib.Dec.{eqb}
 use Rattle.lists.specs.Choice.{pick}
 use Rattle.lists.specs.Parts.{sum}
 use Rattle.formula.specs.Node.{Table, isBlock}
@@ -38,7 +37,7 @@ withInner q v c =
       bound = c .bound + q;
       inner = c .inner + 1;
       «inner_bound» = c .«inner_bound» + q;
-      added = c .added + pick (eqb q 0) 3 (4 * q + 5);
+      added = c .added + (4 * q + 5);
       deepest = max (c .deepest) v;
     }
 

@@ -1,18 +1,12 @@
 // What is counted of the blocks of an accepted table, block by block from the root down: what gives
 // the sizes of its prenex form.
 ghost use mathlib.Core.Path.{_≡_};
-ghost use Prim.Native.Nat.{_+_, _*_, _≤_};
-ghost use lib.Dec.{eqb};
-ghost use Rattle.lists.specs.Choice.{pick};
-ghost use Rattle.acceptance.specs.Limits.{limit};
 ghost use Rattle.block_counts.specs.Counting.{noBlocks, Small, withRoot, withInner};
 
-// Document 01: "4 × count + 5 for each inner block, or 3 where its count is 0".
+// Document 01: "4 × count + 5 for each inner block".
 const NODES_PER_VARIABLE: u32 = 4;
 
 const NODES_PER_BLOCK: u32 = 5;
-
-const NODES_PER_EMPTY_BLOCK: u32 = 3;
 
 // How many blocks a table has and how many variables they bind, the same of the inner blocks, the
 // nodes that the inner blocks add to the prenex form, and the deepest level.
@@ -60,20 +54,9 @@ pub fn count_inner(counts: Counts, count: u32, level: u32) -> Counts
     c.bound += count;
     c.inner += 1;
     c.inner_bound += count;
-    c.added += nodes_added(count);
+    c.added += NODES_PER_VARIABLE * count + NODES_PER_BLOCK;
     if c.deepest < level {
         c.deepest = level;
     }
     c
-}
-
-// The nodes that an inner block with so many variables adds to the prenex form.
-fn nodes_added(count: u32) -> u32
-    requires { ⌜ count ≤ limit ⌝ }
-    ensures { λ r. ⌜ r ≡ pick (eqb count 0) 3 (4 * count + 5) ⌝ }
-{
-    if count == 0 {
-        return NODES_PER_EMPTY_BLOCK;
-    }
-    NODES_PER_VARIABLE * count + NODES_PER_BLOCK
 }

@@ -12,28 +12,14 @@ use Rattle.lists.specs.Choice.{pick, pick-yes, pick-no, Is, is-true, is-false, 
 use Rattle.lists.specs.Search.{lowest}
 use Rattle.lists.proofs.Search.{lowest-holds, lowest-before}
 use Rattle.formula.specs.Form.{prefixWidth}
-use Rattle.refusals.specs.Verdict.{refusal, accepted, notATree, Plain}
+use Rattle.refusals.specs.Verdict.{refusal, accepted, Plain}
 use Rattle.refusals.specs.declared.Verdict.{Verdict}
 use Rattle.refusals.proofs.Plain.{plain-refusal, plain-accepted}
 use Rattle.acceptance.specs.Limits.{TableLimits}
-use Rattle.acceptance.specs.Verdict.{verdictWithin, treeRefusal}
-use Rattle.acceptance.specs.Order.{FirstThatApplies, partial, large, fault, not-tree, none as table-none}
-use Rattle.acceptance.proofs.Order.{verdict-order}
+use Rattle.acceptance.specs.Verdict.{verdictWithin}
+use Rattle.acceptance.proofs.Accepted.{within-zero}
 use Rattle.form_check.specs.Verdict.{matrixVerdict, badBlock, prefixVerdict, formVerdictWithin}
 use Rattle.form_check.specs.Order.{WholeForm, FirstOfForm, matrix, ragged, bad, none}
-
--- The number 0 is an accepted table's alone.
-
-zero-by : (lim : TableLimits) (ws ls : List ℕ) (v : Verdict) → FirstThatApplies lim ws ls v → v .number ≡ 0 → v ≡ accepted
-unfolding refusal treeRefusal notATree
-zero-by lim ws ls _ (partial p) z = absurd (omega arith)
-zero-by lim ws ls _ (large p l) z = absurd (omega arith)
-zero-by lim ws ls _ (fault w i h f before) z = absurd (f z)
-zero-by lim ws ls _ (not-tree w clear j h o before) z = absurd (omega arith)
-zero-by lim ws ls _ (table-none w clear once) z = refl
-
-table-zero : (lim : TableLimits) (ws ls : List ℕ) → verdictWithin lim ws ls .number ≡ 0 → verdictWithin lim ws ls ≡ accepted
-table-zero lim ws ls = zero-by lim ws ls _ (verdict-order lim ws ls)
 
 accepted-zero : (v : Verdict) → v ≡ accepted → eqb (v .number) 0 ≡ true
 unfolding accepted
@@ -76,7 +62,7 @@ module _ (lim : TableLimits) (ns ps xs : List ℕ) where
     form-passed z = go (look (eqb (nodes .number) 0))
       where
         go : Is (eqb (nodes .number) 0) → prefixVerdict lim ps xs ≡ formVerdictWithin lim ns ps xs
-        go (is-true t) = sym (nodes-passed (table-zero lim ns [] (eqb-true _ 0 t)))
+        go (is-true t) = sym (nodes-passed (within-zero lim ns [] (eqb-true _ 0 t)))
         go (is-false t) = let e : n ≡ 14 = number-is ∙ pick-no {A = ℕ} _ _ _ t in absurd (omega arith)
 
   by-blocks : (w : WholeForm lim ns ps) → Is (ltb first blocks) → FirstOfForm lim ns ps xs (formVerdictWithin lim ns ps xs)
@@ -94,7 +80,7 @@ module _ (lim : TableLimits) (ns ps xs : List ℕ) where
   by-length e (is-false t) = is _ (nodes-passed e ∙ pick-yes _ _ _ (ap not t)) (ragged e (eqb-false _ 0 t))
 
   by-nodes : Is (eqb (nodes .number) 0) → FirstOfForm lim ns ps xs (formVerdictWithin lim ns ps xs)
-  by-nodes (is-true t) = by-length (table-zero lim ns [] (eqb-true _ 0 t)) (look (eqb (length ps % prefixWidth) 0))
+  by-nodes (is-true t) = by-length (within-zero lim ns [] (eqb-true _ 0 t)) (look (eqb (length ps % prefixWidth) 0))
   by-nodes (is-false t) = is _ (nodes-refused t) (matrix (λ e. clash (accepted-zero nodes e) t))
 
   pub form-order : FirstOfForm lim ns ps xs (formVerdictWithin lim ns ps xs)

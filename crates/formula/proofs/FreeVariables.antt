@@ -8,10 +8,10 @@ use native.Mathlib.Omega.{arith}
 use lib.Dec.{eqb}
 use lib.ListN.{length}
 use borrow.Author.Tests.{eqb-true, eq-eqb, not-true}
-use Rattle.lists.specs.Choice.{pick, pick-yes, pick-no, Is, is-true, is-false, look, clash, absent, and-left, and-right, and-both, or-left, or-right, or-cases}
+use Rattle.lists.specs.Choice.{pick, pick-yes, pick-no, Is, is-true, is-false, look, clash, and-left, and-right, and-both, or-left, or-right, or-cases}
 use Rattle.lists.specs.Members.{mem, times}
 use Rattle.lists.specs.Parts.{passing, sum, highest}
-use Rattle.lists.proofs.Members.{mem-one, mem-head, mem-tail, times-zero}
+use Rattle.lists.proofs.Members.{mem-one, mem-head, mem-tail}
 use Rattle.lists.proofs.Parts.{sum-cong, sum-mono, sum-add, sum-zero, term-le, highest-ge}
 use Rattle.lists.proofs.Passing.{passing-lists, passing-length}
 use Rattle.lists.proofs.Sums.{sum-swap, sum-ones, sum-at-most, sum-times}
@@ -23,6 +23,7 @@ use Rattle.formula.specs.FreeVariables.{standsAt, numberAt, highestVaria
 use Rattle.formula.specs.Tree.{Tree, timesNamed}
 use Rattle.formula.specs.Laws.{FreeListed, FormFreeListed, TableByList, FormByList, FreeFew}
 use Rattle.formula.proofs.Coincidence.{coincidence, formCoincidence}
+use Rattle.formula.proofs.Users.{last-unnamed}
 
 -- Why x is free in a node: it stands there, or it is free in an operand and the node does not bind it.
 pub data Through (at : ℕ → Bool) (x : ℕ) (nd : Node) : Type 0 where
@@ -158,13 +159,7 @@ module _ (t : Table) (p : ℕ → Bool) (stands : (x : ℕ) → p x ≡ true →
       omega (arith, passing-length p m)
 
 module _ (t : Table) (tree : Tree t) where
-  -- nothing names the last node
-  root-unnamed : (m : ℕ) → t .size ≡ suc m → timesNamed t m ≡ 0
-  unfolding timesNamed
-  root-unnamed m e =
-      sum-zero _ (t .size) (λ j h. times-zero m (operands (t .node j)) (absent _ (λ n. let l : m < j = tree .lower j m h n in omega arith)))
-
-  -- every other node is named once, so there is one operand less than nodes
+  -- every node but the last is named once, so there is one operand less than nodes
   operands-all : sum (λ j. length (operands (t .node j))) (t .size) + 1 ≡ t .size
   unfolding timesNamed
   operands-all =
@@ -177,7 +172,7 @@ module _ (t : Table) (tree : Tree t) where
       let b : sum (λ j. sum (λ i. times i (operands (t .node j))) n) n ≡ sum (timesNamed t) n = sum-swap (λ j i. times i (operands (t .node j))) n n in
       let c : sum (timesNamed t) n ≡ sum (timesNamed t) m + timesNamed t m = sum-last (timesNamed t) n m e in
       let d : sum (timesNamed t) m ≡ m = sum-ones (timesNamed t) m (λ i h. tree .once i (omega arith)) in
-      let z : timesNamed t m ≡ 0 = root-unnamed m e in omega arith
+      let z : timesNamed t m ≡ 0 = last-unnamed t (tree .lower) m (omega arith) in omega arith
 
   leaves-few : 2 * sum (λ i. variables (t .node i)) (t .size) ≤ suc (t .size)
   leaves-few =

@@ -1,6 +1,7 @@
--- Laws of the list of a node's users (specs/Laws.antt).
+-- Laws of the list of a node's users (specs/Laws.antt), and that the last node has none.
 -- Assumes nothing.
 use mathlib.Core.Path.{_≡_, sym, _∙_, ap, subst}
+use mathlib.Core.Bool.{true}
 use mathlib.Core.List.{List, _++_}
 use Prim.Native.Nat.{ℕ, zero, suc, _+_, _-_, _<_, _≤_}
 use native.Mathlib.Omega.{arith}
@@ -9,12 +10,12 @@ use lib.Dec.{eqb, ltb}
 use lib.ListN.{length, getD, replicate, length-append, length-replicate, getD-replicate, List·getD-append}
 use lib.Seq.{getD-append-add}
 use borrow.Author.Tests.{eqb-true, eqb-false, ne-eqb, ltb-true, ltb-false, lt-ltb, le-ltb}
-use Rattle.lists.specs.Choice.{pick, pick-yes, pick-no, Is, is-true, is-false, look}
-use Rattle.lists.specs.Members.{times, Ascending}
+use Rattle.lists.specs.Choice.{pick, pick-yes, pick-no, Is, is-true, is-false, look, absent}
+use Rattle.lists.specs.Members.{mem, times, Ascending}
 use Rattle.lists.specs.Parts.{upTo, sum}
-use Rattle.lists.proofs.Members.{times-append, times-replicate, ascending-one}
-use Rattle.lists.proofs.Parts.{length-upTo, sum-cong}
-use Rattle.formula.specs.Node.{operands}
+use Rattle.lists.proofs.Members.{times-zero, times-append, times-replicate, ascending-one}
+use Rattle.lists.proofs.Parts.{length-upTo, sum-cong, sum-zero}
+use Rattle.formula.specs.Node.{Table, operands}
 use Rattle.formula.specs.Tree.{users, timesNamed}
 use Rattle.formula.specs.Laws.{UsersRead, OneListOfUsers, UsersCounted}
 
@@ -102,3 +103,10 @@ one-list-of-users t i us us' p q = ascending-one us us' (p .ascending) (q .ascen
 pub users-counted : UsersCounted
 unfolding users timesNamed
 users-counted t i = repeated-length (λ j. times i (operands (t .node j))) (t .size)
+
+-- Where operands and bodies are lower, nothing names the last node.
+pub last-unnamed : (t : Table) → ((i a : ℕ) → i < t .size → mem a (operands (t .node i)) ≡ true → a < i)
+    → (k : ℕ) → t .size ≤ suc k → timesNamed t k ≡ 0
+unfolding timesNamed
+last-unnamed t lower k e =
+    sum-zero _ (t .size) (λ j h. times-zero k (operands (t .node j)) (absent _ (λ n. let l : k < j = lower j k h n in omega arith)))

@@ -9,7 +9,7 @@ use lib.ListN.{length, replicate}
 use Rattle.lists.specs.Choice.{pick}
 use Rattle.lists.specs.Members.{mem, times, distinct, Ascending}
 use Rattle.lists.specs.Parts.{upTo, sum}
-use Rattle.formula.specs.Node.{Table, operands, bound}
+use Rattle.formula.specs.Node.{Table, operands, isBlock, bound}
 
 -- What holds of the list of the users of node i, the nodes that name it:
 pub record UsersOf (t : Table) (i : ℕ) (us : List ℕ) : Type 0 where
@@ -41,7 +41,11 @@ count t i = length (bound (t .node i))
 unfoldable pub boundBelow : Table → ℕ → ℕ
 boundBelow t i = sum (count t) i
 
--- What lifting needs of a table: it is a tree, and no block binds a number twice.
+-- A table is a tree, and no block binds a number twice.
 pub record Proper (t : Table) : Type 0 where
   pub tree : Tree t
   pub apart : (i : ℕ) → i < t .size → distinct (bound (t .node i)) ≡ true
+
+-- Each block binds a variable: no block is empty (request S-6).
+abbrev pub NoEmptyBlocks : Table → Type 0
+NoEmptyBlocks t = (i : ℕ) → i < t .size → isBlock (t .node i) ≡ true → 0 < count t i

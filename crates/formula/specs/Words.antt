@@ -1,7 +1,7 @@
 -- Words as nodes (document 01, "The formula table"): "a lent run of 32-bit words, four to a node (kind and three fields),
 -- and a lent list of 32-bit variable numbers. Nodes count from 0. The last node is the root."
 -- Assumes nothing.
-use mathlib.Core.Bool.{Bool, false, _||_}
+use mathlib.Core.Bool.{Bool, false, _&&_, _||_}
 use mathlib.Core.List.{List, [], _∷_}
 use Prim.Native.Nat.{ℕ, _+_, _*_, _/_}
 use lib.Dec.{eqb}
@@ -25,6 +25,10 @@ field ws i f = getD ws (width * i + f) 0
 -- Kinds 5 and 6: "exists block", "for-all block".
 unfoldable pub isBlockKind : ℕ → Bool
 isBlockKind kind = eqb kind 5 || eqb kind 6
+
+-- A block that binds nothing: "a count of 0" (request S-6).
+unfoldable pub isEmptyBlock : NodeWords → Bool
+isEmptyBlock w = isBlockKind (w .kind) && eqb (w .b) 0
 
 -- "A block binds the `count` entries from `first` on" (document 01: the block's stretch).
 unfoldable pub range : List ℕ → ℕ → ℕ → List ℕ

@@ -6,7 +6,7 @@ ghost use Prim.Native.Nat.{_+_, _*_, _≤_};
 ghost use lib.ListN.{length};
 ghost use Rattle.lists.specs.Parts.{overwrite};
 ghost use Rattle.formula.specs.Node.{constant, variable, negation, operator};
-ghost use Rattle.formula.specs.Words.{width, isBlockKind, wordsAt, wordsOf, blockWords, wordList};
+ghost use Rattle.formula.specs.Words.{width, isBlockKind, isEmptyBlock, wordsAt, wordsOf, blockWords, wordList};
 
 // The words of a node: a kind and three fields. Nothing else says how many there are.
 pub const WIDTH: usize = 4;
@@ -51,6 +51,13 @@ pub fn node_at(words: &[u32], i: usize) -> NodeWords
         b: words[at + 2],
         c: words[at + 3],
     }
+}
+
+// Whether a node is a block that binds nothing.
+pub fn is_empty_block(node: NodeWords) -> bool
+    ensures { λ r. ⌜ r ≡ isEmptyBlock node ⌝ }
+{
+    is_block_kind(node.kind) & (node.b == 0)
 }
 
 // Writes a node's words over node `at`.

@@ -7,13 +7,13 @@ use Rattle.lists.specs.Search.{lowest}
 use Rattle.lists.specs.Members.{mem, all, distinct, times, place, maximum}
 use Rattle.lists.specs.Parts.{upTo, numbers, sum, highest, overwrite}
 use Rattle.formula.specs.Node.{dual, operands, isBlock, bound}
-use Rattle.formula.specs.Words.{field, isBlockKind, range, nodeOf, wordsOf, wordList, nodeWords, nodeAt, tableOf}
+use Rattle.formula.specs.Words.{field, isBlockKind, isEmptyBlock, range, nodeOf, wordsOf, wordList, nodeWords, nodeAt, tableOf}
 use Rattle.formula.specs.Valuation.{update, join, quant}
 use Rattle.formula.specs.Truth.{bit, digit, operatorValue, nodeValue, value, truth}
 use Rattle.formula.specs.Tree.{users, timesNamed, count, boundBelow}
 use Rattle.refusals.specs.Verdict.{firstTwo, refusal, notATree, accepted}
 use Rattle.refusals.specs.Outcome.{refused, done, unlessRefused, unlessShort}
-use Rattle.acceptance.specs.Verdict.{isNumberTo, partialNode, tooLarge, wellFormed, forwardReference, rangePastEnd, countAt, tooManyVariables, badVariable, nodeFault, notNamedOnce, treeRefusal, verdictWithin}
+use Rattle.acceptance.specs.Verdict.{isNumberTo, partialNode, tooLarge, wellFormed, forwardReference, rangePastEnd, emptyBlock, countAt, tooManyVariables, badVariable, nodeFault, notNamedOnce, treeRefusal, verdictWithin}
 use Rattle.prenex_form.specs.Scope.{parent, pathUp, path, above, binder, inner, howMany, level, depth}
 use Rattle.prenex_form.specs.Names.{highestAt, highestNumber, boundCount, firstName, newNames, newName, innerBoundBelow, innerBelow, copies, definitionVariable}
 use Rattle.prenex_form.specs.Levels.{blocksAt, levels, quantifierAt, levelQuantifier}
@@ -26,7 +26,7 @@ use Rattle.formulas.specs.Rows.{holding, Row, nodesOf, filled, answerWor
 
 -- What all rows leave, and their truth values, in one computation each.
 all-leave : map leaves examples ≡ map shouldLeave examples
-unfolding accepted refusal notATree firstTwo treeRefusal users leaves shouldLeave left filled examples refusedRow doneRow belowXor belowXorRow nodesOf answerWords noSizes refused done unlessRefused unlessShort tooShort written lifted verdictWithin partialNode tooLarge nodeFault wellFormed forwardReference rangePastEnd tooManyVariables countAt badVariable notNamedOnce isNumberTo isBlockKind field range nodeOf nodeAt tableOf digit timesNamed operands isBlock bound dual lowest pick sum all distinct mem times place upTo numbers highest overwrite count boundBelow parent pathUp path above binder inner howMany level depth maximum highestAt highestNumber boundCount firstName newNames newName innerBoundBelow innerBelow copies definitionVariable blocksAt levels quantifierAt levelQuantifier kept renamed firstNodes bodyOf equation guard constraint further constraints levelJoin levelNodes nodesTo prenexNodes nodeWords wordsOf wordList writtenNodes blockCount leading prefixBlock prefixBlocks kindOf prefixWords writtenPrefix writtenVariables sizes flatMap
+unfolding accepted refusal notATree firstTwo treeRefusal users leaves shouldLeave left filled examples refusedRow doneRow belowXor belowXorRow nodesOf answerWords noSizes refused done unlessRefused unlessShort tooShort written lifted verdictWithin partialNode tooLarge nodeFault wellFormed forwardReference rangePastEnd emptyBlock tooManyVariables countAt badVariable notNamedOnce isNumberTo isBlockKind isEmptyBlock field range nodeOf nodeAt tableOf digit timesNamed operands isBlock bound dual lowest pick sum all distinct mem times place upTo numbers highest overwrite count boundBelow parent pathUp path above binder inner howMany level depth maximum highestAt highestNumber boundCount firstName newNames newName innerBoundBelow innerBelow copies definitionVariable blocksAt levels quantifierAt levelQuantifier kept renamed firstNodes bodyOf equation guard constraint further constraints levelJoin levelNodes nodesTo prenexNodes nodeWords wordsOf wordList writtenNodes blockCount leading prefixBlock prefixBlocks kindOf prefixWords writtenPrefix writtenVariables sizes flatMap
 all-leave = refl
 
 all-truths : map truths examples ≡ map shouldBe examples

@@ -127,12 +127,10 @@ examples =
     -- "`1 1`: written alike, no blocks."
     ∷ doneRow (nodesOf ((1 ∷ 1 ∷ []) ∷ [])) [] 8 (1 ∷ 0 ∷ 0 ∷ 0 ∷ 1 ∷ 0 ∷ 0 ∷ []) (nodesOf ((1 ∷ 1 ∷ []) ∷ [])) [] []
     (record { trueVariables = []; is = true } ∷ [])
-    -- "`1 0`, `5 0 0 0`, empty list: written `1 0`, prefix `5 0 0`."
-    ∷ doneRow (nodesOf ((1 ∷ 0 ∷ []) ∷ (5 ∷ []) ∷ [])) [] 8 (2 ∷ 1 ∷ 0 ∷ 1 ∷ 1 ∷ 1 ∷ 0 ∷ []) (nodesOf ((1 ∷ 0 ∷ []) ∷ [])) (5 ∷ 0 ∷ 0 ∷ []) [] []
-    -- "`1 1`, `5 0 0 0`, `3 1`: six nodes `1 1`, `2 1`, `3 1`, `2 1`, `4 9 3 0`, `4 8 2 4`; prefix `6 0 0`, `5 0 1`; list 1. Depth 1, two blocks."
-    ∷ doneRow (nodesOf ((1 ∷ 1 ∷ []) ∷ (5 ∷ []) ∷ (3 ∷ 1 ∷ []) ∷ [])) [] 24 (3 ∷ 1 ∷ 0 ∷ 1 ∷ 6 ∷ 2 ∷ 1 ∷ [])
-    (nodesOf ((1 ∷ 1 ∷ []) ∷ (2 ∷ 1 ∷ []) ∷ (3 ∷ 1 ∷ []) ∷ (2 ∷ 1 ∷ []) ∷ (4 ∷ 9 ∷ 3 ∷ 0 ∷ []) ∷ (4 ∷ 8 ∷ 2 ∷ 4 ∷ []) ∷ []))
-    (6 ∷ 0 ∷ 0 ∷ 5 ∷ 0 ∷ 1 ∷ []) (1 ∷ []) []
+    -- "`1 0`, `5 0 0 0`, empty list" and "`1 1`, `5 0 0 0`, `3 1`": two of "document 01's three formulas with empty blocks", which
+    -- "become refusals" by request S-6, 16 at node 1.
+    ∷ refusedRow (nodesOf ((1 ∷ 0 ∷ []) ∷ (5 ∷ 0 ∷ 0 ∷ 0 ∷ []) ∷ [])) [] 8 (16 ∷ 1 ∷ 0 ∷ 0 ∷ [])
+    ∷ refusedRow (nodesOf ((1 ∷ 1 ∷ []) ∷ (5 ∷ 0 ∷ 0 ∷ 0 ∷ []) ∷ (3 ∷ 1 ∷ []) ∷ [])) [] 8 (16 ∷ 1 ∷ 0 ∷ 0 ∷ [])
     -- fifteen nodes, with ample room; "with ample prefix and list buffers and 59 words of room for nodes: 9. With 60: done."
     ∷ belowXorRow 64
     ∷ refusedRow belowXor (2 ∷ []) 59 (9 ∷ 0 ∷ 0 ∷ 0 ∷ [])
@@ -150,10 +148,9 @@ examples =
     ∷ refusedRow (nodesOf ((2 ∷ 1 ∷ []) ∷ (4 ∷ 9 ∷ 0 ∷ 0 ∷ []) ∷ [])) [] 8 (8 ∷ 0 ∷ 1 ∷ 1 ∷ [])
     -- "`2 0`, `3 1`: 3 at 0, though node 1 names itself."
     ∷ refusedRow (nodesOf ((2 ∷ 0 ∷ []) ∷ (3 ∷ 1 ∷ []) ∷ [])) [] 8 (3 ∷ 0 ∷ 0 ∷ 0 ∷ [])
-    -- "`2 1`, `5 1 1 0`, list of one: 5 at 1. With `5 1 0 0`: done."
+    -- "`2 1`, `5 1 1 0`, list of one: 5 at 1. With `5 1 0 0`": the third formula with an empty block, so 16 at 1 by request S-6.
     ∷ refusedRow (nodesOf ((2 ∷ 1 ∷ []) ∷ (5 ∷ 1 ∷ 1 ∷ 0 ∷ []) ∷ [])) (1 ∷ []) 8 (5 ∷ 1 ∷ 0 ∷ 0 ∷ [])
-    ∷ doneRow (nodesOf ((2 ∷ 1 ∷ []) ∷ (5 ∷ 1 ∷ 0 ∷ 0 ∷ []) ∷ [])) (1 ∷ []) 8 (2 ∷ 1 ∷ 0 ∷ 1 ∷ 1 ∷ 1 ∷ 0 ∷ []) (nodesOf ((2 ∷ 1 ∷ []) ∷ []))
-    (5 ∷ 0 ∷ 0 ∷ []) [] []
+    ∷ refusedRow (nodesOf ((2 ∷ 1 ∷ []) ∷ (5 ∷ 1 ∷ 0 ∷ 0 ∷ []) ∷ [])) (1 ∷ []) 8 (16 ∷ 1 ∷ 0 ∷ 0 ∷ [])
     -- "`2 1`, `5 0 2 0`, list 2, 2: 7 at 1."
     ∷ refusedRow (nodesOf ((2 ∷ 1 ∷ []) ∷ (5 ∷ 0 ∷ 2 ∷ 0 ∷ []) ∷ [])) (2 ∷ 2 ∷ []) 8 (7 ∷ 1 ∷ 0 ∷ 0 ∷ [])
     ∷ []

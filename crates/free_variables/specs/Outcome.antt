@@ -22,7 +22,7 @@ listing names xs =
     unlessShort (ltb (length names) (length xs)) 0 names
     (record { answer = done (length xs); buffers = overwrite names 0 xs })
 
--- Refusals 1 to 8, then 9.
+-- Refusals 1 to 8 and 16, then 9.
 unfoldable pub listed : List ℕ → List ℕ → List ℕ → Outcome ℕ (List ℕ)
 listed ws ls names = unlessRefused (verdict ws ls) 0 names (listing names (freeVariables (tableOf ws ls)))
 

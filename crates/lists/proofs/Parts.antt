@@ -226,6 +226,11 @@ unfolding sum
 sum-zero f zero h = refl
 sum-zero f (suc n) h = omega (arith, sum-zero f n (λ i l. h i (omega arith)), h n (omega arith))
 
+pub pick-add : (b : Bool) (m n : ℕ) → pick b (m + n) 0 ≡ pick b m 0 + pick b n 0
+unfolding pick
+pick-add true m n = refl
+pick-add false m n = refl
+
 pub pick-le : (b : Bool) (n : ℕ) → pick b n 0 ≤ n
 unfolding pick
 pick-le true n = omega arith

@@ -15,12 +15,12 @@ use Rattle.lists.specs.Members.{times}
 use Rattle.lists.specs.Parts.{sum}
 use Rattle.lists.proofs.Search.{lowest-le, lowest-holds, lowest-cong}
 use Rattle.lists.proofs.Stores.{getD-filled, set-cases}
-use Rattle.formula.specs.Words.{width, nodeCount, field, isBlockKind, wordsAt}
+use Rattle.formula.specs.Words.{width, nodeCount, field, isBlockKind, isEmptyBlock, wordsAt}
 use Rattle.formula.specs.declared.NodeWords.{NodeWords}
 use Rattle.formula.proofs.Nodes.{Kind, kind-of, kind-constant, kind-variable, kind-negation, kind-operator, kind-exists, kind-for-all, kind-none}
 use Rattle.refusals.specs.Verdict.{refusal, notATree, accepted}
 use Rattle.refusals.specs.declared.Verdict.{Verdict}
-use Rattle.acceptance.specs.Verdict.{isNumberTo, partialNode, tooLarge, wellFormed, forwardReference, rangePastEnd, tooManyVariables, badVariable, nodeFault, notNamedOnce, treeRefusal, verdictWithin}
+use Rattle.acceptance.specs.Verdict.{isNumberTo, partialNode, tooLarge, wellFormed, forwardReference, rangePastEnd, emptyBlock, tooManyVariables, badVariable, nodeFault, notNamedOnce, treeRefusal, verdictWithin}
 use Rattle.tree_check.specs.Named.{namedBy, namedBelow}
 use Rattle.tree_check.proofs.Named.{times-two, names-none, names-negation, names-operator, not-once-is}
 use Rattle.matrix_check.specs.Steps.{nodeLimits, soundNode, Tally, Tallied}
@@ -83,7 +83,7 @@ two-tests false forward = refl
 
 -- Of a matrix, refusals 3 and 4 are the only ones of a node.
 pub fault-sound : (ns : List ℕ) (i : ℕ) → eqb (nodeFault nodeLimits ns [] i) 0 ≡ soundNode i (wordsAt ns i)
-unfolding soundNode nodeFault rangePastEnd tooManyVariables badVariable pick
+unfolding soundNode nodeFault rangePastEnd emptyBlock isEmptyBlock tooManyVariables badVariable pick
 fault-sound ns i = go (look (wellFormed nodeLimits (wordsAt ns i)))
   where
     go : Is (wellFormed nodeLimits (wordsAt ns i)) → eqb (nodeFault nodeLimits ns [] i) 0 ≡ soundNode i (wordsAt ns i)

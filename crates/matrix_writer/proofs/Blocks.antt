@@ -88,6 +88,9 @@ module _ (ws ls : List ℕ) (ok : Accepted ws ls) (i : ℕ) (b : InnerBlock (tab
   unfolding tableOf
   count-is = count-at ws ls i (ok .fits i (b .below)) ∙ count-block ws i (block-kind ws ls i is-block)
 
+  pub count-some : 0 < count (tableOf ws ls) i
+  count-some = ok .filled refl i (b .below) is-block
+
   -- the block's entries are among all
   pub entries-within : boundBelow (tableOf ws ls) i + count (tableOf ws ls) i ≤ boundCount (tableOf ws ls)
   unfolding boundCount boundBelow sum

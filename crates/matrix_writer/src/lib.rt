@@ -133,9 +133,6 @@ fn write_constraint(
     let block = node_at(words, i);
     let definition = definitions[i];
     write_definition(nodes, at, definition, block.c);
-    if block.b == 0 {
-        return at + 2;
-    }
     let start = starts[i] as u32;
     let next = write_entries(nodes, at + 2, block.b, names + start, copies + start);
     write_guard(nodes, next, definition, guard_table(block.kind), at + 1);

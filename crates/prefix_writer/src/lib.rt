@@ -313,7 +313,7 @@ fn own_variables(
 }
 
 // Writes the numbers of node i's entries, where the first of all entries has the number first, and
-// returns how many there are. A node that binds nothing has no start: of it nothing is written,
+// returns how many there are. A node that is no block has no start: of it nothing is written,
 // whatever is read.
 fn write_entries(
     words: &[u32],

@@ -36,10 +36,10 @@ abbrev number : AnswerWith Sizes → ℕ
 number a = a .verdict .number
 
 module _ (ws ls : List ℕ) where
-  -- the sizes of a table, answered where it is accepted
-  sizes-are : verdict ws ls ≡ accepted → (s : Sizes) → s ≡ sizes (tableOf ws ls)
+  -- the sizes of a table, as they are answered
+  sizes-are : (s : Sizes) → s ≡ sizes (tableOf ws ls)
       → SizesOf s (writtenNodes (tableOf ws ls)) (writtenPrefix (tableOf ws ls)) (writtenVariables (tableOf ws ls))
-  sizes-are ok s e = rw e (sizes-written ws ls ok)
+  sizes-are s e = rw e (sizes-written (tableOf ws ls))
 
   pub measured-sizes : (a : AnswerWith Sizes) → a ≡ measured ws ls → SizesWritten (tableOf ws ls) a
   unfolding measured refused done SizesWritten
@@ -49,7 +49,7 @@ module _ (ws ls : List ℕ) where
           → SizesOf (a .sizes) (writtenNodes (tableOf ws ls)) (writtenPrefix (tableOf ws ls)) (writtenVariables (tableOf ws ls))
       go (is-true t) =
           let n = eqb-true _ 0 t in
-          sizes-are (number-zero ws ls n) (a .sizes) (ap (λ (b : AnswerWith Sizes). b .sizes) (e ∙ answer-next (verdict ws ls) noSizes _ n))
+          sizes-are (a .sizes) (ap (λ (b : AnswerWith Sizes). b .sizes) (e ∙ answer-next (verdict ws ls) noSizes _ n))
       go (is-false f) =
           let n = eqb-false _ 0 f in absurd (n (sym (ap number (e ∙ answer-refused (verdict ws ls) noSizes _ n)) ∙ z))
 
@@ -82,14 +82,14 @@ module _ (ws ls : List ℕ) where
 
   pub lifted-sizes : (before : FormBuffers) (o : Outcome Sizes FormBuffers) → o ≡ lifted ws ls before → SizesWritten (tableOf ws ls) (o .answer)
   unfolding SizesWritten
-  lifted-sizes before o e z = sizes-are (lifted-is before o e z .0) (o .answer .sizes) (sizes-answered before o e z)
+  lifted-sizes before o e z = sizes-are (o .answer .sizes) (sizes-answered before o e z)
 
   pub lifted-form : (before : FormBuffers) (o : Outcome Sizes FormBuffers) → o ≡ lifted ws ls before → FormWritten (tableOf ws ls) o
   unfolding written FormWritten
   lifted-form before o e z =
       let t = tableOf ws ls in
       let d = lifted-is before o e z in
-      let m = sizes-written ws ls (d .0) in
+      let m = sizes-written t in
       let s = sizes-answered before o e z in
       let n : take (width * o .answer .sizes .nodes) (o .buffers .nodes) ≡ writtenNodes t =
       ap (λ (k : ℕ). take k (o .buffers .nodes)) (ap (λ (y : Sizes). width * y .nodes) s)

@@ -33,7 +33,8 @@ module _ (ws ls : List ℕ) (ok : verdict ws ls ≡ accepted) where
   form-small : length (prenexNodes (tableOf ws ls)) ≤ 40960
   form-small =
       let a = accepted-holds ws ls ok in
-      omega (arith, length-prenexNodes (tableOf ws ls) (a .proper .tree), nodes-few (tableOf ws ls) (size-limit ws ls a) (bound-limit ws ls a))
+      let l = length-prenexNodes (tableOf ws ls) (a .proper .tree) (a .filled refl) in
+      omega (arith, nodes-few (tableOf ws ls) (size-limit ws ls a) (bound-limit ws ls a))
 
   module _ (out : List ℕ) (fits : length (writtenNodes (tableOf ws ls)) ≤ length out) where
     pub first-room : width * kept (tableOf ws ls) ≤ length out

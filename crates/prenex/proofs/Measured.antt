@@ -1,6 +1,6 @@
 -- The sizes of an accepted table from its parts, and their limits.
 -- Assumes nothing.
-use mathlib.Core.Path.{_≡_, sym, _∙_, ap}
+use mathlib.Core.Path.{_≡_, refl, sym, _∙_, ap}
 use mathlib.Core.List.{List}
 use Prim.Native.Nat.{ℕ, suc, _+_, _-_, _≤_, _<_}
 use native.Mathlib.Omega.{arith}
@@ -52,7 +52,7 @@ module _ (ws ls : List ℕ) (ok : verdict ws ls ≡ accepted) where
   unfolding sizes kept tableOf tree
   sizes-are n b q d nodes blocks entries e1 e2 e3 e4 e5 e6 e7 =
       let f4 = e4 ∙ sym (depth-levels (tableOf ws ls) tree) in
-      let rule = size-rule (tableOf ws ls) tree in
+      let rule = size-rule (tableOf ws ls) tree (accepted-holds ws ls ok .filled refl) in
       let f5 = e5 ∙ sym (rule .nodes-rule) in
       let s : levels (tableOf ws ls) + 1 ≡ suc (levels (tableOf ws ls)) = omega arith in
       let f6 = e6 ∙ ap (λ (k : ℕ). pick (eqb (blockCount (tableOf ws ls)) 0) 0 k) s ∙ sym (prefix-levels (tableOf ws ls)) in

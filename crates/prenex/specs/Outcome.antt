@@ -31,7 +31,7 @@ noSizes = record { n = 0; b = 0; q = 0; depth = 0; nodes = 0; blocks = 0; entrie
 abbrev pub answerOf : Answer → AnswerWith Sizes
 answerOf r = record { verdict = r .verdict; sizes = r .sizes }
 
--- Refusals 1 to 8. "Measuring never gives 9."
+-- Refusals 1 to 8 and 16. "Measuring never gives 9."
 unfoldable pub measured : List ℕ → List ℕ → AnswerWith Sizes
 measured ws ls = answerUnlessRefused (verdict ws ls) noSizes (done (sizes (tableOf ws ls)))
 
@@ -60,7 +60,7 @@ written t before =
       variables = overwrite (before .variables) 0 (writtenVariables t);
     }
 
--- Refusals 1 to 8, then 9, with every buffer as it was; else done.
+-- Refusals 1 to 8 and 16, then 9, with every buffer as it was; else done.
 unfoldable pub lifted : List ℕ → List ℕ → FormBuffers → Outcome Sizes FormBuffers
 lifted ws ls before =
     let t = tableOf ws ls in

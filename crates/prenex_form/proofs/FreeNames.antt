@@ -18,7 +18,7 @@ use Rattle.lists.proofs.Search.{lowest-none, lowest-holds, lowest-least}
 use Rattle.lists.proofs.Members.{mem-append, mem-left, mem-right, mem-head, mem-tail, mem-getD, mem-flatMap, or-group}
 use Rattle.lists.proofs.Parts.{term-le, upTo-cong}
 use Rattle.formula.specs.Node.{Quantifier, exists, for-all, Node, constant, variable, negation, operator, block, Table, operands, isBlock, bound}
-use Rattle.formula.specs.Tree.{Tree, Proper, count}
+use Rattle.formula.specs.Tree.{Tree, Proper, NoEmptyBlocks, count}
 use Rattle.formula.specs.Truth.{nodeFree, freeAt, free}
 use Rattle.formula.specs.Form.{Block, binds, formFree}
 use Rattle.formula.specs.FreeVariables.{standsAt, highestVariable, freeVariables}
@@ -320,10 +320,9 @@ module _ (t : Table) where
       constraint-sourced s =
           of-variable definition-sourced
           (of-operator (omega arith)
-          (pick-sourced (eqb (count t i) 0) _ _ none
           (append-sourced (upTo (equation t i (s + 2)) (count t i)) _
           (upTo-sourced (equation t i (s + 2)) (count t i) (λ k l. equation-sourced (s + 2) k l))
-          (of-variable definition-sourced (of-operator (guard-le (quantifierAt (t .node i))) (of-operator (omega arith) none))))))
+          (of-variable definition-sourced (of-operator (guard-le (quantifierAt (t .node i))) (of-operator (omega arith) none)))))
 
     -- every number of the list is that of an inner block
     abbrev Inner : List ℕ → Type 0
@@ -383,11 +382,11 @@ plain-binder : (ns : List Node) → Plain ns → (i x : ℕ) → binder (listTab
 unfolding binder listTable
 plain-binder ns plain i x = lowest-none _ (length ns) (λ b h. rw (plain b h) refl)
 
-module _ (t : Table) (tree : Tree t) (x : ℕ) where
+module _ (t : Table) (tree : Tree t) (filled : NoEmptyBlocks t) (x : ℕ) where
   form-table : free (listTable (prenexNodes t)) x ≡ true → binds (prefixBlocks t) x ≡ false → free t x ≡ true
   unfolding listTable
   form-table h n =
-      let s = free-stands (listTable (prenexNodes t)) (prenex-tree t tree) x h in
+      let s = free-stands (listTable (prenexNodes t)) (prenex-tree t tree filled) x h in
       let r : Source t x = subst (Sourced t) (s .variable-is) (prenex-sourced t tree (s .node)) in
       go r
     where
@@ -402,23 +401,24 @@ module _ (t : Table) (tree : Tree t) (x : ℕ) where
       let r = first-at t tree (levels t) (s .node) (variable-kept t tree (s .node) x (s .within) (s .variable-is)) in
       let e : renamed t (s .node) (t .node (s .node)) ≡ variable x
       = ap (renamed t (s .node)) (s .variable-is) ∙ ap variable (newName-free t (s .node) x (s .unbound)) in
-      stands-free (listTable (prenexNodes t)) (prenex-tree t tree) x
+      stands-free (listTable (prenexNodes t)) (prenex-tree t tree filled) x
       (record { node = s .node; within = r .0; variable-is = r .1 ∙ e; unbound = plain-binder (prenexNodes t) (prenex-plain t tree) (s .node) x })
 
-  table-unbound : free t x ≡ true → binds (prefixBlocks t) x ≡ false
-  unfolding writtenVariables
-  table-unbound h =
-      let s = free-stands t tree x h in
-      absent _ (λ b.
-      let m : mem x (writtenVariables t) ≡ true = sym (binds-mem (prefixBlocks t) x) ∙ b in
-      omega (arith, prefix-new t tree x m, variable-le t (s .node) x (s .within) (s .variable-is)))
+table-unbound : (t : Table) → Tree t → (x : ℕ) → free t x ≡ true → binds (prefixBlocks t) x ≡ false
+unfolding writtenVariables
+table-unbound t tree x h =
+    let s = free-stands t tree x h in
+    absent _ (λ b.
+    let m : mem x (writtenVariables t) ≡ true = sym (binds-mem (prefixBlocks t) x) ∙ b in
+    omega (arith, prefix-new t tree x m, variable-le t (s .node) x (s .within) (s .variable-is)))
 
 -- The written form has the table's free variables.
-pub same-free : (t : Table) → Proper t → (x : ℕ) → formFree (writtenNodes t) (writtenPrefix t) (writtenVariables t) x ≡ free t x
+pub same-free : (t : Table) → Proper t → NoEmptyBlocks t → (x : ℕ)
+    → formFree (writtenNodes t) (writtenPrefix t) (writtenVariables t) x ≡ free t x
 unfolding formFree
-same-free t proper x =
+same-free t proper filled x =
     let tree = proper .tree in
     rw (prefix-read t, written-table t tree)
     (same-test _ _
-    (λ h. form-table t tree x (and-left _ _ h) (and-not (free (listTable (prenexNodes t)) x) _ h))
-    (λ h. and-both _ _ (table-form t tree x h) (ap not (table-unbound t tree x h))))
+    (λ h. form-table t tree filled x (and-left _ _ h) (and-not (free (listTable (prenexNodes t)) x) _ h))
+    (λ h. and-both _ _ (table-form t tree filled x h) (ap not (table-unbound t tree x h))))

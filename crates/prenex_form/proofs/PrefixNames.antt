@@ -13,7 +13,8 @@ use Rattle.lists.specs.Choice.{pick, pick-yes, pick-no, Is, is-true, is-false, 
 use Rattle.lists.specs.Members.{mem, distinct}
 use Rattle.lists.specs.Parts.{sum, upTo}
 use Rattle.lists.proofs.Members.{mem-one, mem-neither, mem-flatMap-from, distinct-append}
-use Rattle.lists.proofs.Parts.{flatMap-append, upTo-cong, length-upTo, length-each, mem-upTo-from, sum-cong, sum-mono, sum-add, term-le, sum-zero, pick-le}
+use Rattle.lists.proofs.Parts.{flatMap-append, upTo-cong, length-upTo, length-each, mem-upTo-from, sum-cong, sum-mono, sum-add, term-le, sum-zero, pick-le, pick-add}
+use Rattle.lists.proofs.Sums.{sum-ones}
 use Rattle.formula.specs.Node.{Table, isBlock, bound}
 use Rattle.formula.specs.Tree.{Tree, count, boundBelow}
 use Rattle.formula.specs.Form.{Block, blocksOf}
@@ -85,11 +86,6 @@ pub sum-first : (f : ℕ → ℕ) (n : ℕ) → sum f (suc n) ≡ f 0 + sum (λ 
 unfolding sum
 sum-first f zero = omega arith
 sum-first f (suc n) = omega (arith, sum-first f n)
-
-sum-ones : (n : ℕ) → sum (λ i. 1) n ≡ n
-unfolding sum
-sum-ones zero = refl
-sum-ones (suc n) = omega (arith, sum-ones n)
 
 -- of the levels 1 to m, only level l has the term c
 level-none : (c l m : ℕ) → m < l → sum (λ j. pick (eqb l (suc j)) c 0) m ≡ 0
@@ -328,11 +324,6 @@ module _ (t : Table) where
     pub prefix-le : (x : ℕ) → mem x (writtenVariables t) ≡ true → x ≤ lastName t
     prefix-le x m = let r = prefix-origin x m in origin-le (r .0) x (r .1)
 
-pick-add : (b : Bool) (m n k : ℕ) → k ≡ m + n → pick b k 0 ≡ pick b m 0 + pick b n 0
-unfolding pick
-pick-add true m n k e = e
-pick-add false m n k e = refl
-
 pick-mono : (a b : Bool) (n : ℕ) → (a ≡ true → b ≡ true) → pick a n 0 ≤ pick b n 0
 unfolding pick
 pick-mono true true n h = omega arith
@@ -361,7 +352,7 @@ module _ (t : Table) where
   pub blockCount-le : blockCount t ≤ t .size
   unfolding blockCount
   blockCount-le =
-      omega (arith, sum-mono (λ i. pick (isBlock (t .node i)) 1 0) (λ i. 1) (t .size) (λ i h. pick-le (isBlock (t .node i)) 1), sum-ones (t .size))
+      omega (arith, sum-mono (λ i. pick (isBlock (t .node i)) 1 0) (λ i. 1) (t .size) (λ i h. pick-le (isBlock (t .node i)) 1), sum-ones (λ i. 1) (t .size) (λ i h. refl))
 
   -- how much lifting writes, from q, b and the depth
   pub entries-le : boundCount t + innerBoundBelow t (t .size) + innerBelow t (t .size) ≤ 2 * boundCount t + blockCount t
@@ -431,7 +422,7 @@ module _ (t : Table) where
           length-newNames t (t .size - 1),
           inner-levels (own t) (levels t) (omega arith),
           sum-cong (λ i. pick (inner t i) (length (own t i)) 0) (λ i. pick (inner t i) (count t i) 0 + pick (inner t i) 1 0) (t .size)
-              (λ i h. pick-add (inner t i) (count t i) 1 (length (own t i)) (length-own i)),
+              (λ i h. ap (λ n. pick (inner t i) n 0) (length-own i) ∙ pick-add (inner t i) (count t i) 1),
           sum-add (λ i. pick (inner t i) (count t i) 0) (λ i. pick (inner t i) 1 0) (t .size),
         )
 

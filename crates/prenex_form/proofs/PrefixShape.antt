@@ -1,17 +1,30 @@
--- The words of a prefix: kinds 5 and 6, and ranges that follow one another from the list's first entry to its last.
+-- The words of a prefix: kinds 5 and 6, and ranges that follow one another from the list's first entry to its last, none empty.
 -- Assumes nothing.
 use mathlib.Core.Path.{_≡_, refl, sym, _∙_, ap, subst}
-use mathlib.Core.List.{List, [], _∷_, flatMap}
-use Prim.Native.Nat.{ℕ, zero, suc, _+_, _*_, _/_, _≤_, _<_}
+use mathlib.Core.Bool.{true, false}
+use mathlib.Core.List.{List, [], _∷_, _++_, flatMap}
+use Prim.Native.Nat.{ℕ, zero, suc, _+_, _-_, _*_, _/_, _≤_, _<_}
 use native.Mathlib.Nat.{le-of-suc-le-suc, not-suc-le-zero, mul-div-cancel-left}
 use native.Mathlib.Omega.{arith}
+use lib.Dec.{eqb}
 use lib.ListN.{length, getD, length-append}
-use Rattle.lists.specs.Parts.{sum}
-use Rattle.lists.proofs.Parts.{sum-cong}
-use Rattle.formula.specs.Node.{Quantifier, exists, for-all, Table}
+use borrow.Author.Tests.{eqb-false}
+use Rattle.lists.specs.Choice.{pick, pick-yes, pick-no, Is, is-true, is-false, look}
+use Rattle.lists.specs.Members.{mem}
+use Rattle.lists.specs.Parts.{upTo, sum}
+use Rattle.lists.proofs.Members.{mem-head}
+use Rattle.lists.proofs.Parts.{sum-cong, sum-positive, length-each, getD-each}
+use Rattle.formula.specs.Node.{Quantifier, exists, for-all, Table, isBlock}
 use Rattle.formula.specs.Form.{Block, kindOf, prefixWords}
-use Rattle.prenex_form.specs.Prefix.{prefixBlocks, writtenPrefix, writtenVariables}
+use Rattle.formula.specs.Tree.{Tree, NoEmptyBlocks}
+use Rattle.prenex_form.specs.Names.{newNames, copies, definitionVariable}
+use Rattle.prenex_form.specs.Levels.{blocksAt, levels}
+use Rattle.prenex_form.specs.Matrix.{kept}
+use Rattle.prenex_form.specs.Prefix.{blockCount, leading, prefixBlock, prefixBlocks, writtenPrefix, writtenVariables}
+use Rattle.prenex_form.proofs.Paths.{kept-inner, inner-level, level-le-levels}
+use Rattle.prenex_form.proofs.NameLaws.{length-newNames, length-copies}
 use Rattle.prenex_form.proofs.PrefixNames.{prefix-length, sum-first}
+use Rattle.prenex_form.proofs.Written.{level-some, level-filled}
 
 -- the count of block k
 abbrev countWord : List ℕ → ℕ → ℕ
@@ -75,6 +88,16 @@ words-kind P each s (b ∷ bs) (suc j) h =
     let c = length (b .variables) in
     subst P (sym (shift-kind (kindOf (b .quantifier)) s c (prefixWords (s + c) bs) j)) (words-kind P each (s + c) bs j (le-of-suc-le-suc h))
 
+-- a block's count
+words-count : (d : Block) (s : ℕ) (bs : List Block) (j : ℕ) → j < length bs
+    → countWord (prefixWords s bs) j ≡ length (getD bs j d .variables)
+unfolding prefixWords
+words-count d s [] j h = absurd (not-suc-le-zero h)
+words-count d s (b ∷ bs) zero h = refl
+words-count d s (b ∷ bs) (suc j) h =
+    let c = length (b .variables) in
+    shift (kindOf (b .quantifier)) s c (prefixWords (s + c) bs) j 2 ∙ words-count d (s + c) bs j (le-of-suc-le-suc h)
+
 module _ (t : Table) where
   pub prefix-count : length (writtenPrefix t) / 3 ≡ length (prefixBlocks t)
   prefix-count = rw (prefix-length t) (mul-div-cancel-left (length (prefixBlocks t)) (omega arith))
@@ -98,3 +121,75 @@ module _ (t : Table) where
   pub prefix-fill : sum (λ k. getD (writtenPrefix t) (3 * k + 2) 0) (length (writtenPrefix t) / 3) ≡ length (writtenVariables t)
   unfolding writtenPrefix writtenVariables
   prefix-fill = rw prefix-count (words-fill 0 (prefixBlocks t))
+
+-- a part for each number of the list, none empty
+parts-some : (g : ℕ → List ℕ) (is : List ℕ) → 0 < length is → ((i : ℕ) → mem i is ≡ true → 0 < length (g i)) → 0 < length (flatMap g is)
+unfolding flatMap
+parts-some g [] some h = absurd (not-suc-le-zero some)
+parts-some g (i ∷ is) some h = omega (arith, length-append (g i) (flatMap g is), h i (mem-head i is))
+
+module _ (t : Table) (tree : Tree t) where
+  -- a block that is not the root has a level
+  has-level : isBlock (t .node (t .size - 1)) ≡ false → (i : ℕ) → i < t .size → Is (isBlock (t .node i)) → 0 < pick (isBlock (t .node i)) 1 0
+      → 0 < levels t
+  unfolding kept
+  has-level root i h (is-true b) p =
+      let k : i < kept t = omega (arith, pick-no {A = ℕ} (isBlock (t .node (t .size - 1))) 1 0 root) in
+      omega (arith, inner-level t tree i h (kept-inner t i k b), level-le-levels t tree i h)
+  has-level root i h (is-false b) p = absurd (omega (arith, pick-no {A = ℕ} (isBlock (t .node i)) 1 0 b))
+
+  some-level : isBlock (t .node (t .size - 1)) ≡ false → 0 < blockCount t → 0 < levels t
+  unfolding blockCount
+  some-level root some =
+      let r = sum-positive (λ i. pick (isBlock (t .node i)) 1 0) (t .size) some in has-level root (r .0) (r .1) (look _) (r .2)
+
+  -- Block 0 holds the root block's names or the copies of level 1, block j a definition variable of level j.
+  module _ (filled : NoEmptyBlocks t) where
+    block-some : (j : ℕ) → j ≤ levels t → 0 < blockCount t → 0 < length (prefixBlock t j .variables)
+    unfolding prefixBlock leading
+    block-some zero h some = go (look (isBlock (t .node (t .size - 1))))
+      where
+        names : List ℕ
+        names = newNames t (t .size - 1)
+
+        firstCopies : List ℕ
+        firstCopies = flatMap (copies t) (blocksAt t 1)
+
+        go : Is (isBlock (t .node (t .size - 1))) → 0 < length (names ++ firstCopies)
+        go (is-true b) =
+            let k = tree .nonempty in
+            omega (arith, length-append names firstCopies, length-newNames t (t .size - 1), filled (t .size - 1) (omega arith) b)
+        go (is-false b) =
+            let some-copy : 0 < length firstCopies =
+            parts-some (copies t) (blocksAt t 1) (level-some t tree 0 (some-level b some))
+            (λ i m. omega (arith, length-copies t i, level-filled t tree filled 1 i m)) in
+            omega (arith, length-append names firstCopies)
+    block-some (suc j) h some =
+        let own : ℕ → List ℕ = λ i. newNames t i ++ (definitionVariable t i ∷ []) in
+        let bs = blocksAt t (suc j) in
+        omega (
+          arith,
+          parts-some own bs (level-some t tree j h) (λ i m. omega (arith, length-append (newNames t i) (definitionVariable t i ∷ []))),
+          length-append (flatMap own bs) (flatMap (copies t) (blocksAt t (suc (suc j)))),
+        )
+
+    blocks-some : (j : ℕ) → j < length (prefixBlocks t) → 0 < length (getD (prefixBlocks t) j (prefixBlock t 0) .variables)
+    unfolding prefixBlocks
+    blocks-some j h = go (look (eqb (blockCount t) 0))
+      where
+        bs : List Block
+        bs = upTo (λ j. prefixBlock t j ∷ []) (suc (levels t))
+
+        go : Is (eqb (blockCount t) 0) → 0 < length (getD (pick (eqb (blockCount t) 0) [] bs) j (prefixBlock t 0) .variables)
+        go (is-true e) = absurd (not-suc-le-zero (rw (pick-yes _ [] bs e) at h))
+        go (is-false e) =
+            let some = eqb-false (blockCount t) 0 e in
+            let l : j < suc (levels t) = rw (pick-no _ [] bs e, length-each (prefixBlock t) (suc (levels t))) at h in
+            rw (pick-no _ [] bs e, getD-each (prefixBlock t) (suc (levels t)) j (prefixBlock t 0) l)
+            (block-some j (omega arith) (omega arith))
+
+    pub prefix-filled : (j : ℕ) → j < length (writtenPrefix t) / 3 → 0 < getD (writtenPrefix t) (3 * j + 2) 0
+    unfolding writtenPrefix
+    prefix-filled j h =
+        let l : j < length (prefixBlocks t) = rw (prefix-count t) at h in
+        rw (words-count (prefixBlock t 0) 0 (prefixBlocks t) j l) (blocks-some j l)

@@ -13,11 +13,13 @@ use Rattle.lists.specs.Members.{mem, all, distinct}
 use Rattle.lists.proofs.Search.{lowest-none}
 use Rattle.lists.proofs.Parts.{sum-zero}
 use Rattle.lists.proofs.Passing.{one-list}
-use Rattle.formula.specs.Node.{Table, bound}
+use Rattle.formula.specs.Node.{Table, isBlock, bound}
 use Rattle.formula.specs.Words.{width, nodeCount, wordsAt, nodeAt, tableOf}
-use Rattle.formula.specs.Truth.{free}
+use Rattle.formula.specs.Valuation.{Valuation}
+use Rattle.formula.specs.Truth.{truth, free}
+use Rattle.formula.specs.Form.{formTruth}
 use Rattle.formula.specs.FreeVariables.{standsAt, someNode, freeVariables, formFreeVariables}
-use Rattle.formula.specs.Tree.{Tree, count, boundBelow}
+use Rattle.formula.specs.Tree.{Tree, NoEmptyBlocks, count, boundBelow}
 use Rattle.formula.proofs.Nodes.{is-block}
 use Rattle.formula.proofs.Coincidence.{coincidence}
 use Rattle.formula.proofs.FreeVariables.{free-listed, form-free-listed}
@@ -35,7 +37,7 @@ use Rattle.prenex_form.proofs.FreeNames.{free-stands, same-free}
 use Rattle.prenex_form.proofs.Limits.{number-from, zero-within, node-within, within-formed, formed-mono, formed-plain, highest-limit, bound-limit, size-limit}
 use Rattle.prenex_form.proofs.NameLaws.{binds-nothing}
 use Rattle.prenex_form.proofs.PrefixNames.{prefix-length, prefix-distinct, prefix-entries, length-prefixBlocks, blockCount-le, entries-le, blocks-le, prefix-new}
-use Rattle.prenex_form.proofs.PrefixShape.{prefix-count, prefix-whole, prefix-kinds-from, prefix-kinds-to, prefix-follow, prefix-fill}
+use Rattle.prenex_form.proofs.PrefixShape.{prefix-count, prefix-whole, prefix-kinds-from, prefix-kinds-to, prefix-follow, prefix-fill, prefix-filled}
 use Rattle.prenex_form.proofs.WrittenFormed.{prenex-within, prefix-within}
 use Rattle.prenex_form.proofs.WrittenOrder.{prenex-plain}
 use Rattle.prenex_form.proofs.WrittenSizes.{length-prenexNodes}
@@ -48,29 +50,33 @@ unfolding tableOf
 of-accepted ws ls a =
     let t = tableOf ws ls in
     let tree = a .proper .tree in
+    let filled = a .filled refl in
+    let same : (v : Valuation) → formTruth (writtenNodes t) (writtenPrefix t) (writtenVariables t) v ≡ truth t v =
+    same-truth t (a .proper) filled in
     record {
-      same-truth = same-truth t (a .proper);
+      same-truth = same;
       table-by-free = coincidence t;
-      form-by-free = λ v u same. same-truth t (a .proper) v ∙ coincidence t v u same ∙ sym (same-truth t (a .proper) u);
-      same-free = same-free t (a .proper);
+      form-by-free = λ v u agree. same v ∙ coincidence t v u agree ∙ sym (same u);
+      same-free = same-free t (a .proper) filled;
       bound-once = prefix-distinct t tree;
       names-new = prefix-new t tree;
-      whole-nodes = written-whole t tree;
+      whole-nodes = written-whole t;
       matrix-formed = λ i h.
-          let l : i < length (prenexNodes t) = rw (written-count t tree) at h in
-          rw (written-words t tree i h)
+          let l : i < length (prenexNodes t) = rw (written-count t) at h in
+          rw (written-words t i h)
           (within-formed (highestName t) _ (prenex-plain t tree i l) (prenex-within t tree 65535 (node-within tableLimits ws ls a) i l));
-      matrix-tree = written-tree t tree;
+      matrix-tree = written-tree t tree filled;
       prefix-names = prefix-within t tree;
       whole-blocks = prefix-whole t;
       block-kinds-from = prefix-kinds-from t;
       block-kinds-to = prefix-kinds-to t;
       ranges-follow = prefix-follow t;
       ranges-fill = prefix-fill t;
-      nodes-bound = written-bound t tree;
+      blocks-filled = prefix-filled t tree filled;
+      nodes-bound = written-bound t tree filled;
       variables-bound = rw (prefix-entries t tree) (entries-le t);
       blocks-bound = rw (prefix-count t, length-prefixBlocks t tree) (blocks-le t);
-      nodes-limit = written-few t tree (size-limit ws ls a) (bound-limit ws ls a);
+      nodes-limit = written-few t tree filled (size-limit ws ls a) (bound-limit ws ls a);
       names-limit = omega (arith, highest-limit ws ls a, bound-limit ws ls a, size-limit ws ls a, blockCount-le t);
     }
 
@@ -88,31 +94,31 @@ same-list t tree ns ps xs p =
     (free-listed t tree)
 
 -- Measured sizes are the sizes written.
-pub sizes-written : (ws ls : List ℕ) → verdict ws ls ≡ accepted
-    → SizesOf (sizes (tableOf ws ls)) (writtenNodes (tableOf ws ls)) (writtenPrefix (tableOf ws ls)) (writtenVariables (tableOf ws ls))
+pub sizes-written : (t : Table) → SizesOf (sizes t) (writtenNodes t) (writtenPrefix t) (writtenVariables t)
 unfolding sizes
-sizes-written ws ls h =
-    let t = tableOf ws ls in
-    let tree = accepted-holds ws ls h .proper .tree in
+sizes-written t =
     record {
-      nodes-measured = written-whole t tree ∙ ap (λ n. width * n) (written-count t tree);
+      nodes-measured = written-whole t ∙ ap (λ n. width * n) (written-count t);
       blocks-measured = prefix-length t;
       entries-measured = refl;
     }
 
--- "So K nodes are joined by 4 × count + 5 for each inner block, or 3 where its count is 0", and the prefix and the list likewise.
-pub size-rule : (t : Table) → Tree t → SizeRule t
-size-rule t tree =
+-- "So K nodes are joined by 4 × count + 5 for each inner block", and the prefix and the list likewise.
+pub size-rule : (t : Table) → Tree t → NoEmptyBlocks t → SizeRule t
+size-rule t tree filled =
     record {
-      nodes-rule = length-prenexNodes t tree;
+      nodes-rule = length-prenexNodes t tree filled;
       blocks-rule = length-prefixBlocks t tree;
       entries-rule = prefix-entries t tree;
     }
 
 module _ (t : Table) (ns ps xs : List ℕ) (p : PrenexOf t ns ps xs) where
-  -- no node of a form's matrix binds anything
+  -- no node of a form's matrix is a block, so none binds anything
+  matrix-plain : (i : ℕ) → i < nodeCount ns → isBlock (nodeAt ns [] i) ≡ false
+  matrix-plain i h = is-block ns [] i ∙ formed-plain (highestName t) (wordsAt ns i) (p .matrix-formed i h)
+
   matrix-binds : (i : ℕ) → i < nodeCount ns → bound (nodeAt ns [] i) ≡ []
-  matrix-binds i h = binds-nothing _ (is-block ns [] i ∙ formed-plain (highestName t) (wordsAt ns i) (p .matrix-formed i h))
+  matrix-binds i h = binds-nothing _ (matrix-plain i h)
 
   pub matrix-accepted : AcceptedWithin (matrixLimits 77823) ns []
   unfolding tableOf boundBelow count distinct all
@@ -125,6 +131,7 @@ module _ (t : Table) (ns ps xs : List ℕ) (p : PrenexOf t ns ps xs) where
         counts-limit = omega (arith, sum-zero (count (tableOf ns [])) (nodeCount ns) (λ i h. ap length (matrix-binds i h)));
         formed = λ i h. formed-mono (highestName t) 77823 (wordsAt ns i) (p .names-limit) (p .matrix-formed i h);
         fits = λ i h b. clash b (formed-plain (highestName t) (wordsAt ns i) (p .matrix-formed i h));
+        filled = λ e i h b. clash b (matrix-plain i h);
         numbered = λ i h. rw (matrix-binds i h);
       }
 

@@ -13,7 +13,7 @@ use Rattle.lists.specs.Parts.{upTo, numbers}
 use Rattle.lists.proofs.Members.{mem-head}
 use Rattle.lists.proofs.Parts.{term-le}
 use Rattle.formula.specs.Node.{Table, isBlock}
-use Rattle.formula.specs.Tree.{Tree, Proper, count}
+use Rattle.formula.specs.Tree.{Tree, Proper, NoEmptyBlocks, count}
 use Rattle.formula.specs.Valuation.{Valuation, quant}
 use Rattle.formula.specs.Truth.{truth}
 use Rattle.formula.specs.Form.{Block, quantify, formTruth}
@@ -137,10 +137,11 @@ module _ (t : Table) (tree : Tree t) where
           ∙ root-value v (look (isBlock (t .node (t .size - 1)))))
 
 -- The written form has the table's truth value.
-pub same-truth : (t : Table) → Proper t → (v : Valuation) → formTruth (writtenNodes t) (writtenPrefix t) (writtenVariables t) v ≡ truth t v
+pub same-truth : (t : Table) → Proper t → NoEmptyBlocks t → (v : Valuation)
+    → formTruth (writtenNodes t) (writtenPrefix t) (writtenVariables t) v ≡ truth t v
 unfolding formTruth
-same-truth t proper v =
+same-truth t proper filled v =
     rw (prefix-read t)
-    (quantify-cong (prefixBlocks t) _ (matrixAt t (levels t) (levels t)) v (matrix-truth t (proper .tree))
+    (quantify-cong (prefixBlocks t) _ (matrixAt t (levels t) (levels t)) v (matrix-truth t (proper .tree) filled)
     ∙ prefix-truth t (proper .tree) v
     ∙ sym (renamed-truth t proper v))

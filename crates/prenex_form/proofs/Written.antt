@@ -18,7 +18,7 @@ use Rattle.lists.proofs.Parts.{length-each, getD-each}
 use Rattle.formula.specs.Node.{Quantifier, exists, for-all, Node, constant, variable, negation, operator, block, Table, operands, isBlock}
 use Rattle.formula.specs.Valuation.{Valuation}
 use Rattle.formula.specs.Truth.{operatorValue, nodeValue, value, truth}
-use Rattle.formula.specs.Tree.{Tree, count}
+use Rattle.formula.specs.Tree.{Tree, NoEmptyBlocks, count}
 use Rattle.formula.proofs.Operators.{and-is-8, or-is-14, biconditional-is-9, implies-is-11}
 use Rattle.prenex_form.specs.Scope.{inner, level}
 use Rattle.prenex_form.specs.Names.{newName, newNames, copies, definitionVariable}
@@ -46,11 +46,13 @@ equation-next t i s k =
     let d : s + 4 * suc k + 1 ≡ s + 4 * k + 5 = omega arith in
     pick-no _ _ _ (eqb·suc-zero k) ∙ rw (a, c, d, b)
 
-pub length-equations : (t : Table) (i s k : ℕ) → length (upTo (equation t i s) (suc k)) ≡ 4 * k + 3
+pub length-equations : (t : Table) (i s k : ℕ) → 0 < k → suc (length (upTo (equation t i s) k)) ≡ 4 * k
 unfolding upTo
-length-equations t i s zero = rw equation-first
-length-equations t i s (suc k) =
-    length-append (upTo (equation t i s) (suc k)) (equation t i s (suc k)) ∙ rw equation-next (omega (arith, length-equations t i s k))
+length-equations t i s zero h = absurd (not-suc-le-zero h)
+length-equations t i s (suc zero) h = rw equation-first
+length-equations t i s (suc (suc k)) h =
+    let n = length-equations t i s (suc k) (omega arith) in
+    rw (length-append (upTo (equation t i s) (suc k)) (equation t i s (suc k)), equation-next) (omega arith)
 
 and-assoc : (a b c : Bool) → (a && (b && c)) ≡ ((a && b) && c)
 and-assoc true b c = refl
@@ -91,88 +93,62 @@ module _ (t : Table) (ms : List Node) (v : Valuation) where
       let d = val-variable ms v b y (placed-at ms p part q 1 b (omega arith) (omega arith)) in
       equal-values (p + 2) a b (v x) (v y) (placed-at ms p part q 2 (p + 2) (omega arith) (omega arith)) (omega arith) (omega arith) c d
 
-  equations-values : (i s k : ℕ) → k < count t i → Placed ms s (upTo (equation t i s) (suc k))
-      → Val ms v (s + 4 * k + 2) (agree v (take (suc k) (newNames t i)) (take (suc k) (copies t i)))
+  equations-values : (i s k : ℕ) → 0 < k → k ≤ count t i → Placed ms s (upTo (equation t i s) k)
+      → Val ms v (s + 4 * k - 2) (agree v (take k (newNames t i)) (take k (copies t i)))
   unfolding upTo
-  equations-values i s zero h p =
+  equations-values i s zero some h p = absurd (not-suc-le-zero some)
+  equations-values i s (suc zero) some h p =
       let e = agree-one v (newNames t i) (copies t i) (omega (arith, length-newNames t i)) (omega (arith, length-copies t i)) in
-      val-is ms v (s + 2) (s + 4 * 0 + 2) _ _ (omega arith) (sym e)
+      val-is ms v (s + 2) (s + 4 * 1 - 2) _ _ (omega arith) (sym e)
       (entry-values s (getD (newNames t i) 0 0) (getD (copies t i) 0 0) s (s + 1) [] (rw equation-first at p) refl refl)
-  equations-values i s (suc k) h p =
+  equations-values i s (suc (suc k)) some h p =
       let xs = newNames t i in
       let ys = copies t i in
       let before = upTo (equation t i s) (suc k) in
-      let n = length-equations t i s k in
+      let n = length-equations t i s (suc k) (omega arith) in
       let last = operator and (s + 4 * k + 2) (s + 4 * k + 5) in
       let part = variable (getD xs (suc k) 0) ∷ variable (getD ys (suc k) 0) ∷ operator iff (s + 4 * k + 3) (s + 4 * k + 4) ∷ last ∷ [] in
       let q : Placed ms (s + length before) part = rw equation-next at (placed-right ms s before (equation t i s (suc k)) p) in
-      let old = equations-values i s k (omega arith) (placed-left ms s before (equation t i s (suc k)) p) in
+      let old = equations-values i s (suc k) (omega arith) (omega arith) (placed-left ms s before (equation t i s (suc k)) p) in
       let new =
       entry-values (s + length before) (getD xs (suc k) 0) (getD ys (suc k) 0) (s + 4 * k + 3) (s + 4 * k + 4) (last ∷ []) q (omega arith)
       (omega arith) in
       let e = agree-next v xs ys (suc k) (omega (arith, length-newNames t i)) (omega (arith, length-copies t i)) in
-      val-is ms v (s + 4 * k + 6) (s + 4 * suc k + 2) _ _ (omega arith) (sym e)
+      val-is ms v (s + 4 * k + 6) (s + 4 * suc (suc k) - 2) _ _ (omega arith) (sym e)
       (both-values (s + 4 * k + 6) (s + 4 * k + 2) (s + 4 * k + 5) _ _
       (placed-at ms _ part q 3 (s + 4 * k + 6) (omega arith) (omega arith)) (omega arith) (omega arith)
-      old (val-is ms v (s + length before + 2) (s + 4 * k + 5) _ _ (omega arith) refl new))
-
--- a constraint, by whether its block binds anything
-pub constraint-bare : (t : Table) (i s : ℕ) → count t i ≡ 0
-    → constraint t i s ≡ variable (definitionVariable t i) ∷ operator iff s (bodyOf (t .node i)) ∷ []
-unfolding constraint pick
-constraint-bare t i s e = rw e
+      (val-is ms v (s + 4 * suc k - 2) (s + 4 * k + 2) _ _ (omega arith) refl old)
+      (val-is ms v (s + length before + 2) (s + 4 * k + 5) _ _ (omega arith) refl new))
 
 -- the definition variable again, operator 14 or 11 of it and the equations, which end at index e, and operator 8 of the two steps
 unfoldable pub closing : Table → ℕ → ℕ → ℕ → List Node
 closing t i s e = variable (definitionVariable t i) ∷ operator (guard (quantifierAt (t .node i))) (e + 1) e ∷ operator and s (e + 2) ∷ []
 
-pub constraint-full : (t : Table) (i s c : ℕ) → count t i ≡ suc c
+-- the parts of a constraint
+pub constraint-parts : (t : Table) (i s : ℕ)
     → constraint t i s ≡ (variable (definitionVariable t i) ∷ operator iff s (bodyOf (t .node i)) ∷ [])
-    ++ (upTo (equation t i (s + 2)) (suc c) ++ closing t i (s + 1) (s + 4 * suc c))
-unfolding constraint pick closing
-constraint-full t i s c e = rw (e, eqb·suc-zero c)
+    ++ (upTo (equation t i (s + 2)) (count t i) ++ closing t i (s + 1) (s + 4 * count t i))
+unfolding constraint closing
+constraint-parts t i s = refl
 
-pub length-constraint-bare : (t : Table) (i s : ℕ) → count t i ≡ 0 → length (constraint t i s) ≡ 2
-length-constraint-bare t i s e = rw (constraint-bare t i s e)
-
-pub length-constraint-full : (t : Table) (i s c : ℕ) → count t i ≡ suc c → length (constraint t i s) ≡ 4 * c + 8
+pub length-constraint : (t : Table) (i s : ℕ) → 0 < count t i → suc (length (constraint t i s)) ≡ 4 * count t i + 5
 unfolding closing
-length-constraint-full t i s c e =
-    rw (constraint-full t i s c e) (simp length-append (omega (arith, length-equations t i (s + 2) c)))
-
-length-by : (t : Table) (i s n : ℕ) → count t i ≡ n → 2 ≤ length (constraint t i s)
-length-by t i s zero e = omega (arith, length-constraint-bare t i s e)
-length-by t i s (suc n) e = omega (arith, length-constraint-full t i s n e)
+length-constraint t i s some =
+    rw (constraint-parts t i s) (simp length-append (omega (arith, length-equations t i (s + 2) (count t i) some)))
 
 pub length-constraint-ge : (t : Table) (i s : ℕ) → 2 ≤ length (constraint t i s)
-length-constraint-ge t i s = length-by t i s (count t i) refl
+unfolding constraint
+length-constraint-ge t i s = omega arith
 
 pub length-constraints-ge : (t : Table) (i : ℕ) (is : List ℕ) (s : ℕ) → 2 ≤ length (constraints t (i ∷ is) s)
 unfolding constraints
 length-constraints-ge t i is s =
     omega (arith, length-append (constraint t i s) (further t is (s + length (constraint t i s))), length-constraint-ge t i s)
 
-agree-none : (v : Valuation) (xs ys : List ℕ) → length xs ≡ 0 → agree v xs ys ≡ true
-unfolding agree
-agree-none v [] ys h = refl
-agree-none v (x ∷ xs) ys h = absurd (omega arith)
-
 value-guard : (q : Quantifier) (m e : Bool) → operatorValue (guard q) m e ≡ guarded q m e
 unfolding guard guarded
 value-guard exists m e = or-is-14 m e
 value-guard for-all m e = implies-is-11 m e
-
-guarded-true : (q : Quantifier) (m : Bool) → guarded q m true ≡ true
-unfolding guarded
-guarded-true exists true = refl
-guarded-true exists false = refl
-guarded-true for-all true = refl
-guarded-true for-all false = refl
-
-holds-bare : (q : Quantifier) (xs ys : List ℕ) (m : ℕ) (f : Valuation → Bool) (v : Valuation) → length xs ≡ 0
-    → holds q xs ys m f v ≡ Bool·beq (v m) (f v)
-unfolding holds
-holds-bare q xs ys m f v h = rw (agree-none v xs ys h, guarded-true q (v m)) (and-true (Bool·beq (v m) (f v)))
 
 module _ (t : Table) (ms : List Node) (v : Valuation) (c : ℕ) where
   -- the definition variable, and operator 9 of it and the body
@@ -185,16 +161,6 @@ module _ (t : Table) (ms : List Node) (v : Valuation) (c : ℕ) where
       let m = val-variable ms v s (definitionVariable t i) (placed-at ms s part p 0 s (omega arith) (omega arith)) in
       equal-values t ms v (s + 1) s (bodyOf (t .node i)) _ _ (placed-at ms s part p 1 (s + 1) (omega arith) (omega arith)) (omega arith)
       (omega arith) m b
-
-  constraint-value-bare : (i s : ℕ) → count t i ≡ 0 → Placed ms s (constraint t i s) → bodyOf (t .node i) < s
-      → Val ms v (bodyOf (t .node i)) (valueAt t c (bodyOf (t .node i)) v)
-      → Val ms v (s + length (constraint t i s) - 1) (blockHolds t c v i)
-  unfolding blockHolds
-  constraint-value-bare i s e p h b =
-      val-is ms v (s + 1) (s + length (constraint t i s) - 1) _ _ (omega (arith, length-constraint-bare t i s e))
-      (sym (holds-bare (quantifierAt (t .node i)) (newNames t i) (copies t i) _ (valueAt t c (bodyOf (t .node i))) v
-      (length-newNames t i ∙ e)))
-      (definition-value i s (rw (constraint-bare t i s e) at p) h b)
 
   closing-value : (i s e : ℕ) (a b : Bool) → Placed ms (e + 1) (closing t i s e) → s < e → Val ms v s a → Val ms v e b
       → Val ms v (e + 3) (a && guarded (quantifierAt (t .node i)) (v (definitionVariable t i)) b)
@@ -211,52 +177,43 @@ module _ (t : Table) (ms : List Node) (v : Valuation) (c : ℕ) where
       both-values t ms v (e + 3) s (e + 2) _ _ (placed-at ms (e + 1) part p 2 (e + 3) (omega arith) (omega arith)) (omega arith)
       (omega arith) x k
 
-  equations-whole : (i s n : ℕ) → count t i ≡ suc n → Placed ms (s + 2) (upTo (equation t i (s + 2)) (suc n))
-      → Val ms v (s + 4 * suc n) (agree v (newNames t i) (copies t i))
-  equations-whole i s n e p =
-      let xs : take (suc n) (newNames t i) ≡ newNames t i = take-all (suc n) (newNames t i) (omega (arith, length-newNames t i)) in
-      let ys : take (suc n) (copies t i) ≡ copies t i = take-all (suc n) (copies t i) (omega (arith, length-copies t i)) in
-      val-is ms v (s + 2 + 4 * n + 2) (s + 4 * suc n) _ _ (omega arith) (ap₂ (agree v) xs ys)
-      (equations-values t ms v i (s + 2) n (omega arith) p)
+  equations-whole : (i s : ℕ) → 0 < count t i → Placed ms (s + 2) (upTo (equation t i (s + 2)) (count t i))
+      → Val ms v (s + 4 * count t i) (agree v (newNames t i) (copies t i))
+  equations-whole i s some p =
+      let xs : take (count t i) (newNames t i) ≡ newNames t i = take-all (count t i) (newNames t i) (omega (arith, length-newNames t i)) in
+      let ys : take (count t i) (copies t i) ≡ copies t i = take-all (count t i) (copies t i) (omega (arith, length-copies t i)) in
+      val-is ms v (s + 2 + 4 * count t i - 2) (s + 4 * count t i) _ _ (omega arith) (ap₂ (agree v) xs ys)
+      (equations-values t ms v i (s + 2) (count t i) some (omega arith) p)
 
-  constraint-value-full : (i s n : ℕ) → count t i ≡ suc n → Placed ms s (constraint t i s) → bodyOf (t .node i) < s
+  constraint-value : (i s : ℕ) → 0 < count t i → Placed ms s (constraint t i s) → bodyOf (t .node i) < s
       → Val ms v (bodyOf (t .node i)) (valueAt t c (bodyOf (t .node i)) v)
       → Val ms v (s + length (constraint t i s) - 1) (blockHolds t c v i)
   unfolding blockHolds holds
-  constraint-value-full i s n e p h b =
+  constraint-value i s some p h b =
+      let n = count t i in
       let first = variable (definitionVariable t i) ∷ operator iff s (bodyOf (t .node i)) ∷ [] in
-      let es = upTo (equation t i (s + 2)) (suc n) in
-      let end = closing t i (s + 1) (s + 4 * suc n) in
-      let p : Placed ms s (first ++ (es ++ end)) = rw (constraint-full t i s n e) at p in
+      let es = upTo (equation t i (s + 2)) n in
+      let end = closing t i (s + 1) (s + 4 * n) in
+      let p : Placed ms s (first ++ (es ++ end)) = rw (constraint-parts t i s) at p in
       let q : Placed ms (s + 2) (es ++ end) = placed-right ms s first (es ++ end) p in
       let r : Placed ms (s + 2 + length es) end = placed-right ms (s + 2) es end q in
-      let l : s + 2 + length es ≡ s + 4 * suc n + 1 = omega (arith, length-equations t i (s + 2) n) in
+      let l : s + 2 + length es ≡ s + 4 * n + 1 = omega (arith, length-equations t i (s + 2) n some) in
       let a = definition-value i s (placed-left ms s first (es ++ end) p) h b in
-      let d = equations-whole i s n e (placed-left ms (s + 2) es end q) in
-      val-is ms v (s + 4 * suc n + 3) (s + length (constraint t i s) - 1) _ _ (omega (arith, length-constraint-full t i s n e)) refl
-      (closing-value i (s + 1) (s + 4 * suc n) _ _ (rw l at r) (omega arith) a d)
+      let d = equations-whole i s some (placed-left ms (s + 2) es end q) in
+      val-is ms v (s + 4 * n + 3) (s + length (constraint t i s) - 1) _ _ (omega (arith, length-constraint t i s some)) refl
+      (closing-value i (s + 1) (s + 4 * n) _ _ (rw l at r) (omega arith) a d)
 
-  constraint-value-by : (i s n : ℕ) → count t i ≡ n → Placed ms s (constraint t i s) → bodyOf (t .node i) < s
-      → Val ms v (bodyOf (t .node i)) (valueAt t c (bodyOf (t .node i)) v)
-      → Val ms v (s + length (constraint t i s) - 1) (blockHolds t c v i)
-  constraint-value-by i s zero e = constraint-value-bare i s e
-  constraint-value-by i s (suc n) e = constraint-value-full i s n e
-
-  constraint-value : (i s : ℕ) → Placed ms s (constraint t i s) → bodyOf (t .node i) < s
-      → Val ms v (bodyOf (t .node i)) (valueAt t c (bodyOf (t .node i)) v)
-      → Val ms v (s + length (constraint t i s) - 1) (blockHolds t c v i)
-  constraint-value i s = constraint-value-by i s (count t i) refl
-
--- the bodies of these blocks are below k and have their values
+-- these blocks bind variables, and their bodies are below k and have their values
 abbrev Bodies : Table → List Node → Valuation → ℕ → ℕ → List ℕ → Type 0
 Bodies t ms v c k is =
-    (i : ℕ) → mem i is ≡ true → (bodyOf (t .node i) < k) × Val ms v (bodyOf (t .node i)) (valueAt t c (bodyOf (t .node i)) v)
+    (i : ℕ) → mem i is ≡ true
+    → (0 < count t i) × (bodyOf (t .node i) < k) × Val ms v (bodyOf (t .node i)) (valueAt t c (bodyOf (t .node i)) v)
 
 module _ (t : Table) (ms : List Node) (v : Valuation) (c k : ℕ) where
   head-value : (i : ℕ) (is : List ℕ) (s : ℕ) → k ≤ s → Bodies t ms v c k (i ∷ is) → Placed ms s (constraint t i s)
       → Val ms v (s + length (constraint t i s) - 1) (blockHolds t c v i)
   head-value i is s l ready p =
-      let r = ready i (mem-head i is) in constraint-value t ms v c i s p (omega (arith, r .0)) (r .1)
+      let r = ready i (mem-head i is) in constraint-value t ms v c i s (r .0) p (omega (arith, r .1)) (r .2)
 
   tail-bodies : (i : ℕ) (is : List ℕ) → Bodies t ms v c k (i ∷ is) → Bodies t ms v c k is
   tail-bodies i is ready j m = ready j (mem-tail j i is m)
@@ -397,6 +354,13 @@ module _ (t : Table) (tree : Tree t) where
   pub body-kept : (i : ℕ) → i < t .size → inner t i ≡ true → bodyOf (t .node i) < kept t
   body-kept i h n = omega (arith, body-lt i h n, inner-lt t tree i h n, kept-ge t)
 
+-- these blocks bind variables
+abbrev pub AllFilled : Table → List ℕ → Type 0
+AllFilled t is = (i : ℕ) → mem i is ≡ true → 0 < count t i
+
+pub level-filled : (t : Table) → Tree t → NoEmptyBlocks t → (l : ℕ) → AllFilled t (blocksAt t l)
+level-filled t tree filled l i m = filled i (blocksAt-lt t tree l i m) (inner-block t i (blocksAt-inner t tree l i m))
+
 module _ (t : Table) (tree : Tree t) (ms : List Node) (v : Valuation) (p : Placed ms 0 (firstNodes t)) where
   first-value : (f i : ℕ) → i < f → i < kept t → Val ms v i (value f (cut t (levels t)) i v)
   unfolding value cut
@@ -408,12 +372,12 @@ module _ (t : Table) (tree : Tree t) (ms : List Node) (v : Valuation) (p : Place
       (λ a l. first-value f a (omega arith) (omega arith))
       (λ b. and-both _ _ (kept-inner t i k b) (le-leb (level t i) (levels t) (level-le-levels t tree i n)))
 
-  bodies-value : (l : ℕ) → Bodies t ms v (levels t) (kept t) (blocksAt t l)
+  bodies-value : NoEmptyBlocks t → (l : ℕ) → Bodies t ms v (levels t) (kept t) (blocksAt t l)
   unfolding valueAt
-  bodies-value l i m =
+  bodies-value filled l i m =
       let h = blocksAt-lt t tree l i m in
       let b = body-kept t tree i h (blocksAt-inner t tree l i m) in
-      (b, first-value (t .size) (bodyOf (t .node i)) (omega (arith, kept-le t)) b)
+      (level-filled t tree filled l i m, b, first-value (t .size) (bodyOf (t .node i)) (omega (arith, kept-le t)) b)
 
   base-value : Val ms v (length (firstNodes t) - 1) (matrixAt t (levels t) 0 v)
   unfolding matrixAt valueAt
@@ -430,20 +394,21 @@ placed-first t ms zero p = p
 placed-first t ms (suc j) p = placed-first t ms j (placed-left ms 0 (nodesTo t j) (levelNodes t j (length (nodesTo t j))) p)
 
 -- the value of the matrix after j levels, in a list that begins with their nodes
-nodes-value : (t : Table) → Tree t → (ms : List Node) (v : Valuation) (j : ℕ) → j ≤ levels t → Placed ms 0 (nodesTo t j)
+nodes-value : (t : Table) → Tree t → NoEmptyBlocks t → (ms : List Node) (v : Valuation) (j : ℕ) → j ≤ levels t → Placed ms 0 (nodesTo t j)
     → (kept t ≤ length (nodesTo t j)) × Val ms v (length (nodesTo t j) - 1) (matrixAt t (levels t) j v)
-nodes-value t tree ms v j h p =
+nodes-value t tree filled ms v j h p =
     let first : Placed ms 0 (firstNodes t) = placed-first t ms j p in
     let l = length-firstNodes t in
     let k = kept-positive t tree in
     let r =
     levels-value t ms v (levels t) (kept t) j (omega arith) (omega arith) (λ i m. level-some t tree i (omega arith))
-    (λ i m. bodies-value t tree ms v first (suc i)) p (base-value t tree ms v first) in
+    (λ i m. bodies-value t tree ms v first filled (suc i)) p (base-value t tree ms v first) in
     (omega (arith, r .0), r .1)
 
-pub written-truth : (t : Table) → Tree t → (v : Valuation) → truth (listTable (prenexNodes t)) v ≡ matrixAt t (levels t) (levels t) v
+pub written-truth : (t : Table) → Tree t → NoEmptyBlocks t → (v : Valuation)
+    → truth (listTable (prenexNodes t)) v ≡ matrixAt t (levels t) (levels t) v
 unfolding prenexNodes
-written-truth t tree v =
+written-truth t tree filled v =
     let ms = nodesTo t (levels t) in
-    let r = nodes-value t tree ms v (levels t) (omega arith) (placed-all ms) in
+    let r = nodes-value t tree filled ms v (levels t) (omega arith) (placed-all ms) in
     val-truth ms v _ (omega (arith, r .0, kept-positive t tree)) (r .1)

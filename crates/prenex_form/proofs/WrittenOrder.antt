@@ -18,7 +18,7 @@ use Rattle.formula.specs.Node.{Quantifier, exists, for-all, Node, constant, var
 use Rattle.formula.specs.Words.{tableOf}
 use Rattle.formula.specs.Valuation.{Valuation}
 use Rattle.formula.specs.Truth.{truth}
-use Rattle.formula.specs.Tree.{Tree, count}
+use Rattle.formula.specs.Tree.{Tree, NoEmptyBlocks, count}
 use Rattle.formula.specs.Form.{matrixTruth}
 use Rattle.prenex_form.specs.Names.{definitionVariable}
 use Rattle.prenex_form.specs.Levels.{blocksAt, levels, levelQuantifier}
@@ -26,7 +26,7 @@ use Rattle.prenex_form.specs.Matrix.{iff, kept, renamed, firstNodes, bod
 use Rattle.prenex_form.proofs.Cut.{matrixAt}
 use Rattle.prenex_form.proofs.Paths.{kept-le, blocksAt-lt, blocksAt-inner, kept-positive}
 use Rattle.prenex_form.proofs.NodeLists.{listTable, Plain, words-table}
-use Rattle.prenex_form.proofs.Written.{equation-first, equation-next, length-equations, closing, constraint-bare, constraint-full, length-constraint-ge, length-firstNodes, body-kept, written-truth}
+use Rattle.prenex_form.proofs.Written.{equation-first, equation-next, length-equations, closing, constraint-parts, length-constraint-ge, length-firstNodes, body-kept, written-truth}
 
 -- A node that is no block and names only nodes below i.
 abbrev Fits : ℕ → Node → Type 0
@@ -56,28 +56,30 @@ of-operator : {s f a b : ℕ} {ns : List Node} → a < s → b < s → Ordered (
 of-operator {s} {f} {a} {b} l r o = next (operator f a b) (l, r) o
 
 -- the parts of the form
-equations-ordered : (t : Table) (i s k : ℕ) → Ordered s (upTo (equation t i s) (suc k))
+equations-ordered : (t : Table) (i s k : ℕ) → Ordered s (upTo (equation t i s) k)
 unfolding upTo
-equations-ordered t i s zero = rw equation-first (of-variable (of-variable (of-operator (omega arith) (omega arith) none)))
-equations-ordered t i s (suc k) =
-    let n = length-equations t i s k in
-    ordered-append s (upTo (equation t i s) (suc k)) (equation t i s (suc k)) (equations-ordered t i s k)
+equations-ordered t i s zero = none
+equations-ordered t i s (suc zero) = rw equation-first (of-variable (of-variable (of-operator (omega arith) (omega arith) none)))
+equations-ordered t i s (suc (suc k)) =
+    let n = length-equations t i s (suc k) (omega arith) in
+    ordered-append s (upTo (equation t i s) (suc k)) (equation t i s (suc k)) (equations-ordered t i s (suc k))
     (rw equation-next (of-variable (of-variable (of-operator (omega arith) (omega arith) (of-operator (omega arith) (omega arith) none)))))
 
-constraint-ordered-by : (t : Table) (i s n : ℕ) → count t i ≡ n → bodyOf (t .node i) < s → Ordered s (constraint t i s)
-unfolding closing
-constraint-ordered-by t i s zero e h = rw (constraint-bare t i s e) (of-variable (of-operator (omega arith) (omega arith) none))
-constraint-ordered-by t i s (suc n) e h =
-    let l = length-equations t i (s + 2) n in
-    let first = variable (definitionVariable t i) ∷ operator iff s (bodyOf (t .node i)) ∷ [] in
-    let es = upTo (equation t i (s + 2)) (suc n) in
-    rw (constraint-full t i s n e)
-    (ordered-append s first (es ++ closing t i (s + 1) (s + 4 * suc n)) (of-variable (of-operator (omega arith) (omega arith) none))
-    (ordered-append (s + 2) es (closing t i (s + 1) (s + 4 * suc n)) (equations-ordered t i (s + 2) n)
-    (of-variable (of-operator (omega arith) (omega arith) (of-operator (omega arith) (omega arith) none)))))
+equations-reach : (t : Table) (i s k : ℕ) → 4 * k ≤ suc (length (upTo (equation t i s) k))
+equations-reach t i s zero = omega arith
+equations-reach t i s (suc k) = omega (arith, length-equations t i s (suc k) (omega arith))
 
 constraint-ordered : (t : Table) (i s : ℕ) → bodyOf (t .node i) < s → Ordered s (constraint t i s)
-constraint-ordered t i s h = constraint-ordered-by t i s (count t i) refl h
+unfolding closing
+constraint-ordered t i s h =
+    let n = count t i in
+    let l = equations-reach t i (s + 2) n in
+    let first = variable (definitionVariable t i) ∷ operator iff s (bodyOf (t .node i)) ∷ [] in
+    let es = upTo (equation t i (s + 2)) n in
+    rw (constraint-parts t i s)
+    (ordered-append s first (es ++ closing t i (s + 1) (s + 4 * n)) (of-variable (of-operator (omega arith) (omega arith) none))
+    (ordered-append (s + 2) es (closing t i (s + 1) (s + 4 * n)) (equations-ordered t i (s + 2) n)
+    (of-variable (of-operator (omega arith) (omega arith) (of-operator (omega arith) (omega arith) none)))))
 
 -- the bodies of these blocks are below k
 abbrev Low : Table → ℕ → List ℕ → Type 0
@@ -193,6 +195,6 @@ module _ (t : Table) (tree : Tree t) where
   unfolding writtenNodes
   written-table = words-table (prenexNodes t) prenex-plain
 
-  pub matrix-truth : (v : Valuation) → matrixTruth (writtenNodes t) v ≡ matrixAt t (levels t) (levels t) v
+  pub matrix-truth : NoEmptyBlocks t → (v : Valuation) → matrixTruth (writtenNodes t) v ≡ matrixAt t (levels t) (levels t) v
   unfolding matrixTruth
-  matrix-truth v = ap (λ (u : Table). truth u v) written-table ∙ written-truth t tree v
+  matrix-truth filled v = ap (λ (u : Table). truth u v) written-table ∙ written-truth t tree filled v

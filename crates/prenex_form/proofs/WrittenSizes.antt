@@ -8,21 +8,22 @@ use native.Mathlib.Omega.{arith}
 use native.Mathlib.Nat.{not-suc-le-zero}
 use lib.Dec.{eqb, leb}
 use lib.ListN.{length, length-append}
-use borrow.Author.Tests.{eqb-true, eqb-false, eq-eqb, ne-eqb, leb-true, leb-false, le-leb, lt-leb}
+use borrow.Author.Tests.{eqb-true, eqb-false, leb-true, leb-false, le-leb, lt-leb}
 use Rattle.lists.specs.Choice.{pick, pick-yes, pick-no, Is, is-true, is-false, look}
 use Rattle.lists.specs.Parts.{upTo, sum}
+use Rattle.lists.proofs.Members.{mem-head, mem-tail}
 use Rattle.lists.proofs.Parts.{sum-cong, sum-mono, sum-add, sum-zero}
 use Rattle.formula.specs.Node.{Table, isBlock}
-use Rattle.formula.specs.Tree.{Tree, count, boundBelow}
+use Rattle.formula.specs.Tree.{Tree, NoEmptyBlocks, count, boundBelow}
 use Rattle.prenex_form.specs.Scope.{inner, level}
 use Rattle.prenex_form.specs.Names.{boundCount}
 use Rattle.prenex_form.specs.Levels.{blocksAt, levels}
 use Rattle.prenex_form.specs.Matrix.{kept, constraint, further, constraints, levelNodes, nodesTo, prenexNodes}
 use Rattle.prenex_form.specs.Prefix.{blockCount}
-use Rattle.prenex_form.specs.Sizes.{addedFor, addedBy}
+use Rattle.prenex_form.specs.Sizes.{addedBy}
 use Rattle.prenex_form.proofs.Paths.{kept-le, inner-level, level-le-levels, inner-block}
 use Rattle.prenex_form.proofs.PrefixNames.{blockCount-le}
-use Rattle.prenex_form.proofs.Written.{length-constraint-bare, length-constraint-full, length-firstNodes, level-some}
+use Rattle.prenex_form.proofs.Written.{length-constraint, length-firstNodes, level-some, AllFilled, level-filled}
 
 -- the sum of g over a list
 unfoldable pub sumOf : (ℕ → ℕ) → List ℕ → ℕ
@@ -90,44 +91,42 @@ module _ (t : Table) (tree : Tree t) (g : ℕ → ℕ) where
 
 -- what an inner block adds
 abbrev added : Table → ℕ → ℕ
-added t i = addedFor (count t i)
+added t i = 4 * count t i + 5
 
-length-constraint-by : (t : Table) (i s n : ℕ) → count t i ≡ n → suc (length (constraint t i s)) ≡ added t i
-length-constraint-by t i s zero e =
-    let p : _≡_ {A = ℕ} (added t i) _ = pick-yes _ _ _ (eq-eqb _ _ e) in omega (arith, length-constraint-bare t i s e)
-length-constraint-by t i s (suc n) e =
-    let p : _≡_ {A = ℕ} (added t i) _ = pick-no _ _ _ (ne-eqb (count t i) 0 (λ z. omega arith)) in omega (arith, length-constraint-full t i s n e)
-
-length-constraint : (t : Table) (i s : ℕ) → suc (length (constraint t i s)) ≡ added t i
-length-constraint t i s = length-constraint-by t i s (count t i) refl
-
-length-further : (t : Table) (is : List ℕ) (s : ℕ) → length (further t is s) ≡ sumOf (added t) is
+length-further : (t : Table) (is : List ℕ) (s : ℕ) → AllFilled t is → length (further t is s) ≡ sumOf (added t) is
 unfolding further sumOf
-length-further t [] s = refl
-length-further t (i ∷ is) s =
+length-further t [] s filled = refl
+length-further t (i ∷ is) s filled =
     let e = s + length (constraint t i s) in
-    length-append (constraint t i s) _ ∙ omega (arith, length-constraint t i s, length-further t is (e + 1))
+    let l = length-constraint t i s (filled i (mem-head i is)) in
+    length-append (constraint t i s) _ ∙ omega (arith, length-further t is (e + 1) (λ j m. filled j (mem-tail j i is m)))
 
-length-constraints : (t : Table) (is : List ℕ) (s : ℕ) → 0 < length is → suc (length (constraints t is s)) ≡ sumOf (added t) is
+length-constraints : (t : Table) (is : List ℕ) (s : ℕ) → AllFilled t is → 0 < length is
+    → suc (length (constraints t is s)) ≡ sumOf (added t) is
 unfolding constraints sumOf
-length-constraints t [] s h = absurd (not-suc-le-zero h)
-length-constraints t (i ∷ is) s h =
+length-constraints t [] s filled h = absurd (not-suc-le-zero h)
+length-constraints t (i ∷ is) s filled h =
     let e = s + length (constraint t i s) in
-    omega (arith, length-append (constraint t i s) (further t is e), length-constraint t i s, length-further t is e)
+    let l = length-constraint t i s (filled i (mem-head i is)) in
+    omega (arith, length-append (constraint t i s) (further t is e), length-further t is e (λ j m. filled j (mem-tail j i is m)))
 
-length-levelNodes : (t : Table) (j s : ℕ) → 0 < length (blocksAt t (suc j))
+length-levelNodes : (t : Table) (j s : ℕ) → AllFilled t (blocksAt t (suc j)) → 0 < length (blocksAt t (suc j))
     → length (levelNodes t j s) ≡ sumOf (added t) (blocksAt t (suc j))
 unfolding levelNodes
-length-levelNodes t j s h =
-    length-append (constraints t (blocksAt t (suc j)) s) _ ∙ omega (arith, length-constraints t (blocksAt t (suc j)) s h)
+length-levelNodes t j s filled h =
+    length-append (constraints t (blocksAt t (suc j)) s) _ ∙ omega (arith, length-constraints t (blocksAt t (suc j)) s filled h)
 
-module _ (t : Table) (tree : Tree t) where
+module _ (t : Table) (tree : Tree t) (filled : NoEmptyBlocks t) where
   length-nodesTo : (j : ℕ) → j ≤ levels t → length (nodesTo t j) ≡ kept t + sum (λ l. sumOf (added t) (blocksAt t (suc l))) j
   unfolding nodesTo sum
   length-nodesTo zero h = omega (arith, length-firstNodes t)
   length-nodesTo (suc j) h =
       length-append (nodesTo t j) _
-      ∙ omega (arith, length-nodesTo j (omega arith), length-levelNodes t j (length (nodesTo t j)) (level-some t tree j h))
+      ∙ omega (
+        arith,
+        length-nodesTo j (omega arith),
+        length-levelNodes t j (length (nodesTo t j)) (level-filled t tree filled (suc j)) (level-some t tree j h),
+      )
 
   pub length-prenexNodes : length (prenexNodes t) ≡ kept t + sum (addedBy t) (t .size)
   unfolding prenexNodes addedBy
@@ -138,17 +137,12 @@ unfolding sum
 sum-times f zero = (refl, refl)
 sum-times f (suc n) = let r = sum-times f n in (omega (arith, r .0), omega (arith, r .1))
 
-added-le : (t : Table) (i n : ℕ) → count t i ≡ n → added t i ≤ 5 + 4 * count t i
-added-le t i zero e = let p : _≡_ {A = ℕ} (added t i) _ = pick-yes _ _ _ (eq-eqb _ _ e) in omega arith
-added-le t i (suc n) e =
-    let p : _≡_ {A = ℕ} (added t i) _ = pick-no _ _ _ (ne-eqb (count t i) 0 (λ z. omega arith)) in omega arith
-
 added-by-le : (t : Table) (i : ℕ) → Is (inner t i) → addedBy t i ≤ 5 * pick (isBlock (t .node i)) 1 0 + 4 * count t i
 unfolding addedBy
 added-by-le t i (is-true e) =
     let a : pick (inner t i) (added t i) 0 ≡ added t i = pick-yes _ _ _ e in
     let b : _≡_ {A = ℕ} (pick (isBlock (t .node i)) 1 0) 1 = pick-yes _ _ _ (inner-block t i e) in
-    omega (arith, added-le t i (count t i) refl)
+    omega arith
 added-by-le t i (is-false e) = let a : pick (inner t i) (added t i) 0 ≡ 0 = pick-no _ _ _ e in omega arith
 
 -- the bound of document 01

@@ -10,19 +10,20 @@ use lib.Dec.{eqb, ltb}
 use lib.ListN.{length, getD, length-append}
 use borrow.Author.Tests.{ltb-true, ltb-false, lt-ltb, le-ltb, eqb-true, eqb-false, eq-eqb}
 use Rattle.lists.specs.Choice.{pick, pick-yes, pick-no, Is, is-true, is-false, look, clash}
-use Rattle.lists.specs.Members.{mem, times}
+use Rattle.lists.specs.Members.{times}
 use Rattle.lists.specs.Parts.{upTo, sum}
-use Rattle.lists.proofs.Members.{times-zero}
+use Rattle.lists.proofs.Members.{mem-head, mem-tail}
 use Rattle.lists.proofs.Parts.{sum-cong, sum-add, sum-zero}
 use Rattle.formula.specs.Node.{Quantifier, exists, for-all, Node, constant, variable, negation, operator, block, Table, operands, isBlock}
-use Rattle.formula.specs.Tree.{Tree, count, timesNamed}
+use Rattle.formula.specs.Tree.{Tree, NoEmptyBlocks, count, timesNamed}
+use Rattle.formula.proofs.Users.{last-unnamed}
 use Rattle.prenex_form.specs.Scope.{inner}
 use Rattle.prenex_form.specs.Levels.{blocksAt, levels, levelQuantifier}
 use Rattle.prenex_form.specs.Matrix.{and, kept, renamed, firstNodes, bodyOf, equation, constraint, further, constraints, levelJoin, levelNodes, nodesTo, prenexNodes}
 use Rattle.prenex_form.proofs.Paths.{kept-root, kept-inner, root-body, kept-positive}
 use Rattle.prenex_form.proofs.PrefixNames.{sum-first}
 use Rattle.prenex_form.proofs.NodeLists.{listTable}
-use Rattle.prenex_form.proofs.Written.{equation-first, equation-next, closing, constraint-bare, constraint-full, length-constraint-bare, length-constraint-full, length-constraint-ge, length-constraints-ge, length-firstNodes, level-some}
+use Rattle.prenex_form.proofs.Written.{equation-first, equation-next, closing, constraint-parts, length-constraint, length-constraint-ge, length-constraints-ge, length-firstNodes, level-some, AllFilled, level-filled}
 use Rattle.prenex_form.proofs.WrittenOrder.{prenex-lower, prenex-nonempty}
 use Rattle.prenex_form.proofs.WrittenSizes.{sumOf, sum-blocks}
 
@@ -81,19 +82,23 @@ unfolding named
 named-nil i = refl
 
 -- the equations: each node but the last, once
-equations-named : (i : ℕ) (t : Table) (b s k : ℕ) → named i (upTo (equation t b s) (suc k)) + below i s ≡ below i (s + 4 * k + 2)
+equations-named : (i : ℕ) (t : Table) (b s k : ℕ) → 0 < k → named i (upTo (equation t b s) k) + below i s ≡ below i (s + 4 * k - 2)
 unfolding upTo
-equations-named i t b s zero =
-    let e : s + 4 * 0 + 2 ≡ s + 2 = omega arith in
+equations-named i t b s zero h = absurd (not-suc-le-zero h)
+equations-named i t b s (suc zero) h =
+    let e : s + 4 * 1 - 2 ≡ s + 2 = omega arith in
     rw (equation-first, named-variable, named-variable, named-operator, named-nil, e)
     (omega (arith, step i s (s + 1) (omega arith), step i (s + 1) (s + 2) (omega arith)))
-equations-named i t b s (suc k) =
+equations-named i t b s (suc (suc k)) h =
     let p = s + 4 * k in
-    let e : s + 4 * suc k + 2 ≡ s + 4 * k + 6 = omega arith in
+    let e : s + 4 * suc (suc k) - 2 ≡ s + 4 * k + 6 = omega arith in
+    let x : s + 4 * suc k - 2 ≡ s + 4 * k + 2 = omega arith in
+    let q : named i (upTo (equation t b s) (suc k)) + below i s ≡ below i (p + 2) =
+    rw x at (equations-named i t b s (suc k) (omega arith)) in
     rw (named-append, equation-next, named-variable, named-variable, named-operator, named-operator, named-nil, e)
     (omega (
       arith,
-      equations-named i t b s k,
+      q,
       step i (p + 2) (p + 3) (omega arith),
       step i (p + 3) (p + 4) (omega arith),
       step i (p + 4) (p + 5) (omega arith),
@@ -105,20 +110,18 @@ body : ℕ → Table → ℕ → ℕ
 body i t b = one i (bodyOf (t .node b))
 
 -- a constraint: each node but the last, and the block's body
-constraint-named-by : (i : ℕ) (t : Table) (b s n : ℕ) → count t b ≡ n
+constraint-named : (i : ℕ) (t : Table) (b s : ℕ) → 0 < count t b
     → named i (constraint t b s) + below i s ≡ below i (s + length (constraint t b s) - 1) + body i t b
 unfolding closing body
-constraint-named-by i t b s zero e =
-    let l : s + length (constraint t b s) - 1 ≡ s + 1 = omega (arith, length-constraint-bare t b s e) in
-    rw (l, constraint-bare t b s e, named-variable, named-operator, named-nil) (omega (arith, step i s (s + 1) (omega arith)))
-constraint-named-by i t b s (suc n) e =
-    let x = s + 4 * suc n in
-    let l : s + length (constraint t b s) - 1 ≡ x + 3 = omega (arith, length-constraint-full t b s n e) in
-    let y : s + 2 + 4 * n + 2 ≡ x = omega arith in
-    let q : named i (upTo (equation t b (s + 2)) (suc n)) + below i (s + 2) ≡ below i x = rw y at (equations-named i t b (s + 2) n) in
+constraint-named i t b s some =
+    let n = count t b in
+    let x = s + 4 * n in
+    let l : s + length (constraint t b s) - 1 ≡ x + 3 = omega (arith, length-constraint t b s some) in
+    let y : s + 2 + 4 * n - 2 ≡ x = omega arith in
+    let q : named i (upTo (equation t b (s + 2)) n) + below i (s + 2) ≡ below i x = rw y at (equations-named i t b (s + 2) n some) in
     rw (
       l,
-      constraint-full t b s n e,
+      constraint-parts t b s,
       named-variable,
       named-operator,
       named-append,
@@ -137,17 +140,13 @@ constraint-named-by i t b s (suc n) e =
       step i (x + 2) (x + 3) (omega arith),
     ))
 
-constraint-named : (i : ℕ) (t : Table) (b s : ℕ)
-    → named i (constraint t b s) + below i s ≡ below i (s + length (constraint t b s) - 1) + body i t b
-constraint-named i t b s = constraint-named-by i t b s (count t b) refl
-
 module _ (i : ℕ) (t : Table) where
-  further-named : (bs : List ℕ) (s : ℕ) → 0 < s
+  further-named : (bs : List ℕ) (s : ℕ) → AllFilled t bs → 0 < s
       → named i (further t bs s) + below i (s - 1) ≡ below i (s + length (further t bs s) - 1) + sumOf (body i t) bs
   unfolding further sumOf
-  further-named [] s h =
+  further-named [] s filled h =
       let l : s + 0 - 1 ≡ s - 1 = omega arith in rw (l, named-nil) (omega arith)
-  further-named (b ∷ bs) s h =
+  further-named (b ∷ bs) s filled h =
       let c = constraint t b s in
       let e = s + length c in
       let rest = further t bs (e + 1) in
@@ -156,22 +155,23 @@ module _ (i : ℕ) (t : Table) where
       let l : s + length (c ++ (o ∷ rest)) - 1 ≡ e + 1 + length rest - 1 = omega (arith, length-append c (o ∷ rest)) in
       let z : e + 1 - 1 ≡ e = omega arith in
       let r : named i rest + below i e ≡ below i (e + 1 + length rest - 1) + sumOf (body i t) bs =
-      rw z at (further-named bs (e + 1) (omega arith)) in
-      let k : named i c + below i s ≡ below i (e - 1) + body i t b = constraint-named i t b s in
+      rw z at (further-named bs (e + 1) (λ j m. filled j (mem-tail j b bs m)) (omega arith)) in
+      let k : named i c + below i s ≡ below i (e - 1) + body i t b = constraint-named i t b s (filled b (mem-head b bs)) in
       rw (l, named-append i c (o ∷ rest), named-operator i and (s - 1) (e - 1) rest)
       (omega (arith, r, k, step i (s - 1) s (omega arith), step i (e - 1) e (omega arith)))
 
-  constraints-named : (bs : List ℕ) (s : ℕ) → 0 < length bs
+  constraints-named : (bs : List ℕ) (s : ℕ) → AllFilled t bs → 0 < length bs
       → named i (constraints t bs s) + below i s ≡ below i (s + length (constraints t bs s) - 1) + sumOf (body i t) bs
   unfolding constraints sumOf
-  constraints-named [] s h = absurd (not-suc-le-zero h)
-  constraints-named (b ∷ bs) s h =
+  constraints-named [] s filled h = absurd (not-suc-le-zero h)
+  constraints-named (b ∷ bs) s filled h =
       let c = constraint t b s in
       let e = s + length c in
       let rest = further t bs e in
       let n = length-constraint-ge t b s in
       let l : s + length (c ++ rest) - 1 ≡ e + length rest - 1 = omega (arith, length-append c rest) in
-      rw (l, named-append i c rest) (omega (arith, further-named bs e (omega arith), constraint-named i t b s))
+      let k : named i c + below i s ≡ below i (e - 1) + body i t b = constraint-named i t b s (filled b (mem-head b bs)) in
+      rw (l, named-append i c rest) (omega (arith, further-named bs e (λ j m. filled j (mem-tail j b bs m)) (omega arith)))
 
   levelJoin-named : (q : Quantifier) (m c : ℕ) → named i (levelJoin q m c ∷ []) ≡ one i m + one i c
   unfolding levelJoin
@@ -183,10 +183,10 @@ module _ (i : ℕ) (t : Table) where
   constraints-some (b ∷ bs) s h = omega (arith, length-constraints-ge t b bs s)
 
   -- a level: each node from the one before it to its last but one, and the bodies of its blocks
-  level-named : (j s : ℕ) → 0 < length (blocksAt t (suc j)) → 0 < s
+  level-named : (j s : ℕ) → AllFilled t (blocksAt t (suc j)) → 0 < length (blocksAt t (suc j)) → 0 < s
       → named i (levelNodes t j s) + below i (s - 1) ≡ below i (s + length (levelNodes t j s) - 1) + sumOf (body i t) (blocksAt t (suc j))
   unfolding levelNodes
-  level-named j s some h =
+  level-named j s filled some h =
       let bs = blocksAt t (suc j) in
       let cs = constraints t bs s in
       let m = s + length cs - 1 in
@@ -194,21 +194,22 @@ module _ (i : ℕ) (t : Table) where
       let n = constraints-some bs s some in
       let l : s + length (cs ++ (w ∷ [])) - 1 ≡ s + length cs = omega (arith, length-append cs (w ∷ [])) in
       rw (l, named-append i cs (w ∷ []), levelJoin-named (levelQuantifier t j) (s - 1) m)
-      (omega (arith, constraints-named bs s some, step i (s - 1) s (omega arith), step i m (s + length cs) (omega arith)))
+      (omega (arith, constraints-named bs s filled some, step i (s - 1) s (omega arith), step i m (s + length cs) (omega arith)))
 
-  nodes-named : (j : ℕ) → ((l : ℕ) → l < j → 0 < length (blocksAt t (suc l))) → 0 < length (firstNodes t)
+  nodes-named : (j : ℕ) → ((l : ℕ) → AllFilled t (blocksAt t l)) → ((l : ℕ) → l < j → 0 < length (blocksAt t (suc l)))
+      → 0 < length (firstNodes t)
       → (named i (nodesTo t j) + below i (length (firstNodes t) - 1)
       ≡ named i (firstNodes t) + sum (λ l. sumOf (body i t) (blocksAt t (suc l))) j + below i (length (nodesTo t j) - 1))
       × (0 < length (nodesTo t j))
   unfolding nodesTo sum
-  nodes-named zero some h = (omega arith, h)
-  nodes-named (suc j) some h =
+  nodes-named zero filled some h = (omega arith, h)
+  nodes-named (suc j) filled some h =
       let ns = nodesTo t j in
       let ls = levelNodes t j (length ns) in
-      let r = nodes-named j (λ l m. some l (omega arith)) h in
+      let r = nodes-named j filled (λ l m. some l (omega arith)) h in
       let p = r .1 in
       let l : length (ns ++ ls) ≡ length ns + length ls = length-append ns ls in
-      (rw (l, named-append i ns ls) (omega (arith, r .0, level-named j (length ns) (some j (omega arith)) p)), omega arith)
+      (rw (l, named-append i ns ls) (omega (arith, r .0, level-named j (length ns) (filled (suc j)) (some j (omega arith)) p)), omega arith)
 
 -- the first nodes, and what the replaced blocks named
 named-each : (i : ℕ) (f : ℕ → Node) (n : ℕ) → named i (upTo (λ j. f j ∷ []) n) ≡ sum (λ j. times i (operands (f j))) n
@@ -249,18 +250,12 @@ kept-whole t r h b =
     let y : _≡_ {A = ℕ} (pick (isBlock (t .node (t .size - 1))) 1 0) 0 = rw e (pick-no _ _ _ b) in omega arith
 
 module _ (i : ℕ) (t : Table) (tree : Tree t) where
-  unnamed : (j : ℕ) → t .size ≤ suc i → j < t .size → Is (mem i (operands (t .node j))) → times i (operands (t .node j)) ≡ 0
-  unnamed j h l (is-true m) = let k = tree .lower j i l m in absurd (omega arith)
-  unnamed j h l (is-false m) = times-zero i _ m
-
   tree-named-by : Is (ltb (suc i) (t .size)) → timesNamed t i ≡ below i (t .size - 1)
-  unfolding timesNamed
   tree-named-by (is-true e) =
       let h = ltb-true (suc i) (t .size) e in omega (arith, tree .once i h, below-yes i (t .size - 1) (omega arith))
   tree-named-by (is-false e) =
       let h = ltb-false (suc i) (t .size) e in
-      sum-zero (λ j. times i (operands (t .node j))) (t .size) (λ j l. unnamed j h l (look (mem i (operands (t .node j)))))
-      ∙ sym (below-no i (t .size - 1) (omega arith))
+      last-unnamed t (tree .lower) i h ∙ sym (below-no i (t .size - 1) (omega arith))
 
   -- in the input, each node but the last
   tree-named : sum (λ j. times i (operands (t .node j))) (t .size) ≡ below i (t .size - 1)
@@ -303,12 +298,12 @@ module _ (i : ℕ) (t : Table) (tree : Tree t) where
   first-named =
       let n = tree .nonempty in first-named-by (t .size - 1) (omega arith) (look (isBlock (t .node (t .size - 1))))
 
-  prenex-named : named i (prenexNodes t) ≡ below i (length (prenexNodes t) - 1)
+  prenex-named : NoEmptyBlocks t → named i (prenexNodes t) ≡ below i (length (prenexNodes t) - 1)
   unfolding prenexNodes
-  prenex-named =
+  prenex-named filled =
       let l = length-firstNodes t in
       let p : 0 < length (firstNodes t) = omega (arith, kept-positive t tree) in
-      let r = nodes-named i t (levels t) (level-some t tree) p in
+      let r = nodes-named i t (levels t) (level-filled t tree filled) (level-some t tree) p in
       let b : below i (length (firstNodes t) - 1) ≡ below i (kept t - 1) = ap (λ (n : ℕ). below i (n - 1)) l in
       omega (arith, r .0, sum-blocks t tree (body i t), first-named)
 
@@ -320,10 +315,10 @@ table-named i (nd ∷ ns) =
     sum-first (λ j. times i (operands (getD (nd ∷ ns) j (constant false)))) (length ns)
     ∙ ap (λ (n : ℕ). times i (operands nd) + n) (table-named i ns)
 
-module _ (t : Table) (tree : Tree t) where
+module _ (t : Table) (tree : Tree t) (filled : NoEmptyBlocks t) where
   pub prenex-once : (i : ℕ) → suc i < length (prenexNodes t) → timesNamed (listTable (prenexNodes t)) i ≡ 1
   unfolding timesNamed listTable
-  prenex-once i h = table-named i (prenexNodes t) ∙ prenex-named i t tree ∙ below-yes i _ (omega arith)
+  prenex-once i h = table-named i (prenexNodes t) ∙ prenex-named i t tree filled ∙ below-yes i _ (omega arith)
 
   pub prenex-tree : Tree (listTable (prenexNodes t))
   unfolding listTable

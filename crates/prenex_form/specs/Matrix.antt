@@ -64,14 +64,13 @@ unfoldable pub guard : Quantifier → ℕ
 guard exists = or
 guard for-all = implies
 
--- Steps 1 and 2 of block i, the first node at index s.
+-- Steps 1 and 2 of block i, which binds a variable, the first node at index s.
 unfoldable pub constraint : Table → ℕ → ℕ → List Node
 constraint t i s =
     let definition = variable (definitionVariable t i) in
     let c = count t i in
     let e = s + 4 * c in
     definition ∷ operator iff s (bodyOf (t .node i)) ∷
-    pick (eqb c 0) []
     (upTo (equation t i (s + 2)) c ++ (definition ∷ operator (guard (quantifierAt (t .node i))) (e + 1) e ∷ operator and (s + 1) (e + 2) ∷ []))
 
 -- The blocks of a level after its first, whose constraints end at index s - 1: "from the level's second block on, operator 8

@@ -58,6 +58,8 @@ pub record PrenexOf (t : Table) (ns ps xs : List ℕ) : Type 0 where
   pub block-kinds-to : (j : ℕ) → j < length ps / prefixWidth → getD ps (prefixWidth * j) 0 ≤ 6
   pub ranges-follow : (j : ℕ) → j < length ps / prefixWidth → getD ps (prefixWidth * j + 1) 0 ≡ sum (λ k. getD ps (prefixWidth * k + 2) 0) j
   pub ranges-fill : sum (λ k. getD ps (prefixWidth * k + 2) 0) (length ps / prefixWidth) ≡ length xs
+  -- no prefix block is empty
+  pub blocks-filled : (j : ℕ) → j < length ps / prefixWidth → 0 < getD ps (prefixWidth * j + 2) 0
   -- at most n + 5 b + 4 q nodes, 2 q + b prefix variables, and one prefix block more than the depth
   pub nodes-bound : nodeCount ns ≤ t .size + 5 * blockCount t + 4 * boundCount t
   pub variables-bound : length xs ≤ 2 * boundCount t + blockCount t

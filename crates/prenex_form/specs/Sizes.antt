@@ -27,22 +27,18 @@ sizes t =
       entries = length (writtenVariables t);
     }
 
--- "4 × count + 5 for each inner block, or 3 where its count is 0": the nodes that an inner block of this count adds, and those
--- that node i adds.
-abbrev pub addedFor : ℕ → ℕ
-addedFor count = pick (eqb count 0) 3 (4 * count + 5)
-
+-- "4 × count + 5 for each inner block": the nodes that node i adds.
 unfoldable pub addedBy : Table → ℕ → ℕ
-addedBy t i = pick (inner t i) (addedFor (count t i)) 0
+addedBy t i = pick (inner t i) (4 * count t i + 5) 0
 
 -- No prefix without blocks; else a block for each level and one more: as many as the depth if the root is a block, one more if not.
 unfoldable pub prefixCount : Table → ℕ
 prefixCount t = pick (eqb (blockCount t) 0) 0 (pick (isBlock (t .node (t .size - 1))) (depth t) (depth t + 1))
 
--- The lengths of what is written, counted on the table alone. That this holds of every tree is the theorem `size-rule`
--- (proofs/Theorem.antt).
+-- The lengths of what is written, counted on the table alone. That this holds of every tree without empty blocks is the theorem
+-- `size-rule` (proofs/Theorem.antt).
 pub record SizeRule (t : Table) : Type 0 where
-  -- "So K nodes are joined by 4 × count + 5 for each inner block, or 3 where its count is 0."
+  -- "So K nodes are joined by 4 × count + 5 for each inner block"; request S-6: "The size rule loses its case for count 0"
   pub nodes-rule : length (prenexNodes t) ≡ kept t + sum (addedBy t) (t .size)
   -- "A table without blocks has no prefix at all"; block 0, and "Block j, for level j"
   pub blocks-rule : length (prefixBlocks t) ≡ prefixCount t

@@ -155,57 +155,62 @@ digit-small false = omega arith
 -- Nodes to be stored, by their kinds.
 module _ (R : Type 0) (ws ls : List ℕ) where
   constant-fresh : (b : Bool) → Fresh R ws ls ls (wordsOf (constant b))
-  unfolding nodeOf wordsOf pick operands bound isBlockKind wellFormed mem distinct all
+  unfolding nodeOf wordsOf pick operands isBlock bound isBlockKind wellFormed mem distinct all
   constant-fresh b =
       record {
         fits = λ k. clash k refl;
         lower = λ x h. clash h refl;
+        filled = λ k. clash k refl;
         apart = refl;
         formed = λ r. rw (le-leb (digit b) 1 (digit-small b));
         numbered = λ r. refl;
       }
 
   variable-fresh : (x : ℕ) → (R → isNumber x ≡ true) → Fresh R ws ls ls (wordsOf (variable x))
-  unfolding nodeOf wordsOf pick operands bound isBlockKind wellFormed mem distinct all
+  unfolding nodeOf wordsOf pick operands isBlock bound isBlockKind wellFormed mem distinct all
   variable-fresh x n =
       record {
         fits = λ k. clash k refl;
         lower = λ y h. clash h refl;
+        filled = λ k. clash k refl;
         apart = refl;
         formed = λ r. rw (n r);
         numbered = λ r. refl;
       }
 
   negation-fresh : (a : ℕ) → a < nodeCount ws → Fresh R ws ls ls (wordsOf (negation a))
-  unfolding nodeOf wordsOf pick operands bound isBlockKind wellFormed distinct all
+  unfolding nodeOf wordsOf pick operands isBlock bound isBlockKind wellFormed distinct all
   negation-fresh a l =
       record {
         fits = λ k. clash k refl;
         lower = λ y h. omega (arith, mem-just y a h);
+        filled = λ k. clash k refl;
         apart = refl;
         formed = λ r. refl;
         numbered = λ r. refl;
       }
 
   operator-fresh : (o a b : ℕ) → o ≤ 15 → a < nodeCount ws → b < nodeCount ws → Fresh R ws ls ls (wordsOf (operator o a b))
-  unfolding nodeOf wordsOf pick operands bound isBlockKind wellFormed distinct all
+  unfolding nodeOf wordsOf pick operands isBlock bound isBlockKind wellFormed distinct all
   operator-fresh o a b l p q =
       record {
         fits = λ k. clash k refl;
         lower = λ y h. mem-two y a b (λ z. z < nodeCount ws) p q h;
+        filled = λ k. clash k refl;
         apart = refl;
         formed = λ r. rw (le-leb o 15 l);
         numbered = λ r. refl;
       }
 
-  block-fresh : (q : Quantifier) (xs : List ℕ) (a : ℕ) → a < nodeCount ws → distinct xs ≡ true → (R → all isNumber xs ≡ true)
+  block-fresh : (q : Quantifier) (xs : List ℕ) (a : ℕ) → a < nodeCount ws → 0 < length xs → distinct xs ≡ true → (R → all isNumber xs ≡ true)
       → Fresh R ws ls (ls ++ xs) (blockWords (kindOf q) (length ls) (length xs) a)
   unfolding operands bound blockWords
-  block-fresh q xs a l u n =
+  block-fresh q xs a l s u n =
       let e = block-node ls q xs a in
       record {
         fits = λ k. omega (arith, length-append ls xs);
         lower = λ y h. omega (arith, mem-just y a (rw e at h));
+        filled = rw e (λ k. s);
         apart = rw e u;
         formed = λ r. block-formed q (length ls) (length xs) a;
         numbered = λ r. rw e (n r);
@@ -245,13 +250,13 @@ module _ (R : Type 0) (d : Draft) (hand uses : List ℕ) (m : Meaning) where
       (λ v. operatorValue o (g v) (h v))
       (λ t k low e. stands-operator t _ low o a b g h e (p .low) (q .low) (stands-kept k p) (stands-kept k q))
 
-  pub new-block : (q : Quantifier) (xs : List ℕ) (a : ℕ) (g : Valuation → Bool) → distinct xs ≡ true → (R → all isNumber xs ≡ true)
-      → Holds R d (a ∷ hand) uses m → Stands (draftTable d) a g
+  pub new-block : (q : Quantifier) (xs : List ℕ) (a : ℕ) (g : Valuation → Bool) → 0 < length xs → distinct xs ≡ true
+      → (R → all isNumber xs ≡ true) → Holds R d (a ∷ hand) uses m → Stands (draftTable d) a g
       → Stores R d hand uses m (quant q xs g) (storeBlock q xs (record { draft = d; node = a }))
   unfolding storeBlock store operands tableOf
-  new-block q xs a g u r holds p =
+  new-block q xs a g s u r holds p =
       let e = block-node (d .entries) q xs a in
       stores-more R d (a ∷ hand) hand uses m holds (d .entries ++ xs) (blockWords (kindOf q) (length (d .entries)) (length xs) a) (extends-append (d .entries) xs)
-      (block-fresh R (d .words) (d .entries) q xs a (p .low) u r)
+      (block-fresh R (d .words) (d .entries) q xs a (p .low) s u r)
       (λ k. rw e (times-cons k a hand)) (quant q xs g)
       (λ t k low n. stands-block t _ low q xs a g (n ∙ e) (p .low) (stands-kept k p))

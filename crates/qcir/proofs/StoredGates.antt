@@ -266,7 +266,7 @@ module _ (R : Type 0) where
   gate-stores d hand uses m (quantified-gate q g x xs l) r u n p =
       let e = storeLiteral d l in
       let a = literal-stores d hand uses m l (λ h. r h _ (mem-head _ _)) p in
-      stores-after (a .kept) (a .gate) (new-block R (e .draft) hand uses m q (numbersOf (x ∷ xs)) (e .node) (literalValue m l) u n (a .holds) (a .stands))
+      stores-after (a .kept) (a .gate) (new-block R (e .draft) hand uses m q (numbersOf (x ∷ xs)) (e .node) (literalValue m l) (omega arith) u n (a .holds) (a .stands))
 
   -- the gate's name stands for what was stored
   defined : (s : Stored) (uses : List ℕ) (m : Meaning) (x : ℕ) (g : Valuation → Bool) → s .draft .gate x ≡ 0 → times x uses ≡ 1
@@ -310,13 +310,13 @@ module _ (R : Type 0) where
 
   pub prefix-stores : (ls : List Line) → Prefix R ls → (d : Draft) (m : Meaning) (g : Valuation → Bool) (s : Stored) → Stores R d [] [] m g s
       → Stores R d [] [] m (prefixValue ls g) (storePrefix s ls)
-  unfolding storePrefix prefixValue
+  unfolding storePrefix prefixValue lineVariables numbersOf
   prefix-stores [] no-prefix d m g s p = p
   prefix-stores (l ∷ ls) (prefix-line apart ranged rest) d m g s p =
       let a = prefix-stores ls rest d m g s p in
       let e = storePrefix s ls in
       stores-after (a .kept) (a .gate)
-      (new-block R (e .draft) [] [] m (l .quantifier) (numbersOf (lineVariables l)) (e .node) (prefixValue ls g) apart
+      (new-block R (e .draft) [] [] m (l .quantifier) (numbersOf (lineVariables l)) (e .node) (prefixValue ls g) (omega arith) apart
       (λ r. all-intro isNumber _ (ranged r)) (a .holds) (a .stands))
 
   pub empty-holds : (uses : List ℕ) → Holds R emptyDraft [] uses (λ x u. u x)
@@ -335,6 +335,7 @@ module _ (R : Type 0) where
             whole = omega arith;
             fits = λ i h. absurd (omega arith);
             lower = λ i a h. absurd (omega arith);
+            filled = λ i h. absurd (omega arith);
             apart = λ i h. absurd (omega arith);
             formed = λ r i h. absurd (omega arith);
             numbered = λ r i h. absurd (omega arith);

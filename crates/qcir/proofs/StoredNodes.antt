@@ -10,7 +10,7 @@ use borrow.Author.Count.{below-more}
 use Rattle.lists.specs.Members.{mem, all, distinct, times}
 use Rattle.lists.specs.Parts.{sum}
 use Rattle.lists.proofs.Parts.{sum-cong}
-use Rattle.formula.specs.Node.{Node, operands, bound}
+use Rattle.formula.specs.Node.{Node, operands, isBlock, bound}
 use Rattle.formula.specs.Words.{width, nodeCount, isBlockKind, wordsAt, nodeOf, nodeAt, tableOf}
 use Rattle.formula.specs.declared.NodeWords.{NodeWords}
 use Rattle.formula.specs.Tree.{timesNamed}
@@ -21,11 +21,17 @@ use Rattle.acceptance.proofs.Accepted.{Fits}
 use Rattle.qcir.proofs.StoredWords.{withNode, Extends, count-with, whole-with, words-kept, words-new, node-kept, node-new}
 use Rattle.qcir.proofs.StoredValues.{Kept}
 
--- The words are whole nodes, each names lower ones, and no block binds a number twice; given R, all words are within their ranges.
+-- If the node is a block, it binds a variable: `NoEmptyBlocks` of one node.
+abbrev pub FilledNode : Node → Type 0
+FilledNode nd = isBlock nd ≡ true → 0 < length (bound nd)
+
+-- The words are whole nodes, each names lower ones, and each block binds a variable and no number twice; given R, all words are within
+-- their ranges.
 pub record Sound (R : Type 0) (ws ls : List ℕ) : Type 0 where
   pub whole : length ws ≡ width * nodeCount ws
   pub fits : (i : ℕ) → i < nodeCount ws → Fits ws ls i
   pub lower : Lower (nodeAt ws ls) (nodeCount ws)
+  pub filled : (i : ℕ) → i < nodeCount ws → FilledNode (nodeAt ws ls i)
   pub apart : (i : ℕ) → i < nodeCount ws → distinct (bound (nodeAt ws ls i)) ≡ true
   pub formed : R → (i : ℕ) → i < nodeCount ws → wellFormed tableLimits (wordsAt ws i) ≡ true
   pub numbered : R → (i : ℕ) → i < nodeCount ws → all isNumber (bound (nodeAt ws ls i)) ≡ true
@@ -34,6 +40,7 @@ pub record Sound (R : Type 0) (ws ls : List ℕ) : Type 0 where
 pub record Fresh (R : Type 0) (ws ls ls' : List ℕ) (w : NodeWords) : Type 0 where
   pub fits : isBlockKind (w .kind) ≡ true → w .a + w .b ≤ length ls'
   pub lower : (x : ℕ) → mem x (operands (nodeOf ls' w)) ≡ true → x < nodeCount ws
+  pub filled : FilledNode (nodeOf ls' w)
   pub apart : distinct (bound (nodeOf ls' w)) ≡ true
   pub formed : R → wellFormed tableLimits w ≡ true
   pub numbered : R → all isNumber (bound (nodeOf ls' w)) ≡ true
@@ -83,6 +90,9 @@ module _ (R : Type 0) (ws ls ls' : List ℕ) (w : NodeWords) (sound : Sound R ws
         lower = λ i x h. each (λ i. mem x (operands (nodeAt (withNode ws w) ls' i)) ≡ true → x < i) n m count
             (λ i h k. sound .lower i x h (sym (ap (λ nd. mem x (operands nd)) (old i h)) ∙ k))
             (λ k. fresh .lower x (sym (ap (λ nd. mem x (operands nd)) new) ∙ k)) i h;
+        filled = each (λ i. FilledNode (nodeAt (withNode ws w) ls' i)) n m count
+            (λ i h. subst FilledNode (sym (old i h)) (sound .filled i h))
+            (subst FilledNode (sym new) (fresh .filled));
         apart = each (λ i. distinct (bound (nodeAt (withNode ws w) ls' i)) ≡ true) n m count
             (λ i h. ap (λ nd. distinct (bound nd)) (old i h) ∙ sound .apart i h)
             (ap (λ nd. distinct (bound nd)) new ∙ fresh .apart);

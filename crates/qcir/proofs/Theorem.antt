@@ -19,7 +19,7 @@ use Rattle.formula.specs.Valuation.{Valuation, quant}
 use Rattle.formula.specs.Truth.{truth}
 use Rattle.formula.specs.Form.{blocksOf, quantify}
 use Rattle.formula.proofs.Prefix.{words-read}
-use Rattle.formula.specs.Tree.{timesNamed, Tree}
+use Rattle.formula.specs.Tree.{timesNamed, Tree, count}
 use Rattle.refusals.specs.Verdict.{accepted}
 use Rattle.acceptance.specs.Limits.{limit}
 use Rattle.acceptance.specs.Verdict.{countAt, tooManyVariables, verdict}
@@ -179,7 +179,7 @@ prefix-kept = under-prefix
 module _ (f : File) (ranged : Ranged f) (placed : misplaced f ≡ []) (used : notUsedOnce f ≡ []) (nodes : nodeCount (tableWords f) ≤ limit)
     (counts : (i : ℕ) → i < nodeCount (tableWords f) → tooManyVariables limit (tableWords f) i ≡ false) where
   holds : Accepted (tableWords f) (tableList f)
-  unfolding tableOf
+  unfolding tableOf count
   holds =
       let s = sound f placed used in
       let few = table-few limit f counts in
@@ -191,6 +191,7 @@ module _ (f : File) (ranged : Ranged f) (placed : misplaced f ≡ []) (used : no
         counts-limit = omega (arith, table-entries f, counts-below (tableWords f) (tableList f) (nodeCount (tableWords f)) (s .fits));
         formed = s .formed ranged;
         fits = s .fits;
+        filled = λ e. s .filled;
         numbered = s .numbered ranged;
       }
 

@@ -71,6 +71,7 @@ module _ (nodes most : ℕ) (ns ps xs : List ℕ) (form : AcceptedFormWithin (ma
             omega (arith, sum-zero (λ i. length (bound (nodeAt (matrixWords file) [] i))) size (λ i h. ap length (no-bound i h)));
         formed = λ i h. again-plain nodes most ns ps xs form i h .formed size most (in-range i h);
         fits = λ i h b. clash b (again-plain nodes most ns ps xs form i h .no-block);
+        filled = λ e i h b. clash b (again-matrix nodes most ns ps xs form .plain i h);
         numbered = λ i h. rw (no-bound i h);
       }
 

@@ -30,6 +30,9 @@ pub const NOT_A_TREE: u32 = 8;
 // no room, of an operation that writes to lent buffers
 pub const BUFFER_TOO_SHORT: u32 = 9;
 
+// empty block (request S-6)
+pub const EMPTY_BLOCK: u32 = 16;
+
 // The refusals of QCIR texts (request S-1).
 pub const MISSPELLED: u32 = 10;
 

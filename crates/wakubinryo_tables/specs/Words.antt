@@ -20,13 +20,13 @@ sizesAnswer a =
       sizes = record { n = getD a 4 0; b = getD a 5 0; q = getD a 6 0; depth = getD a 7 0; nodes = getD a 8 0; blocks = getD a 9 0; entries = getD a 10 0 };
     }
 
--- An answer of five words: the verdict, and how many names were written.
+-- An answer of five words: the verdict, and how many names or nodes were written.
 unfoldable pub countAnswer : List ℕ → AnswerWith ℕ
 countAnswer a = record { verdict = verdictIn a; sizes = getD a 4 0 }
 
--- The outcomes of the two calls that write.
+-- The outcomes of the calls that write: a form, and names or nodes.
 abbrev pub liftOutcome : List ℕ → FormBuffers → Outcome Sizes FormBuffers
 liftOutcome a held = record { answer = sizesAnswer a; buffers = held }
 
-abbrev pub listOutcome : List ℕ → List ℕ → Outcome ℕ (List ℕ)
-listOutcome a names = record { answer = countAnswer a; buffers = names }
+abbrev pub countOutcome : List ℕ → List ℕ → Outcome ℕ (List ℕ)
+countOutcome a held = record { answer = countAnswer a; buffers = held }

@@ -1,16 +1,17 @@
-// The C interface of formula tables: measuring, lifting and listing free variables under C names.
-// include/wakubinryo.h says each promise in words.
+// The C interface of formula tables: measuring, lifting, listing free variables and removing empty
+// blocks under C names. include/wakubinryo.h says each promise in words.
 ghost use mathlib.Core.Path.{_≡_};
 ghost use Rattle.free_variables.specs.Outcome.{listed};
 ghost use Rattle.prenex.specs.Outcome.{tableIn, answerOf, measured, buffers, lifted, SizesWritten, FormWritten};
+ghost use Rattle.remove_empty_blocks.specs.Outcome.{removed, TableLeft};
 ghost use Rattle.wakubinryo_tables.specs.Words.{
   sizesAnswer,
   countAnswer,
   liftOutcome,
-  listOutcome,
+  countOutcome,
 };
-use free_variables::Listed;
 use prenex::Answer;
+use refusals::Verdict;
 
 // Measures a table: number, position, two users and the seven sizes.
 //
@@ -63,10 +64,33 @@ pub extern "C" fn wakubinryo_free_variables(
     answer: &mut [u32; 5],
 )
     ensures outcome { λ _.
-        ⌜ listOutcome (now (answer .exit)) (now (names .exit))
+        ⌜ countOutcome (now (answer .exit)) (now (names .exit))
         ≡ listed (now (words .entry)) (now (list .entry)) (now (names .entry)) ⌝ }
 {
-    put_listed(answer, free_variables::free_variables(words, list, names));
+    let listed = free_variables::free_variables(words, list, names);
+    put_count(answer, listed.verdict, listed.count);
+}
+
+// Removes a table's empty blocks: number, position, two users and how many nodes are left.
+//
+// The contract rules out an answer with the position in place of the nodes left, and one with the
+// second user left out.
+#[no_mangle]
+pub extern "C" fn wakubinryo_remove_empty_blocks(
+    words: &[u32],
+    list: &[u32],
+    nodes: &mut [u32],
+    answer: &mut [u32; 5],
+)
+    ensures outcome { λ _.
+        ⌜ countOutcome (now (answer .exit)) (now (nodes .exit))
+        ≡ removed (now (words .entry)) (now (list .entry)) (now (nodes .entry)) ⌝ }
+    ensures table { λ _.
+        ⌜ TableLeft (now (words .entry)) (now (list .entry))
+        (countOutcome (now (answer .exit)) (now (nodes .exit))) ⌝ }
+{
+    let left = remove_empty_blocks::remove_empty_blocks(words, list, nodes);
+    put_count(answer, left.verdict, left.nodes);
 }
 
 fn put_answer(answer: &mut [u32; 11], a: Answer)
@@ -90,10 +114,9 @@ fn put_answer(answer: &mut [u32; 11], a: Answer)
     ];
 }
 
-fn put_listed(answer: &mut [u32; 5], a: Listed)
-    ensures { λ _. ⌜ countAnswer (now (answer .exit)) ≡ record { verdict = a .verdict; sizes = a .count } ⌝ }
+fn put_count(answer: &mut [u32; 5], verdict: Verdict, count: u32)
+    ensures { λ _. ⌜ countAnswer (now (answer .exit)) ≡ record { verdict = verdict; sizes = count } ⌝ }
 {
-    let v = a.verdict;
-    let u = v.users;
-    *answer = [v.number, v.position, u.first, u.second, a.count];
+    let u = verdict.users;
+    *answer = [verdict.number, verdict.position, u.first, u.second, count];
 }

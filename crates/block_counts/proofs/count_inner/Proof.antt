@@ -19,25 +19,28 @@ add-c-3 c = search needs
 add-c-4 : tie.Need-add-c-4
 add-c-4 c = search needs
 
-nodes-added-requires : tie.Need-nodes-added-requires
-nodes-added-requires c κs = search needs
+mul-c : tie.Need-mul-c
+mul-c c = search needs
 
 add-c-5 : tie.Need-add-c-5
 add-c-5 c = search needs
 
+add-c-6 : tie.Need-add-c-6
+add-c-6 c = search needs
+
 returns : tie.Need-returns
 returns c =
-    let s = c .before .before .before .before .before .before .before .before in
+    let s = c .before .before .before .before .before .before .before in
     let e : max (s .args .counts .deepest) (s .args .level) ≡ s .args .level = omega arith in
-    rw (c .before .before .before .nodes-added .ensures, e)
+    rw e
 
 returns-2 : tie.Need-returns-2
 returns-2 c =
-    let s = c .before .before .before .before .before .before .before .before in
+    let s = c .before .before .before .before .before .before .before in
     let e : max (s .args .counts .deepest) (s .args .level) ≡ s .args .counts .deepest = omega arith in
-    rw (c .before .before .before .nodes-added .ensures, e)
+    rw e
 
 pub count-inner-spec : {M : Type 1} → statement M
 count-inner-spec =
     tie.close
-    (tie.spec add-c add-c-2 add-c-3 add-c-4 nodes-added-requires add-c-5 returns returns-2)
+    (tie.spec add-c add-c-2 add-c-3 add-c-4 mul-c add-c-5 add-c-6 returns returns-2)

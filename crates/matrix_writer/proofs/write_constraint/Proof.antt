@@ -1,14 +1,16 @@
--- `matrix_writer::write_constraint` meets its contract. The definition alone where the count is 0; else the definition, the equations and the guard.
+-- `matrix_writer::write_constraint` meets its contract: the definition, the equations and the guard.
 -- Assumes nothing.
-use mathlib.Core.Path.{_≡_, _∙_, ap}
-use Prim.Native.Nat.{_+_, _*_}
+use mathlib.Core.Path.{_≡_, ap}
+use mathlib.Core.List.{List}
+use Prim.Native.Nat.{_+_, _*_, _<_}
 use native.Mathlib.Omega.{arith}
 use lib.ListN.{length}
 use borrow.Author.Needs.{needs}
+use Rattle.formula.specs.Node.{Node}
 use Rattle.formula.specs.Words.{tableOf}
 use Rattle.formula.specs.declared.NodeWords.{NodeWords}
 use Rattle.prenex_form.specs.Matrix.{constraint}
-use Rattle.matrix_writer.proofs.Constraint.{BlockFacts, block-facts, wrote-empty, wrote-full}
+use Rattle.matrix_writer.proofs.Constraint.{BlockFacts, block-facts, wrote-constraint}
 use Rattle.matrix_writer.proofs.write_constraint.Statement.{statement}
 use Rattle.matrix_writer.proofs.write_constraint.Tie as tie
 
@@ -16,18 +18,22 @@ use Rattle.matrix_writer.proofs.write_constraint.Tie as tie
 abbrev entry : tie.After-node-at → tie.Start
 entry c = c .before .before .before .before .before .before
 
-abbrev read : tie.Else1 → tie.After-node-at
-read c = c .before .before .before .before .before .before .before
+abbrev read : tie.After-slice-known2 → tie.After-node-at
+read c = c .before .before .before .before .before
 
 -- what the arrays and the verdict say of the block
 known : (s : tie.Start) → BlockFacts (s .args .words .now) (s .args .list .now) (s .args .starts .now) (s .args .names) (s .args .copies) (s .args .i) (s .args .at)
 known s = block-facts (s .args .at) (s .pre .0) (s .pre .1 .0)
 
--- how long the constraint of a block that binds something is
-longer : (c : tie.Else1) → length (constraint (tableOf (entry (read c) .args .words .now) (entry (read c) .args .list .now)) (entry (read c) .args .i) (entry (read c) .args .at)) ≡ 4 * read c .node-at .result .b + 4
-longer c =
-    let e = ap (λ (w : NodeWords). w .b) (read c .node-at .ensures) in
-    omega (arith, known (entry (read c)) .full (λ z. c .if1 .left (e ∙ z)))
+-- the block binds a variable, and how long its constraint is
+abbrev written : tie.Start → List Node
+written s = constraint (tableOf (s .args .words .now) (s .args .list .now)) (s .args .i) (s .args .at)
+
+count-facts : (c : tie.After-slice-known2)
+    → (0 < read c .node-at .result .b) × (length (written (entry (read c))) ≡ 4 * read c .node-at .result .b + 4)
+count-facts c =
+    let k = known (entry (read c)) in
+    let e = ap (λ (w : NodeWords). w .b) (read c .node-at .ensures) in (omega arith, omega arith)
 
 node-at-requires : tie.Need-node-at-requires
 node-at-requires c κs = omega (arith, known (c .before .before .before .before .before))
@@ -40,18 +46,6 @@ shared-slice-read-definition c = omega (arith, known (entry (c .before)))
 
 write-definition-requires : tie.Need-write-definition-requires
 write-definition-requires c κs = omega (arith, known (entry (c .before .before)))
-
-add-result : tie.Need-add-result
-add-result c = search needs
-
-same-length : tie.Need-same-length
-same-length c = search needs
-
-returns : tie.Need-returns
-returns c =
-    let r = c .before .before .before .before .before .before .before in
-    let s = entry r in
-    wrote-empty (s .pre .0) (s .pre .1 .0) _ _ _ (r .node-at .ensures) (c .if1 .taken) (c .before .before .before .before .write-definition .ensures)
 
 mul-start : tie.Need-mul-start
 mul-start c = omega (arith, known (entry (read c)))
@@ -74,7 +68,7 @@ add-write-entries-3 c = omega (arith, known (entry (read (c .before .before))))
 write-entries-requires : tie.Need-write-entries-requires
 write-entries-requires c κs =
     let e = c .before .before in
-    let r = read e in omega (arith, known (entry r), longer e, ap (λ (w : NodeWords). w .b) (r .node-at .ensures), entry r .pre)
+    let r = read e in omega (arith, known (entry r), count-facts e, ap (λ (w : NodeWords). w .b) (r .node-at .ensures), entry r .pre)
 
 guard-table-requires : tie.Need-guard-table-requires
 guard-table-requires c κs = search needs
@@ -83,21 +77,24 @@ add-write-guard : tie.Need-add-write-guard
 add-write-guard c = search needs
 
 write-guard-requires : tie.Need-write-guard-requires
-write-guard-requires c κs = let e = c .before .before .before .before .before .before .before in omega (arith, longer e, entry (read e) .pre)
+write-guard-requires c κs =
+    let e = c .before .before .before .before .before .before .before in omega (arith, count-facts e, entry (read e) .pre)
 
-add-result-2 : tie.Need-add-result-2
-add-result-2 c = let e = c .before .before .before .before .before .before .before .before .before .before in omega (arith, longer e, entry (read e) .pre)
+add-result : tie.Need-add-result
+add-result c =
+    let e = c .before .before .before .before .before .before .before .before .before .before in
+    omega (arith, count-facts e, entry (read e) .pre)
 
-same-length-2 : tie.Need-same-length-2
-same-length-2 c = search needs
+same-length : tie.Need-same-length
+same-length c = search needs
 
-returns-2 : tie.Need-returns-2
-returns-2 c =
+returns : tie.Need-returns
+returns c =
     let w = c .before .before .before .before .before .before .before in
     let e = w .before .before .before in
     let s = entry (read e) in
-    wrote-full (s .pre .0) (s .pre .1 .0) _ _ _ _ _ _ _ (read e .node-at .ensures) (c .before .before .before .guard-table .ensures) (e .if1 .left)
-    (e .before .before .before .before .write-definition .ensures) (w .write-entries .ensures .0) (c .before .before .write-guard .ensures) (s .pre .1 .1 .fits)
+    wrote-constraint (s .pre .0) (s .pre .1 .0) _ _ _ _ _ _ _ (read e .node-at .ensures) (c .before .before .before .guard-table .ensures)
+    (e .before .before .write-definition .ensures) (w .write-entries .ensures .0) (c .before .before .write-guard .ensures) (s .pre .1 .1 .fits)
 
 pub write-constraint-spec : {M : Type 1} → statement M
 write-constraint-spec =
@@ -107,9 +104,6 @@ write-constraint-spec =
     mul-definition
     shared-slice-read-definition
     write-definition-requires
-    add-result
-    same-length
-    returns
     mul-start
     shared-slice-read-start
     cast-start
@@ -120,6 +114,6 @@ write-constraint-spec =
     guard-table-requires
     add-write-guard
     write-guard-requires
-    add-result-2
-    same-length-2
-    returns-2)
+    add-result
+    same-length
+    returns)

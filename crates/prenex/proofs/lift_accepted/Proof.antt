@@ -37,7 +37,7 @@ short-requires c κs = search needs
 returns : tie.Need-returns
 returns c =
     let s = c .before .before .before .before .before .before .before .before .before .before .before .before .before .before in
-    let m = sizes-written (s .args .words .now) (s .args .list .now) (s .pre) in
+    let m = sizes-written (tableOf (s .args .words .now) (s .args .list .now)) in
     let e = ap (λ (z : Sizes). z .nodes) (c .before .before .before .sizes-of .ensures) in
     lifted-short (s .args .words .now) (s .args .list .now) (s .pre) (buffers (s .args .nodes .now) (s .args .prefix .now) (s .args .variables .now)) (short-nodes (tableOf (s .args .words .now) (s .args .list .now)) (buffers (s .args .nodes .now) (s .args .prefix .now) (s .args .variables .now)) (omega (arith, m .nodes-measured, e, c .before .if1 .taken))) _ (c .short .ensures)
 
@@ -53,7 +53,7 @@ short-requires-2 c κs = search needs
 returns-2 : tie.Need-returns-2
 returns-2 c =
     let s = c .before .before .before .before .before .before .before .before .before .before .before .before .before .before .before .before in
-    let m = sizes-written (s .args .words .now) (s .args .list .now) (s .pre) in
+    let m = sizes-written (tableOf (s .args .words .now) (s .args .list .now)) in
     let e = ap (λ (z : Sizes). z .blocks) (c .before .before .before .before .before .sizes-of .ensures) in
     lifted-short (s .args .words .now) (s .args .list .now) (s .pre) (buffers (s .args .nodes .now) (s .args .prefix .now) (s .args .variables .now)) (short-prefix (tableOf (s .args .words .now) (s .args .list .now)) (buffers (s .args .nodes .now) (s .args .prefix .now) (s .args .variables .now)) (omega (arith, m .blocks-measured, e, c .before .if2 .taken))) _ (c .short2 .ensures)
 
@@ -66,7 +66,7 @@ short-requires-3 c κs = search needs
 returns-3 : tie.Need-returns-3
 returns-3 c =
     let s = c .before .before .before .before .before .before .before .before .before .before .before .before .before .before .before .before .before .before in
-    let m = sizes-written (s .args .words .now) (s .args .list .now) (s .pre) in
+    let m = sizes-written (tableOf (s .args .words .now) (s .args .list .now)) in
     let e = ap (λ (z : Sizes). z .entries) (c .before .before .before .before .before .before .before .sizes-of .ensures) in
     lifted-short (s .args .words .now) (s .args .list .now) (s .pre) (buffers (s .args .nodes .now) (s .args .prefix .now) (s .args .variables .now)) (short-variables (tableOf (s .args .words .now) (s .args .list .now)) (buffers (s .args .nodes .now) (s .args .prefix .now) (s .args .variables .now)) (omega (arith, m .entries-measured, e, c .before .if3 .taken))) _ (c .short3 .ensures)
 
@@ -79,7 +79,7 @@ slice-aggregate-write-form-2 c = search needs
 write-form-requires : tie.Need-write-form-requires
 write-form-requires c κs =
     let s = c .before .before .before .before .before .before .before .before .before .before .before .before .before .before .before .before .before .before .before .before .before .before in
-    let m = sizes-written (s .args .words .now) (s .args .list .now) (s .pre) in
+    let m = sizes-written (tableOf (s .args .words .now) (s .args .list .now)) in
     let z = c .before .before .before .before .before .before .before .before .before .before .before .sizes-of .ensures in
     let room : Room (s .args .words .now) (s .args .list .now) (s .args .nodes .now) (s .args .prefix .now) (s .args .variables .now) =
     record {
@@ -112,7 +112,7 @@ same-length-3 c = search needs
 returns-4 : tie.Need-returns-4
 returns-4 c =
     let s = c .before .before .before .before .before .before .before .before .before .before .before .before .before .before .before .before .before .before .before .before .before .before .before .before .before .before .before .before .before .before in
-    let m = sizes-written (s .args .words .now) (s .args .list .now) (s .pre) in
+    let m = sizes-written (tableOf (s .args .words .now) (s .args .list .now)) in
     let z = c .before .before .before .before .before .before .before .before .before .before .before .before .before .before .before .before .before .before .before .sizes-of .ensures in
     let room : Room (s .args .words .now) (s .args .list .now) (s .args .nodes .now) (s .args .prefix .now) (s .args .variables .now) =
     record {

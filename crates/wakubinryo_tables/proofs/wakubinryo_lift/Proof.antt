@@ -1,6 +1,7 @@
 -- `wakubinryo_tables::wakubinryo_lift` meets its contract.
 -- Assumes nothing.
-use Rattle.wakubinryo_tables.proofs.Answers.{said, sizes-said, form-said}
+use Rattle.prenex.specs.Outcome.{FormWritten}
+use Rattle.wakubinryo_tables.proofs.Answers.{said, promise-said, sizes-said}
 use borrow.Author.Needs.{needs}
 use Rattle.wakubinryo_tables.proofs.wakubinryo_lift.Statement.{statement}
 use Rattle.wakubinryo_tables.proofs.wakubinryo_lift.Tie as tie
@@ -24,7 +25,7 @@ returns : tie.Need-returns
 returns c =
     let f = c .before .before .before .before .before .before .before .lift .ensures in
     let e = c .put-answer .ensures in
-    (said _ _ _ _ e (f .0), (sizes-said _ _ _ e (f .1 .0), form-said _ _ _ e _ (f .1 .1)))
+    (said _ _ _ _ e (f .0), (sizes-said _ _ _ e (f .1 .0), promise-said (FormWritten _) _ _ _ e (f .1 .1)))
 
 pub wakubinryo-lift-spec : {M : Type 1} → statement M
 wakubinryo-lift-spec =

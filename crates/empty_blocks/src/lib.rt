@@ -1,0 +1,1 @@
+// A table without its empty blocks, as a definition (specs/), and what holds of it (proofs/).

@@ -1,0 +1,3 @@
+pub mod Renumbered
+pub mod Left
+pub mod Outcome
