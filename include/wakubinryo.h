@@ -18,10 +18,13 @@
  *
  * An operator's value is bit (2 * left + right) of its truth table: and is 8,
  * or 14, xor 6, biconditional 9, left implies right 11. A block binds the
- * `count` entries of the list from `first` on, its range. A count may be 0 and
+ * `count` entries of the list from `first` on, its range. A count is not 0, and
  * ranges may overlap; entries in no range are never looked at. Operands and
  * bodies have lower indices than the node that names them, and each node but
  * the last is named exactly once.
+ *
+ * A block whose count is 0 is an empty block. Of all calls that take a table,
+ * wakubinryo_remove_empty_blocks alone takes one that has them.
  *
  * In what follows n is the number of nodes, b of blocks, q the sum of their
  * counts and d the quantifier depth: the largest number of blocks on a path
@@ -52,6 +55,7 @@
  *           table or unused field outside its range
  *   4       an operand or body at or above its own node               node
  *   5       first + count passes the end of the list                  node
+ *   16      a block's count is 0                                      node
  *   6       this block's count brings the sum of counts over 4,096    node
  *   7       an entry of the range is outside 1 to 65,535, or stands   node
  *           in this range twice
@@ -59,8 +63,8 @@
  *           once
  *   9       an output buffer is shorter than the size needed          0
  *
- * Order: 1, 2; then the nodes upward, each tested for 3 to 7 in this order;
- * then 8; then 9. Of a table nothing else is ever refused.
+ * Order: 1, 2; then the nodes upward, each tested for 3, 4, 5, 16, 6 and 7 in
+ * this order; then 8; then 9. Of a table nothing else is ever refused.
  *
  * QCIR TEXTS
  *
@@ -150,8 +154,11 @@ extern "C" {
  * The version of this interface, raised whenever a caller compiled for the one
  * before would go wrong. Since version 2 the answers about tables have two
  * words more, for the users: a caller that lends the shorter ones is overrun.
+ * Since version 3 a table with an empty block is refused by 16 by all calls but
+ * wakubinryo_remove_empty_blocks: a caller with stored tables must remove their
+ * empty blocks first.
  */
-#define WAKUBINRYO_VERSION 2
+#define WAKUBINRYO_VERSION 3
 
 /* The words of a node, and of a prefix block. */
 enum {
@@ -185,6 +192,12 @@ enum {
     WAKUBINRYO_COUNT_ANSWER = 5
 };
 
+/* The answer of removing empty blocks. */
+enum {
+    WAKUBINRYO_LEFT = 4, /* nodes left, and written */
+    WAKUBINRYO_LEFT_ANSWER = 5
+};
+
 /* The answer of reading a QCIR text. */
 enum {
     WAKUBINRYO_WORDS_READ = 2,   /* words of nodes written */
@@ -208,9 +221,9 @@ enum {
 /*
  * Measures a table.
  *
- * Numbers 0 to 8; measuring never gives 9. If done, the sizes are n, b, q, d
- * and the nodes, prefix blocks and prefix variables of the prenex form, and the
- * last three are exactly what wakubinryo_lift writes.
+ * Numbers 0 to 8 and 16; measuring never gives 9. If done, the sizes are n, b,
+ * q, d and the nodes, prefix blocks and prefix variables of the prenex form,
+ * and the last three are exactly what wakubinryo_lift writes.
  */
 void wakubinryo_measure(const uint32_t *words, size_t words_len,
                         const uint32_t *list, size_t list_len,
@@ -219,7 +232,8 @@ void wakubinryo_measure(const uint32_t *words, size_t words_len,
 /*
  * Lifts a table: writes its prenex form.
  *
- * Numbers 0 to 9. If done, the sizes are those of wakubinryo_measure, and
+ * Numbers 0 to 9 and 16. If done, the sizes are those of wakubinryo_measure,
+ * and
  *
  *   nodes      holds the form's nodes,            4 words each
  *   prefix     holds the form's prefix blocks,    3 words each
@@ -232,8 +246,8 @@ void wakubinryo_measure(const uint32_t *words, size_t words_len,
  * all values of the variables; its free variables are the table's, and no
  * other number's value changes the truth value. Its prefix variables are
  * distinct, and none of them stands at a variable node of the table or in a
- * block's range. Its names and the order of its nodes are document 01's. It
- * has at most
+ * block's range; no prefix block is empty. Its names and the order of its nodes
+ * are document 01's. It has at most
  *
  *   n + 5 b + 4 q  nodes,
  *   2 q + b        prefix variables,
@@ -253,10 +267,10 @@ void wakubinryo_lift(const uint32_t *words, size_t words_len,
  * block above it covers. A number that is free in one place and bound in
  * another is among them.
  *
- * Numbers 0 to 9. If done, the count is how many they are, and names holds
- * them, ascending and once each. It gives 9 exactly if the table is accepted
- * and names is shorter than that. 2,048 words are always enough, because a
- * tree of 4,096 nodes has at most 2,048 leaves.
+ * Numbers 0 to 9 and 16. If done, the count is how many they are, and names
+ * holds them, ascending and once each. It gives 9 exactly if the table is
+ * accepted and names is shorter than that. 2,048 words are always enough,
+ * because a tree of 4,096 nodes has at most 2,048 leaves.
  *
  * The table's truth value depends on the values of these variables alone, and
  * they are the free variables of the form that wakubinryo_lift writes.
@@ -265,6 +279,25 @@ void wakubinryo_free_variables(const uint32_t *words, size_t words_len,
                                const uint32_t *list, size_t list_len,
                                uint32_t *names, size_t names_len,
                                uint32_t answer[WAKUBINRYO_COUNT_ANSWER]);
+
+/*
+ * Removes the empty blocks of a table: writes its nodes without them, 4 words
+ * each, the body being named where the block was and what follows renumbered in
+ * order. The list stays as it is.
+ *
+ * Numbers 0 to 9. If done, the nodes left are n less the empty blocks, and
+ * nodes holds them. It gives 9 exactly if none of 1 to 8 applies and nodes is
+ * shorter than that; words_len words are always enough. With number 8 the
+ * position and the users are indices in the table lent.
+ *
+ * What is written, with the same list, is accepted by the other calls. It has
+ * the table's truth value under every valuation, and its free variables. A
+ * table without empty blocks is written word for word.
+ */
+void wakubinryo_remove_empty_blocks(const uint32_t *words, size_t words_len,
+                                    const uint32_t *list, size_t list_len,
+                                    uint32_t *nodes, size_t nodes_len,
+                                    uint32_t answer[WAKUBINRYO_LEFT_ANSWER]);
 
 /*
  * Reads a QCIR text into a formula table.

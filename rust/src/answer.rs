@@ -43,10 +43,12 @@ pub enum Reason {
     /// A prefix that is not whole blocks of kind 5 or 6, a range outside the
     /// list, or a name outside 1 to 77,823 or earlier in the prefix.
     MalformedPrefix = 15,
+    /// A block's count is 0.
+    EmptyBlock = 16,
 }
 
 impl Reason {
-    pub const ALL: [Reason; 15] = [
+    pub const ALL: [Reason; 16] = [
         Reason::PartialNode,
         Reason::TooLarge,
         Reason::MalformedNode,
@@ -62,6 +64,20 @@ impl Reason {
         Reason::GateNotUsedOnce,
         Reason::MalformedMatrix,
         Reason::MalformedPrefix,
+        Reason::EmptyBlock,
+    ];
+
+    /// Why a table is refused, in the order of the tests.
+    pub const OF_TABLES: [Reason; 9] = [
+        Reason::PartialNode,
+        Reason::TooLarge,
+        Reason::MalformedNode,
+        Reason::ForwardReference,
+        Reason::RangePastEnd,
+        Reason::EmptyBlock,
+        Reason::TooManyVariables,
+        Reason::BadVariable,
+        Reason::NotATree,
     ];
 
     pub fn from_number(number: u32) -> Option<Reason> {
@@ -101,6 +117,7 @@ impl Display for Reason {
             Reason::GateNotUsedOnce => "gate not used exactly once",
             Reason::MalformedMatrix => "malformed matrix",
             Reason::MalformedPrefix => "malformed prefix",
+            Reason::EmptyBlock => "empty block",
         })
     }
 }
@@ -208,7 +225,8 @@ pub struct Written {
 /// Answers of measuring and lifting as the C interface gives them.
 pub type SizesAnswer = [u32; 11];
 
-/// Answers of listing free variables as the C interface gives them.
+/// Answers of listing free variables and of removing empty blocks as the C
+/// interface gives them: how many names, or nodes, are written.
 pub type CountAnswer = [u32; 5];
 
 /// Answers of reading a file as the C interface gives them.
@@ -231,7 +249,7 @@ pub fn size_words(answer: Result<Sizes, Refusal>) -> SizesAnswer {
     }
 }
 
-/// The words of an answer of listing free variables.
+/// The words of an answer of listing free variables or removing empty blocks.
 pub fn count_words(answer: Result<u32, Refusal>) -> CountAnswer {
     match answer {
         Ok(written) => [0, 0, 0, 0, written],

@@ -1,5 +1,5 @@
-//! Tables to try: random accepted ones, damaged ones, and the families of the
-//! benchmark. The same seed always gives the same tables.
+//! Tables to try: random accepted ones, the same with empty blocks, damaged ones,
+//! and the families of the benchmark. The same seed always gives the same tables.
 
 use crate::answer::{Reason, Refusal};
 use crate::reference::{Node, HIGHEST, LIMIT, WIDTH};
@@ -129,7 +129,7 @@ pub struct Profile {
     pub order: Order,
     /// How often leaves, nots, operators and blocks come.
     pub weights: [usize; 4],
-    /// The largest count of a block.
+    /// The largest count of a block, which has a variable at least.
     pub most_count: usize,
     /// The largest sum of counts.
     pub most_bound: usize,
@@ -154,8 +154,7 @@ impl Profile {
             [1, 1, 1, 200],
         ]);
         let most_count = match rng.below(8) {
-            0 => 0,
-            1 => 1,
+            0 | 1 => 1,
             2 | 3 => 3,
             4 | 5 => 10,
             6 => 100,
@@ -178,7 +177,7 @@ impl Profile {
         Profile {
             numbers: numbers(rng, many),
             most_count: rng.between(1, 3),
-            most_bound: rng.between(0, 5),
+            most_bound: rng.between(1, 5),
             weights: rng.pick(&[[4, 1, 3, 2], [3, 1, 2, 3], [4, 2, 2, 4], [5, 1, 4, 1]]),
             ..Profile::random(rng, nodes)
         }
@@ -234,16 +233,17 @@ fn is_variable(entry: u32) -> bool {
     (1..=HIGHEST).contains(&entry)
 }
 
-/// Chooses a block's range, in the list as it is or in new entries of it.
+/// Chooses a block's range, in the list as it is or in new entries of it. None
+/// if no other variable may be bound, or none was found.
 fn choose_range(
     rng: &mut Rng,
     profile: &Profile,
     list: &mut Vec<u32>,
     bound: usize,
-) -> (usize, usize) {
+) -> Option<(usize, usize)> {
     let most = profile.most_count.min(profile.most_bound - bound);
-    if most == 0 || rng.one_in(10) {
-        return (rng.below(list.len() + 1), 0);
+    if most == 0 {
+        return None;
     }
     let high = if rng.one_in(3) { most } else { most.min(3) };
     let wanted = rng.between(1, high);
@@ -256,14 +256,17 @@ fn choose_range(
             .take(wanted)
             .take_while(|&&entry| is_variable(entry) && seen.insert(entry))
             .count();
-        if count > 0 || rng.one_in(4) {
-            return (first, count);
+        if count > 0 {
+            return Some((first, count));
         }
     }
     while list.len() < LIMIT && rng.one_in(4) {
         list.push(any_entry(rng, &profile.numbers));
     }
     let count = wanted.min(profile.numbers.len()).min(LIMIT - list.len());
+    if count == 0 {
+        return None;
+    }
     let first = list.len();
     let start = rng.below(profile.numbers.len());
     let cycle = profile.numbers.iter().cycle();
@@ -271,7 +274,7 @@ fn choose_range(
     if rng.one_in(2) {
         list[first..].reverse();
     }
-    (first, count)
+    Some((first, count))
 }
 
 /// A random accepted table.
@@ -330,10 +333,14 @@ pub fn accepted(rng: &mut Rng, profile: &Profile) -> Table {
             };
             [4, rng.below(16) as u32, left, right]
         } else {
-            let (first, count) = choose_range(rng, profile, &mut table.list, bound);
-            bound += count;
             let body = take(rng, &mut unnamed);
-            [rng.pick(&[5, 6]), first as u32, count as u32, body]
+            match choose_range(rng, profile, &mut table.list, bound) {
+                Some((first, count)) => {
+                    bound += count;
+                    [rng.pick(&[5, 6]), first as u32, count as u32, body]
+                }
+                None => [3, body, 0, 0],
+            }
         };
         let index = table.push(node);
         unnamed.push(index);
@@ -343,6 +350,96 @@ pub fn accepted(rng: &mut Rng, profile: &Profile) -> Table {
         table.list.push(any_entry(rng, &profile.numbers));
     }
     table
+}
+
+/// A table copied node by node, with empty blocks put on nodes that nothing
+/// names yet.
+struct Stored<'a> {
+    from: &'a Table,
+    table: Table,
+    /// Where each node copied stands.
+    places: Vec<u32>,
+    /// Where the topmost of the empty blocks on each of them stands, or itself.
+    tops: Vec<u32>,
+    /// Those that nothing names yet, in order.
+    unnamed: Vec<u32>,
+}
+
+impl Stored<'_> {
+    fn new(from: &Table) -> Stored<'_> {
+        let table = Table {
+            words: Vec::new(),
+            list: from.list.clone(),
+        };
+        Stored {
+            from,
+            table,
+            places: Vec::new(),
+            tops: Vec::new(),
+            unnamed: Vec::new(),
+        }
+    }
+
+    fn copy_next(&mut self) {
+        let copied = self.places.len();
+        let mut node = self.from.node(copied);
+        let named = match node[0] {
+            3 => 1..2,
+            4 => 2..4,
+            5 | 6 => 3..4,
+            _ => 0..0,
+        };
+        for operand in &mut node[named] {
+            self.unnamed.retain(|i| i != operand);
+            *operand = self.tops[*operand as usize];
+        }
+        let place = self.table.push(node);
+        self.places.push(place);
+        self.tops.push(place);
+        self.unnamed.push(copied as u32);
+    }
+
+    /// Puts an empty block on a node that is copied and that nothing names yet.
+    fn put_on(&mut self, copied: u32, kind: u32, first: usize) {
+        let top = &mut self.tops[copied as usize];
+        *top = self.table.push([kind, first as u32, 0, *top]);
+    }
+}
+
+/// A tree with empty blocks put in (none, a few, many, nests of them, or a nest
+/// at the root), and where each of its own nodes stands. Without the blocks it is
+/// the tree that is given.
+pub fn with_empty_blocks(rng: &mut Rng, tree: &Table) -> (Table, Vec<u32>) {
+    let way = rng.below(6);
+    let mut stored = Stored::new(tree);
+    for copied in 1..=tree.len() {
+        stored.copy_next();
+        let is_root = copied == tree.len();
+        let nest = rng.pick(&stored.unnamed);
+        let (many, in_nest) = match way {
+            0 => (0, false),
+            1 => (usize::from(rng.one_in(8)), false),
+            2 => (rng.below(4), false),
+            3 | 4 if rng.one_in(8) => (rng.between(2, 20), true),
+            4 | 5 if is_root => (rng.between(1, 40), true),
+            _ => (0, false),
+        };
+        // Room for the nodes to come.
+        let room = LIMIT - stored.table.len() - (tree.len() - copied);
+        for _ in 0..many.min(room) {
+            let on = if in_nest {
+                nest
+            } else {
+                rng.pick(&stored.unnamed)
+            };
+            let first = match rng.below(4) {
+                0 => tree.list.len(),
+                _ => rng.below(tree.list.len() + 1),
+            };
+            stored.put_on(on, rng.pick(&[5, 6]), first);
+        }
+    }
+    (stored.table, stored.places)
 }
 
 /// Values at the edges of the ranges that fields have.
@@ -367,9 +464,8 @@ pub const EDGES: [u32; 18] = [
     u32::MAX,
 ];
 
-/// An accepted table with one to four words changed to anything.
-pub fn mutated(rng: &mut Rng, profile: &Profile) -> Table {
-    let mut table = accepted(rng, profile);
+/// A table with one to four words changed to anything.
+pub fn mutated(rng: &mut Rng, mut table: Table) -> Table {
     for _ in 0..rng.between(1, 4) {
         let value = match rng.below(3) {
             0 => rng.pick(&EDGES),
@@ -387,11 +483,9 @@ pub fn mutated(rng: &mut Rng, profile: &Profile) -> Table {
     table
 }
 
-/// An accepted table with some operands and bodies replaced by other lower
-/// nodes, most of them by the same few: nodes are shared, and others are left
-/// alone.
-pub fn shared(rng: &mut Rng, profile: &Profile) -> Table {
-    let mut table = accepted(rng, profile);
+/// A tree with some operands and bodies replaced by other lower nodes, most of
+/// them by the same few: nodes are shared, and others are left alone.
+pub fn shared(rng: &mut Rng, mut table: Table) -> Table {
     let popular = rng.below(table.len());
     for _ in 0..rng.between(1, 1 + table.len() / 4) {
         if let Some((i, field)) = any_reference(rng, &table) {
@@ -409,10 +503,35 @@ pub fn shared(rng: &mut Rng, profile: &Profile) -> Table {
     table
 }
 
-/// A table with the fault named, and the refusal it must get. None if the
-/// random table at hand had no place for that fault.
+/// An accepted table with the fault named, and the refusal it must get. None if
+/// the table had no place for that fault.
 pub fn damaged(rng: &mut Rng, profile: &Profile, reason: Reason) -> Option<(Table, Refusal)> {
-    let mut table = accepted(rng, profile);
+    if reason == Reason::TooManyVariables {
+        return Some(too_many(rng));
+    }
+    let table = accepted(rng, profile);
+    damage(rng, table, reason)
+}
+
+/// An accepted table with empty blocks put in and the fault named, which is not
+/// 16, and the refusal that removing them must give.
+pub fn damaged_stored(
+    rng: &mut Rng,
+    profile: &Profile,
+    reason: Reason,
+) -> Option<(Table, Refusal)> {
+    if reason == Reason::TooManyVariables {
+        let (table, refusal) = too_many(rng);
+        let (table, places) = with_empty_blocks(rng, &table);
+        let position = places[refusal.position as usize];
+        return Some((table, reason.at(position as usize)));
+    }
+    let table = accepted(rng, profile);
+    let (table, _) = with_empty_blocks(rng, &table);
+    damage(rng, table, reason)
+}
+
+fn damage(rng: &mut Rng, mut table: Table, reason: Reason) -> Option<(Table, Refusal)> {
     let mut users = None;
     let position = match reason {
         Reason::PartialNode => {
@@ -479,8 +598,7 @@ pub fn damaged(rng: &mut Rng, profile: &Profile, reason: Reason) -> Option<(Tabl
             i
         }
         Reason::RangePastEnd => {
-            let blocks = table.blocks();
-            let i = *blocks.get(rng.below(blocks.len().max(1)))?;
+            let i = any_block(rng, &table)?;
             let [_, first, count, _] = table.node(i);
             let end = table.list.len() as u32;
             let (first, count) = match rng.below(8) {
@@ -499,7 +617,12 @@ pub fn damaged(rng: &mut Rng, profile: &Profile, reason: Reason) -> Option<(Tabl
             table.node_mut(i)[1..3].copy_from_slice(&[first, count]);
             i
         }
-        Reason::TooManyVariables => return Some(too_many(rng)),
+        Reason::EmptyBlock => {
+            let i = any_block(rng, &table)?;
+            let first = rng.below(table.list.len() + 1) as u32;
+            table.node_mut(i)[1..3].copy_from_slice(&[first, 0]);
+            i
+        }
         Reason::BadVariable => {
             let mut blocks = table.blocks();
             blocks.retain(|&i| !table.range(i).is_empty());
@@ -543,8 +666,9 @@ pub fn damaged(rng: &mut Rng, profile: &Profile, reason: Reason) -> Option<(Tabl
                 before.min(now)
             }
         }
-        // No fault of a table.
+        // No fault of a table, or one that a table of its own is made for.
         Reason::BufferTooShort
+        | Reason::TooManyVariables
         | Reason::MalformedText
         | Reason::MisplacedName
         | Reason::UnboundVariable
@@ -553,6 +677,12 @@ pub fn damaged(rng: &mut Rng, profile: &Profile, reason: Reason) -> Option<(Tabl
         | Reason::MalformedPrefix => return None,
     };
     Some((table, reason.at(position).used_by(users)))
+}
+
+/// A block. None if there is none.
+fn any_block(rng: &mut Rng, table: &Table) -> Option<usize> {
+    let blocks = table.blocks();
+    blocks.get(rng.below(blocks.len().max(1))).copied()
 }
 
 /// The node of an accepted table that names node x, which is not the last.
@@ -810,6 +940,30 @@ pub fn one_number_nest(nodes: usize) -> Table {
     leaves_under_nest(nodes, |_| 1 + 1024, |_| 1)
 }
 
+/// The table of a family, but every fourth node is an empty block on the one
+/// before. The number of nodes is a multiple of four.
+pub fn every_fourth_empty(family: Family, nodes: usize) -> Table {
+    let tree = family(nodes - nodes / 4);
+    let mut stored = Stored::new(&tree);
+    for copied in 0..tree.len() as u32 {
+        stored.copy_next();
+        if copied % 3 == 2 {
+            stored.put_on(copied, 5 + copied % 2, 0);
+        }
+    }
+    stored.table
+}
+
+/// A variable below empty blocks.
+pub fn empty_nest(nodes: usize) -> Table {
+    let mut table = Table::default();
+    let mut body = table.variable(1);
+    for k in 1..nodes as u32 {
+        body = table.block(5 + k % 2, &[], body);
+    }
+    table
+}
+
 /// The largest form's table: a variable, 4,094 blocks in one another that bind
 /// the 4,096 highest numbers, and a not, so that all blocks are inner ones. No
 /// form has more nodes, prefix blocks or variables, or higher names.
@@ -885,7 +1039,7 @@ mod tests {
 
     #[test]
     fn random_tables_have_every_feature() {
-        let mut counts = [0; 6];
+        let mut counts = [0; 5];
         let mut rng = Rng::new(2);
         for _ in 0..1000 {
             let nodes = rng.between(5, 60);
@@ -908,8 +1062,6 @@ mod tests {
                     let mut others = blocks.iter().filter(|&&j| j > i);
                     others.any(|&j| table.range(i).any(|at| table.range(j).contains(&at)))
                 }),
-                // An empty block.
-                blocks.iter().any(|&i| table.range(i).is_empty()),
                 // One number at two places of the list, both covered.
                 (0..table.list.len()).any(|at| {
                     let again = table.list[..at].iter().position(|e| *e == table.list[at]);
@@ -933,13 +1085,62 @@ mod tests {
     }
 
     #[test]
+    fn empty_blocks_stand_anywhere() {
+        let mut counts = [0; 6];
+        let mut rng = Rng::new(3);
+        for _ in 0..1000 {
+            let nodes = rng.between(5, 60);
+            let profile = Profile::random(&mut rng, nodes);
+            let tree = accepted(&mut rng, &profile);
+            let (table, places) = with_empty_blocks(&mut rng, &tree);
+            let mut empty = table.blocks();
+            empty.retain(|&i| table.range(i).is_empty());
+            assert_eq!(table.len(), tree.len() + empty.len());
+            let kinds = |table: &Table, i: usize| table.node(i)[0];
+            assert!((0..tree.len()).all(|i| kinds(&tree, i) == kinds(&table, places[i] as usize)));
+
+            let body = |i: usize| table.node(i)[3] as usize;
+            let features = [
+                empty.is_empty(),
+                // Two in one another, and ten.
+                empty.iter().any(|&i| empty.contains(&body(i))),
+                empty.iter().any(|&i| {
+                    (0..10)
+                        .try_fold(i, |i, _| empty.contains(&i).then(|| body(i)))
+                        .is_some()
+                }),
+                empty.contains(&(table.len() - 1)),
+                // From the end of the list on.
+                empty
+                    .iter()
+                    .any(|&i| table.range(i).start == table.list.len()),
+                // Not on the node before.
+                empty.iter().any(|&i| body(i) != i - 1),
+            ];
+            for (count, feature) in counts.iter_mut().zip(features) {
+                *count += u32::from(feature);
+            }
+        }
+        assert!(counts.iter().all(|&count| count > 100), "{counts:?}");
+    }
+
+    #[test]
     fn families_have_the_nodes_asked_for() {
+        let mut room = vec![0; WIDTH * LIMIT];
         for nodes in [1024, 2048, 4096] {
             for (name, family) in FAMILIES.into_iter().chain([HIGH_LEAVES]) {
                 let table = family(nodes);
                 let sizes = reference::measure(&table.words, &table.list);
                 assert_eq!(sizes.map(|s| s.n as usize), Ok(nodes), "{name}");
+                let table = every_fourth_empty(family, nodes);
+                assert_eq!(table.len(), nodes, "{name}");
+                let left = reference::remove_empty_blocks(&table.words, &table.list, &mut room);
+                assert_eq!(left, Ok(nodes as u32 / 4 * 3), "{name}");
             }
+            let table = empty_nest(nodes);
+            assert_eq!(table.len(), nodes);
+            let left = reference::remove_empty_blocks(&table.words, &table.list, &mut room);
+            assert_eq!(left, Ok(1));
             let sizes = |table: Table| reference::measure(&table.words, &table.list).unwrap();
             assert_eq!(sizes(parity_chain(nodes)).depth as usize, (nodes - 1) / 3);
             assert_eq!(sizes(bound_climb(nodes)), sizes(climb(nodes)));

@@ -57,6 +57,15 @@ mod ffi {
             names_len: usize,
             answer: *mut u32,
         );
+        pub fn wakubinryo_remove_empty_blocks(
+            words: *const u32,
+            words_len: usize,
+            list: *const u32,
+            list_len: usize,
+            nodes: *mut u32,
+            nodes_len: usize,
+            answer: *mut u32,
+        );
         pub fn wakubinryo_read_qcir(
             text: *const u8,
             text_len: usize,
@@ -144,6 +153,26 @@ pub mod raw {
         }
     }
 
+    pub fn remove_empty_blocks(
+        words: &[u32],
+        list: &[u32],
+        nodes: &mut [u32],
+        answer: &mut CountAnswer,
+    ) {
+        // SAFETY: as above.
+        unsafe {
+            ffi::wakubinryo_remove_empty_blocks(
+                words.as_ptr(),
+                words.len(),
+                list.as_ptr(),
+                list.len(),
+                nodes.as_mut_ptr(),
+                nodes.len(),
+                answer.as_mut_ptr(),
+            )
+        }
+    }
+
     pub fn read_qcir(text: &[u8], words: &mut [u32], list: &mut [u32], answer: &mut WrittenAnswer) {
         // SAFETY: as above.
         unsafe {
@@ -184,7 +213,7 @@ pub mod raw {
 }
 
 fn refusal(number: u32, position: u64, users: [u32; 2]) -> Refusal {
-    let reason = Reason::from_number(number).expect("the library answers 0 to 15");
+    let reason = Reason::from_number(number).expect("the library answers 0 to 16");
     let users = (users != [0, 0]).then_some(users);
     Refusal {
         reason,
@@ -197,6 +226,15 @@ fn sizes(answer: SizesAnswer) -> Result<Sizes, Refusal> {
     match answer {
         [0, _, _, _, sizes @ ..] => Ok(Sizes::from_words(sizes)),
         [number, position, first, second, ..] => {
+            Err(refusal(number, position.into(), [first, second]))
+        }
+    }
+}
+
+fn count(answer: CountAnswer) -> Result<u32, Refusal> {
+    match answer {
+        [0, _, _, _, written] => Ok(written),
+        [number, position, first, second, _] => {
             Err(refusal(number, position.into(), [first, second]))
         }
     }
@@ -228,12 +266,24 @@ pub fn lift(
 pub fn free_variables(words: &[u32], list: &[u32], names: &mut [u32]) -> Result<u32, Refusal> {
     let mut answer = CountAnswer::default();
     raw::free_variables(words, list, names, &mut answer);
-    match answer {
-        [0, _, _, _, written] => Ok(written),
-        [number, position, first, second, _] => {
-            Err(refusal(number, position.into(), [first, second]))
-        }
-    }
+    count(answer)
+}
+
+/// Writes the nodes of a table that may have empty blocks without these, and
+/// says how many are left. With the same list they are a table of the same
+/// truth value and the same free variables, which is not refused.
+pub fn remove_empty_blocks(words: &[u32], list: &[u32], nodes: &mut [u32]) -> Result<u32, Refusal> {
+    let mut answer = CountAnswer::default();
+    raw::remove_empty_blocks(words, list, nodes, &mut answer);
+    count(answer)
+}
+
+/// Allocates room and gives the nodes of a table without its empty blocks.
+pub fn without_empty_blocks(words: &[u32], list: &[u32]) -> Result<Vec<u32>, Refusal> {
+    let mut nodes = vec![0; words.len()];
+    let left = remove_empty_blocks(words, list, &mut nodes)?;
+    nodes.truncate(WIDTH * left as usize);
+    Ok(nodes)
 }
 
 /// A prenex form: nodes of four words, prefix blocks of three, variables.

@@ -1,4 +1,4 @@
-//! The three operations in plain Rust, independent of the static library: the
+//! The four operations over tables in plain Rust, independent of the static library: the
 //! other side of the comparison tests and of the benchmark.
 //!
 //! All passes are linear in nodes, list entries covered, words written and the
@@ -55,18 +55,65 @@ impl NumberSet {
     }
 }
 
-/// What checking a table finds out on its way.
-struct Summary<'a> {
-    table: &'a [Node],
-    sizes: Sizes,
-    /// The highest number at a variable node or in a range, 0 if none.
-    highest: u32,
-    /// Count of the root if it is a block.
-    root_count: Option<u32>,
+/// Whether a table may have blocks that bind nothing.
+#[derive(Clone, Copy, PartialEq)]
+enum EmptyBlocks {
+    Refused,
+    Allowed,
 }
 
-/// Tests a table for refusals 1 to 8.
-fn check<'a>(words: &'a [u32], list: &[u32]) -> Result<Summary<'a>, Refusal> {
+/// A table that is not refused, and what checking it finds out on its way.
+struct Summary<'a> {
+    table: &'a [Node],
+    /// The highest number at a variable node or in a range, 0 if none.
+    highest: u32,
+    blocks: u32,
+    /// How many of the blocks are empty.
+    empty: u32,
+    /// The sum of the blocks' counts.
+    bound: u32,
+    depth: u32,
+}
+
+impl Summary<'_> {
+    /// Count of the root if it is a block.
+    fn root_count(&self) -> Option<u32> {
+        match self.table {
+            [.., [EXISTS | FOR_ALL, _, count, _]] => Some(*count),
+            _ => None,
+        }
+    }
+
+    /// The sizes of a table without empty blocks, and of its form.
+    fn sizes(&self) -> Sizes {
+        let n = self.table.len() as u32;
+        let (b, q, depth) = (self.blocks, self.bound, self.depth);
+        let mut sizes = Sizes {
+            n,
+            b,
+            q,
+            depth,
+            // Each block's definition has 5 nodes and 4 for each variable.
+            nodes: n + 5 * b + 4 * q,
+            blocks: if b == 0 { 0 } else { depth + 1 },
+            entries: 2 * q + b,
+        };
+        if let Some(count) = self.root_count() {
+            // A root block goes, needs no definition and opens the prefix.
+            sizes.nodes -= 1 + 5 + 4 * count;
+            sizes.blocks -= 1;
+            sizes.entries -= count + 1;
+        }
+        sizes
+    }
+}
+
+/// Tests a table for refusals 1 to 8, and for 16 if empty blocks are refused.
+fn check<'a>(
+    words: &'a [u32],
+    list: &[u32],
+    empty_blocks: EmptyBlocks,
+) -> Result<Summary<'a>, Refusal> {
     let (table, rest) = words.as_chunks::<4>();
     if table.is_empty() || !rest.is_empty() {
         return Err(Reason::PartialNode.at(0));
@@ -80,9 +127,8 @@ fn check<'a>(words: &'a [u32], list: &[u32]) -> Result<Summary<'a>, Refusal> {
     let mut seen = NumberSet::new();
     let mut highest = 0;
     let mut blocks = 0;
+    let mut empty = 0;
     let mut bound = 0;
-    // Nodes that the blocks' definitions add to the form.
-    let mut added = 0;
     for (i, &[kind, a, b, c]) in table.iter().enumerate() {
         match kind {
             CONSTANT => {
@@ -128,6 +174,9 @@ fn check<'a>(words: &'a [u32], list: &[u32]) -> Result<Summary<'a>, Refusal> {
                 if count > list.len() || first > list.len() - count {
                     return Err(Reason::RangePastEnd.at(i));
                 }
+                if count == 0 && empty_blocks == EmptyBlocks::Refused {
+                    return Err(Reason::EmptyBlock.at(i));
+                }
                 if bound + count > LIMIT {
                     return Err(Reason::TooManyVariables.at(i));
                 }
@@ -144,8 +193,8 @@ fn check<'a>(words: &'a [u32], list: &[u32]) -> Result<Summary<'a>, Refusal> {
                 uses[body] += 1;
                 depth[i] = depth[body] + 1;
                 blocks += 1;
+                empty += u32::from(count == 0);
                 bound += count;
-                added += definition_size(b);
             }
             _ => return Err(Reason::MalformedNode.at(i)),
         }
@@ -154,33 +203,13 @@ fn check<'a>(words: &'a [u32], list: &[u32]) -> Result<Summary<'a>, Refusal> {
     if let Some(i) = uses[..last].iter().position(|&u| u != 1) {
         return Err(Reason::NotATree.at(i).used_by(two_users(table, i as u32)));
     }
-
-    let [kind, _, count, _] = table[last];
-    let root_count = matches!(kind, EXISTS | FOR_ALL).then_some(count);
-    let mut sizes = Sizes {
-        n: table.len() as u32,
-        b: blocks,
-        q: bound as u32,
-        depth: depth[last].into(),
-        nodes: table.len() as u32 + added,
-        blocks: if blocks == 0 {
-            0
-        } else {
-            u32::from(depth[last]) + 1
-        },
-        entries: 2 * bound as u32 + blocks,
-    };
-    if let Some(count) = root_count {
-        // A root block goes, needs no definition and opens the prefix.
-        sizes.nodes -= 1 + definition_size(count);
-        sizes.blocks -= 1;
-        sizes.entries -= count + 1;
-    }
     Ok(Summary {
         table,
-        sizes,
         highest,
-        root_count,
+        blocks,
+        empty,
+        bound: bound as u32,
+        depth: depth[last].into(),
     })
 }
 
@@ -204,19 +233,9 @@ fn two_users(table: &[Node], x: u32) -> Option<[u32; 2]> {
     Some([users.next()?, users.next()?])
 }
 
-/// The number of nodes that define an inner block and join it to the matrix
-/// or to the definitions before it.
-fn definition_size(count: u32) -> u32 {
-    if count == 0 {
-        3
-    } else {
-        4 * count + 5
-    }
-}
-
 /// The sizes of a table and of its prenex form.
 pub fn measure(words: &[u32], list: &[u32]) -> Result<Sizes, Refusal> {
-    Ok(check(words, list)?.sizes)
+    Ok(check(words, list, EmptyBlocks::Refused)?.sizes())
 }
 
 /// A block and the names it is given. A root block has level 0 and neither
@@ -279,8 +298,8 @@ pub fn lift(
     prefix: &mut [u32],
     variables: &mut [u32],
 ) -> Result<Sizes, Refusal> {
-    let summary = check(words, list)?;
-    let sizes = summary.sizes;
+    let summary = check(words, list, EmptyBlocks::Refused)?;
+    let sizes = summary.sizes();
     let nodes_len = WIDTH * sizes.nodes as usize;
     let prefix_len = 3 * sizes.blocks as usize;
     let variables_len = sizes.entries as usize;
@@ -295,10 +314,11 @@ pub fn lift(
     let prefix = prefix[..prefix_len].as_chunks_mut::<3>().0;
     let variables = &mut variables[..variables_len];
 
-    let kept = summary.table.len() - usize::from(summary.root_count.is_some());
+    let root_count = summary.root_count();
+    let kept = summary.table.len() - usize::from(root_count.is_some());
     let mut blocks = write_matrix(&summary, list, &mut nodes[..kept]);
     // The root has the highest index, so a root block is the last.
-    let root = summary.root_count.and_then(|_| blocks.pop());
+    let root = root_count.and_then(|_| blocks.pop());
     let levels = by_level(&blocks, sizes.blocks as usize - 1);
     let outermost = root.as_ref().map_or(FOR_ALL, |root| root.kind);
 
@@ -319,12 +339,11 @@ pub fn lift(
 /// in node order.
 fn write_matrix(summary: &Summary, list: &[u32], out: &mut [Node]) -> Vec<Block> {
     let table = summary.table;
-    let sizes = summary.sizes;
-    let inner_bound = sizes.q - summary.root_count.unwrap_or(0);
+    let inner_bound = summary.bound - summary.root_count().unwrap_or(0);
     let mut names = summary.highest + 1;
-    let mut copies = names + sizes.q;
+    let mut copies = names + summary.bound;
     let mut definition = copies + inner_bound;
-    let mut blocks = Vec::with_capacity(sizes.b as usize);
+    let mut blocks = Vec::with_capacity(summary.blocks as usize);
     let mut block_at = vec![0u16; table.len()];
     for (i, &[kind, _, count, body]) in table.iter().enumerate() {
         if kind == EXISTS || kind == FOR_ALL {
@@ -352,7 +371,7 @@ fn write_matrix(summary: &Summary, list: &[u32], out: &mut [Node]) -> Vec<Block>
         Leave(u32),
     }
     let mut name_of: Vec<u32> = (0..=summary.highest).collect();
-    let mut hidden = Vec::with_capacity(sizes.q as usize);
+    let mut hidden = Vec::with_capacity(summary.bound as usize);
     let mut level = 0;
     let mut steps = Vec::with_capacity(table.len());
     let mut i = table.len() - 1;
@@ -487,19 +506,16 @@ fn write_definitions(levels: &Levels, outermost: u32, mut nodes: Nodes) {
 fn write_definition(block: &Block, nodes: &mut Nodes) -> u32 {
     let defined = nodes.variable(block.definition);
     let definition = nodes.operator(IFF, defined, block.body);
-    let mut all = None;
-    for k in 0..block.count {
+    let equality = |nodes: &mut Nodes, k: u32| {
         let name = nodes.variable(block.names + k);
         let copy = nodes.variable(block.copies + k);
-        let equal = nodes.operator(IFF, name, copy);
-        all = Some(match all {
-            None => equal,
-            Some(before) => nodes.operator(AND, before, equal),
-        });
-    }
-    let Some(all) = all else {
-        return definition;
+        nodes.operator(IFF, name, copy)
     };
+    let mut all = equality(nodes, 0);
+    for k in 1..block.count {
+        let equal = equality(nodes, k);
+        all = nodes.operator(AND, all, equal);
+    }
     let defined = nodes.variable(block.definition);
     let guard = if block.kind == EXISTS { OR } else { IMPLIES };
     let guarded = nodes.operator(guard, defined, all);
@@ -543,7 +559,7 @@ fn write_prefix(
 /// covers.
 fn each_free_leaf(summary: &Summary, list: &[u32], mut found: impl FnMut(u32)) {
     let table = summary.table;
-    if summary.sizes.b == 0 {
+    if summary.blocks == 0 {
         for &[kind, number, _, _] in table {
             if kind == VARIABLE {
                 found(number);
@@ -554,7 +570,7 @@ fn each_free_leaf(summary: &Summary, list: &[u32], mut found: impl FnMut(u32)) {
     // From the root down, with the numbers that the blocks above cover at hand:
     // as a set, and in the order in which they came to it.
     let mut covered = NumberSet::new();
-    let mut order = Vec::with_capacity(summary.sizes.q as usize);
+    let mut order = Vec::with_capacity(summary.bound as usize);
     // Left operands to come, each with how many numbers are covered above it.
     let mut lefts = Vec::with_capacity(table.len() / 2);
     let mut i = table.len() as u32 - 1;
@@ -594,7 +610,7 @@ fn each_free_leaf(summary: &Summary, list: &[u32], mut found: impl FnMut(u32)) {
 /// Writes the numbers with a variable node that no block above it covers,
 /// ascending and once each, and says how many they are.
 pub fn free_variables(words: &[u32], list: &[u32], names: &mut [u32]) -> Result<u32, Refusal> {
-    let summary = check(words, list)?;
+    let summary = check(words, list, EmptyBlocks::Refused)?;
     let mut free = NumberSet::new();
     let mut written = 0;
     each_free_leaf(&summary, list, |number| {
@@ -613,4 +629,34 @@ pub fn free_variables(words: &[u32], list: &[u32], names: &mut [u32]) -> Result<
         }
     }
     Ok(written)
+}
+
+/// Writes a table's nodes without its empty blocks and says how many are left.
+pub fn remove_empty_blocks(words: &[u32], list: &[u32], nodes: &mut [u32]) -> Result<u32, Refusal> {
+    let Summary { table, empty, .. } = check(words, list, EmptyBlocks::Allowed)?;
+    let left = table.len() - empty as usize;
+    if nodes.len() < WIDTH * left {
+        return Err(Reason::BufferTooShort.at(0));
+    }
+    let out = &mut nodes.as_chunks_mut::<4>().0[..left];
+    // Where each node goes, and for an empty block where its body does.
+    let mut places = vec![0u16; table.len()];
+    let mut written = 0;
+    for (i, &[kind, a, b, c]) in table.iter().enumerate() {
+        let place = |x: u32| u32::from(places[x as usize]);
+        let node = match kind {
+            NOT => [kind, place(a), b, c],
+            OPERATOR => [kind, a, place(b), place(c)],
+            EXISTS | FOR_ALL if b == 0 => {
+                places[i] = places[c as usize];
+                continue;
+            }
+            EXISTS | FOR_ALL => [kind, a, b, place(c)],
+            _ => [kind, a, b, c],
+        };
+        places[i] = written as u16;
+        out[written] = node;
+        written += 1;
+    }
+    Ok(left as u32)
 }

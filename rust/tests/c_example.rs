@@ -29,10 +29,16 @@ variables
 3
 5
 refused: 8 at 0, named by 1 and 1
+refused: 16 at 1
+nodes
+2 1 0 0
+3 0 0 0
+prefix
+variables
 ";
 
 #[test]
-fn c_example_prints_a_form_and_a_refusal() {
+fn c_example_prints_forms_and_refusals() {
     let repository = Path::new(env!("CARGO_MANIFEST_DIR")).join("..");
     let libraries = Path::new(env!("WAKUBINRYO_LIB_DIR"));
     let program = Path::new(env!("CARGO_TARGET_TMPDIR")).join("lift");

@@ -69,8 +69,8 @@ fn families() {
 fn every_refusal_where_it_is_expected() {
     let mut counts: HashMap<Reason, u32> = HashMap::new();
     each("damaged tables", 40_000, |rng, number| {
-        let reason = Reason::ALL[number as usize % 8];
-        let nodes = match number / 8 % 100 {
+        let reason = Reason::OF_TABLES[number as usize % 9];
+        let nodes = match number / 9 % 100 {
             0 => rng.between(1000, 4096),
             1..=9 => rng.between(40, 300),
             _ => rng.between(1, 40),
@@ -78,13 +78,13 @@ fn every_refusal_where_it_is_expected() {
         let profile = Profile::random(rng, nodes);
         if let Some((table, refusal)) = damaged(rng, &profile, reason) {
             let spare = rng.between(1, 60);
-            let given = assert_same(&table, &prefill(number / 8), spare);
+            let given = assert_same(&table, &prefill(number / 9), spare);
             assert_eq!(given, Err(refusal));
             *counts.entry(reason).or_default() += 1;
         }
     });
-    for reason in &Reason::ALL[..8] {
-        let count = counts.get(reason).copied().unwrap_or(0);
+    for reason in Reason::OF_TABLES {
+        let count = counts.get(&reason).copied().unwrap_or(0);
         assert!(count >= 1500, "{reason:?} only {count} times");
     }
 }
@@ -92,11 +92,12 @@ fn every_refusal_where_it_is_expected() {
 #[test]
 fn tables_changed_anywhere() {
     let mut refused = 0;
-    let mut counts = [0; 9];
+    let mut counts = [0; 17];
     each("changed tables", 60_000, |rng, number| {
         let nodes = some_nodes(rng, number);
         let profile = Profile::random(rng, nodes);
-        let table = mutated(rng, &profile);
+        let table = accepted(rng, &profile);
+        let table = mutated(rng, table);
         let spare = rng.between(1, 60);
         if let Err(refusal) = assert_same(&table, &prefill(number), spare) {
             refused += 1;
@@ -104,7 +105,7 @@ fn tables_changed_anywhere() {
         }
     });
     assert!(refused > 20_000, "only {refused} refused");
-    for number in [3, 4, 5, 7, 8] {
+    for number in [3, 4, 5, 7, 8, 16] {
         assert!(counts[number] > 100, "refusals by number: {counts:?}");
     }
 }
@@ -114,11 +115,15 @@ fn tables_changed_anywhere() {
 fn all_tiny_tables() {
     let lists: [&[u32]; 5] = [&[], &[1], &[1, 2], &[1, 1], &[0, 2]];
     let one: Vec<Node> = all_nodes(&[0, 1, 2, 3, 4, 5, 6, 7], &[0, 1, 2]);
-    let mut accepted = 0u32;
+    let [mut accepted, mut with_empty] = [0; 2];
     let mut check = |nodes: &[Node], list: &[u32]| {
         let table = Table::new(nodes, list);
         let given = assert_same(&table, &[Prefill::Counting], 2);
-        accepted += u32::from(given.is_ok());
+        match given.map_err(|refusal| refusal.reason) {
+            Ok(_) => accepted += 1,
+            Err(Reason::EmptyBlock) => with_empty += 1,
+            Err(_) => {}
+        }
     };
     for list in lists {
         for &a in &one {
@@ -139,7 +144,8 @@ fn all_tiny_tables() {
             }
         }
     }
-    assert!(accepted > 1000, "only {accepted} accepted");
+    assert!(accepted > 700, "only {accepted} accepted");
+    assert!(with_empty > 700, "only {with_empty} with an empty block");
 }
 
 fn all_nodes(kinds: &[u32], fields: &[u32]) -> Vec<Node> {

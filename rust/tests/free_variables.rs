@@ -204,26 +204,6 @@ fn a_leaf_between_two_blocks_of_one_number() {
 }
 
 #[test]
-fn blocks_with_an_empty_range() {
-    for x in NUMBERS {
-        for first in 0..2 {
-            assert_free(&[leaf(x), exists(first, 0, 0)], &[x], &[x]);
-            // Below a block that binds x, and beside one.
-            let nodes = [leaf(x), for_all(first, 0, 0), exists(0, 1, 1)];
-            assert_free(&nodes, &[x], &[]);
-            let nodes = [
-                leaf(x),
-                for_all(first, 0, 0),
-                leaf(x),
-                exists(0, 1, 2),
-                xor(1, 3),
-            ];
-            assert_free_either_side(&nodes, 4, &[x], &[x]);
-        }
-    }
-}
-
-#[test]
 fn several_numbers_free_and_bound() {
     // (1 xor 4095) xor (4096 xor 65535), beside the same below a block.
     let nodes = [

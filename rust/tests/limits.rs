@@ -2,13 +2,14 @@
 
 mod common;
 
-use common::{assert_free_variables, assert_same, reference_form, reference_free_variables};
-use common::{each, library_measure, some_nodes};
-use common::{Prefill, LIBRARY_FREE_VARIABLES, LIBRARY_LIFT, TOO_SHORT};
+use common::{assert_free_variables, assert_same, each, library_measure, some_nodes};
+use common::{reference_form, reference_free_variables, reference_left, Prefill, TOO_SHORT};
+use common::{LIBRARY_FREE_VARIABLES, LIBRARY_LIFT, LIBRARY_REMOVE};
 use std::thread;
 use wakubinryo::answer::{count_words, size_words};
-use wakubinryo::generate::{accepted, largest_form, most_free_variables, Profile, Table};
-use wakubinryo::{PrenexForm, Sizes};
+use wakubinryo::generate::{accepted, empty_nest, largest_form, most_free_variables};
+use wakubinryo::generate::{every_fourth_empty, parity_chain, Profile, Table};
+use wakubinryo::{PrenexForm, Sizes, WIDTH};
 
 #[test]
 fn the_largest_form() {
@@ -79,7 +80,12 @@ fn one_free_variable_in_two_nodes() {
 /// The stack that include/wakubinryo.h says is enough for a call.
 const STACK: usize = 256 * 1024;
 
-/// The three calls in a thread with no more stack than that.
+/// Makes calls in a thread with no more stack than that.
+fn with_little_stack<T: Send + 'static>(calls: impl FnOnce() -> T + Send + 'static) -> T {
+    let thread = thread::Builder::new().stack_size(STACK).spawn(calls);
+    thread.expect("a thread").join().expect("no panic")
+}
+
 #[test]
 fn stack_of_the_calls() {
     for table in [largest_form(), most_free_variables()] {
@@ -87,7 +93,7 @@ fn stack_of_the_calls() {
         let (count, expected_names) = reference_free_variables(&table);
         let mut form = PrenexForm::with_sizes(&sizes.expect("accepted"));
         let mut names = vec![0; expected_names.len()];
-        let calls = move || {
+        let given = with_little_stack(move || {
             let measured = library_measure(&table);
             let PrenexForm {
                 nodes,
@@ -97,11 +103,27 @@ fn stack_of_the_calls() {
             let lifted = LIBRARY_LIFT(&table, nodes, prefix, variables);
             let listed = LIBRARY_FREE_VARIABLES(&table, &mut names);
             (measured, lifted, form, listed, names)
-        };
-        let thread = thread::Builder::new().stack_size(STACK).spawn(calls);
-        let given = thread.expect("a thread").join().expect("no panic");
+        });
         let sizes = size_words(sizes);
         let counts = count_words(count);
         assert!(given == (sizes, sizes, expected, counts, expected_names));
+    }
+}
+
+#[test]
+fn stack_of_removing_empty_blocks() {
+    for table in [
+        empty_nest(4096),
+        every_fourth_empty(parity_chain, 4096),
+        largest_form(),
+    ] {
+        let expected = reference_left(&table).expect("not refused");
+        let count = count_words(Ok((expected.len() / WIDTH) as u32));
+        let mut nodes = vec![0; expected.len()];
+        let given = with_little_stack(move || {
+            let left = LIBRARY_REMOVE(&table, &mut nodes);
+            (left, nodes)
+        });
+        assert!(given == (count, expected));
     }
 }

@@ -41,12 +41,13 @@ fn limits_before_nodes() {
 
 #[test]
 fn lower_nodes_before_higher_ones() {
-    // Faults 3 to 7 at node 1, and each of them again at node 2.
+    // Faults 3 to 7 and 16 at node 1, and each of them again at node 2.
     let list = [1, 1, 0, 2];
     let faults = [
         (MalformedNode, [4, 16, 0, 0]),
         (ForwardReference, [3, 2, 0, 0]),
         (RangePastEnd, [5, 4, 1, 0]),
+        (EmptyBlock, [5, 4, 0, 0]),
         (BadVariable, [6, 0, 2, 0]),
         (BadVariable, [6, 2, 1, 0]),
     ];
@@ -74,10 +75,18 @@ fn order_of_tests_at_one_node() {
         (ForwardReference, [6, u32::MAX, u32::MAX, 1]),
         (ForwardReference, [5, 0, 2, 1]),
         (ForwardReference, [5, 0, 5000, u32::MAX]),
+        // A reference that is too high and no entry, from the end on or past it.
+        (ForwardReference, [5, 2, 0, 1]),
+        (ForwardReference, [6, 3, 0, u32::MAX]),
         // A range past the end with too many entries, or bad ones.
         (RangePastEnd, [5, 0, 4097, 0]),
         (RangePastEnd, [5, 0, 3, 0]),
         (RangePastEnd, [6, u32::MAX, u32::MAX, 0]),
+        // A range past the end without an entry.
+        (RangePastEnd, [5, 3, 0, 0]),
+        (RangePastEnd, [6, u32::MAX, 0, 0]),
+        // No entry, from the end on.
+        (EmptyBlock, [5, 2, 0, 0]),
     ];
     for (reason, node) in cases {
         assert_refused(&Table::new(&[LEAF, node], &list), reason, 1);
@@ -86,14 +95,14 @@ fn order_of_tests_at_one_node() {
 
 #[test]
 fn sum_of_counts_before_entries() {
-    let nodes = |count: u32| [LEAF, [5, 0, 2048, 0], [6, 2048, count, 1], [5, 0, 0, 2]];
+    let nodes = [LEAF, [5, 0, 2048, 0], [6, 2048, 2048, 1], [3, 2, 0, 0]];
     // Node 2 alone covers entries 2048 and up.
     let good = numbers(4096);
-    assert!(assert_same(&Table::new(&nodes(2048), &good), &Prefill::ALL, 9).is_ok());
+    assert!(assert_same(&Table::new(&nodes, &good), &Prefill::ALL, 9).is_ok());
     for bad in [0, 65_536, u32::MAX, 2050] {
         let mut list = good.clone();
         list[2048] = bad;
-        assert_refused(&Table::new(&nodes(2048), &list), BadVariable, 2);
+        assert_refused(&Table::new(&nodes, &list), BadVariable, 2);
         // Another block brings the sum over, whatever its range holds.
         let above = [LEAF, [5, 0, 2048, 0], [6, 0, 2046, 1], [6, 2048, 2, 2]];
         assert_refused(&Table::new(&above, &list), BadVariable, 3);
@@ -114,13 +123,7 @@ fn sum_of_counts_at_the_limit() {
         }
         assert_same(&table, &Prefill::ALL, 9)
     };
-    for counts in [
-        &[4096][..],
-        &[4095, 1],
-        &[1, 4095],
-        &[4096, 0, 0],
-        &[1; 4095],
-    ] {
+    for counts in [&[4096][..], &[4095, 1], &[1, 4095], &[1; 4095]] {
         let bound: u32 = counts.iter().sum();
         assert_eq!(sizes(counts).map(|s| s.q), Ok(bound), "{counts:?}");
     }
@@ -128,7 +131,6 @@ fn sum_of_counts_at_the_limit() {
         (&[4096, 1][..], 2),
         (&[4095, 2], 2),
         (&[1, 4096], 2),
-        (&[4096, 0, 1, 0], 3),
         (&[2048, 2048, 1], 3),
         (&[4096, 4096], 2),
     ] {
@@ -137,6 +139,14 @@ fn sum_of_counts_at_the_limit() {
             Err(TooManyVariables.at(position)),
             "{counts:?}"
         );
+    }
+    // An empty block is refused at the limit too, before one that passes it.
+    for (counts, position) in [
+        (&[4096, 0, 1][..], 2),
+        (&[0, 4096, 1], 1),
+        (&[4095, 1, 0], 3),
+    ] {
+        assert_eq!(sizes(counts), Err(EmptyBlock.at(position)), "{counts:?}");
     }
 }
 
@@ -148,6 +158,7 @@ fn nodes_before_the_tree() {
         (MalformedNode, [1, 2, 0, 0]),
         (ForwardReference, [3, 2, 0, 0]),
         (RangePastEnd, [5, 3, 1, 1]),
+        (EmptyBlock, [5, 3, 0, 1]),
         (BadVariable, [6, 0, 2, 1]),
         (BadVariable, [6, 2, 1, 1]),
     ] {

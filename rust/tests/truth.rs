@@ -92,12 +92,13 @@ fn assert_well_formed(table: &Table) {
     assert_eq!(root, Some(0));
     assert!(uses.iter().all(|&u| u == 1));
 
-    // Kinds alternate and ranges follow one another.
+    // Kinds alternate, ranges follow one another, and none is empty.
     let mut end = 0;
     for (j, block) in prefix.chunks_exact(3).enumerate() {
         assert!(block[0] == 5 || block[0] == 6);
         assert!(j == 0 || block[0] != prefix[3 * j - 3]);
         assert_eq!(block[1], end);
+        assert!(block[2] > 0);
         end += block[2];
     }
     assert_eq!(end, sizes.entries);

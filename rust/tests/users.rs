@@ -3,7 +3,7 @@
 mod common;
 
 use common::{assert_refused, assert_same, assert_used_by, each, some_nodes, Prefill};
-use wakubinryo::generate::{shared, Profile, Table};
+use wakubinryo::generate::{accepted, shared, Profile, Table};
 use wakubinryo::Reason::*;
 use wakubinryo::{measure, Node, Refusal};
 
@@ -69,7 +69,8 @@ fn tables_with_shared_nodes() {
     each("shared nodes", 60_000, |rng, number| {
         let nodes = some_nodes(rng, number);
         let profile = Profile::random(rng, nodes);
-        let table = shared(rng, &profile);
+        let table = accepted(rng, &profile);
+        let table = shared(rng, table);
         let prefill = [Prefill::ALL[number as usize % 4]];
         let given = assert_same(&table, &prefill, rng.between(1, 60));
         if let Err(Refusal { reason, users, .. }) = given {

@@ -3,6 +3,8 @@
 
 #![allow(dead_code)]
 
+pub mod vectors;
+
 use std::fmt::Display;
 use wakubinryo::answer::{count_words, size_words, text_words, written_words};
 use wakubinryo::generate::{Rng, Table};
@@ -10,6 +12,7 @@ use wakubinryo::reference::{LIMIT, WIDTH};
 use wakubinryo::write_qcir::{self, Limits};
 use wakubinryo::{free_variables, lift, measure, prenex_form, qcir, raw, reference};
 use wakubinryo::{qcir_room, qcir_text, read_qcir, read_qcir_into};
+use wakubinryo::{remove_empty_blocks, without_empty_blocks};
 use wakubinryo::{CountAnswer, SizesAnswer, TextAnswer, WrittenAnswer};
 use wakubinryo::{PrenexForm, Reason, Refusal, Sizes, Written};
 
@@ -249,6 +252,89 @@ pub fn assert_listing(table: &Table, names: &[u32], prefills: &[Prefill], spare:
     assert!(*table == before, "the table has changed");
 }
 
+/// A removal of empty blocks with its answer as words.
+pub type Remove = fn(&Table, &mut [u32]) -> CountAnswer;
+
+pub const LIBRARY_REMOVE: Remove = |table, nodes| {
+    let mut answer = CountAnswer::default().map(|_| UNANSWERED);
+    raw::remove_empty_blocks(&table.words, &table.list, nodes, &mut answer);
+    answer
+};
+
+const WRAPPED_REMOVE: Remove =
+    |table, nodes| count_words(remove_empty_blocks(&table.words, &table.list, nodes));
+
+const REFERENCE_REMOVE: Remove = |table, nodes| {
+    count_words(reference::remove_empty_blocks(
+        &table.words,
+        &table.list,
+        nodes,
+    ))
+};
+
+/// The nodes that the reference leaves of a table.
+pub fn reference_left(Table { words, list }: &Table) -> Result<Vec<u32>, Refusal> {
+    let mut nodes = vec![0; words.len()];
+    let left = reference::remove_empty_blocks(words, list, &mut nodes)?;
+    nodes.truncate(WIDTH * left as usize);
+    Ok(nodes)
+}
+
+/// Removes empty blocks into a buffer of this length and holds answer and buffer
+/// to what is expected.
+pub fn assert_remove(
+    remove: Remove,
+    table: &Table,
+    len: usize,
+    prefill: Prefill,
+    expected: Result<&[u32], Refusal>,
+) {
+    let mut nodes = Lent::new(len, prefill, 0);
+    let given = remove(table, nodes.lend());
+    let answer = count_words(expected.map(|nodes| (nodes.len() / WIDTH) as u32));
+    assert_eq!(given, answer, "answer of remove_empty_blocks, {len} words");
+    nodes.assert_holds(expected.unwrap_or(&[]), "nodes left");
+}
+
+/// Holds a removal of empty blocks to given results, with buffers that are exact,
+/// longer by `spare`, as long as the table and, if nodes are left, too short.
+fn assert_removes(
+    remove: Remove,
+    table: &Table,
+    expected: Result<&[u32], Refusal>,
+    prefill: Prefill,
+    spare: usize,
+) {
+    let exact = expected.map_or(0, <[u32]>::len);
+    for len in [exact, exact + spare, table.words.len()] {
+        assert_remove(remove, table, len, prefill, expected);
+    }
+    if expected.is_ok() {
+        for len in [0, exact - 1, exact - 1 - spare % exact] {
+            assert_remove(remove, table, len, prefill, Err(TOO_SHORT));
+        }
+    }
+}
+
+/// Holds the library, its wrapper and the reference to the nodes left of a table
+/// without its empty blocks, or to a refusal.
+pub fn assert_removal(
+    table: &Table,
+    expected: Result<&[u32], Refusal>,
+    prefills: &[Prefill],
+    spare: usize,
+) {
+    let before = table.clone();
+    for &prefill in prefills {
+        for remove in [LIBRARY_REMOVE, WRAPPED_REMOVE, REFERENCE_REMOVE] {
+            assert_removes(remove, table, expected, prefill, spare);
+        }
+    }
+    let wrapped = without_empty_blocks(&table.words, &table.list);
+    assert_eq!(wrapped.as_deref(), expected.as_ref().map(|nodes| &**nodes));
+    assert!(*table == before, "the table has changed");
+}
+
 /// What a call with a buffer that is too short answers, and what it writes.
 pub const TOO_SHORT: Refusal = Reason::BufferTooShort.at(0);
 pub static NOTHING: PrenexForm = PrenexForm {
@@ -341,12 +427,27 @@ fn assert_wrappers(
     }
 }
 
-/// Holds the library's three operations to the reference's results.
+/// Holds the library's four operations to the reference's results. Removing
+/// empty blocks changes nothing in a table that has none, and refuses what the
+/// others refuse but for 16.
 pub fn assert_same(table: &Table, prefills: &[Prefill], spare: usize) -> Result<Sizes, Refusal> {
     let (sizes, form) = reference_form(table);
     let (_, names) = reference_free_variables(table);
     let before = table.clone();
     assert_operations(table, sizes, &form, &names, prefills, spare);
+    let left = reference_left(table);
+    let left = left.as_deref().map_err(|&refusal| refusal);
+    match sizes {
+        Ok(_) => assert_eq!(left, Ok(&table.words[..])),
+        Err(Refusal {
+            reason: Reason::EmptyBlock,
+            ..
+        }) => {}
+        Err(refusal) => assert_eq!(left, Err(refusal)),
+    }
+    for &prefill in prefills {
+        assert_removes(LIBRARY_REMOVE, table, left, prefill, spare);
+    }
     assert!(*table == before, "the table has changed");
     sizes
 }
