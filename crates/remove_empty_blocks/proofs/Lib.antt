@@ -1,3 +1,4 @@
 pub mod Renumbered
 pub mod Left
 pub mod Outcome
+pub mod UpToNine

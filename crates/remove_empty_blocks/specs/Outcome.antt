@@ -2,7 +2,7 @@
 -- Assumes nothing.
 use mathlib.Core.List.{List}
 use mathlib.Core.Path.{_≡_}
-use Prim.Native.Nat.{ℕ, _*_}
+use Prim.Native.Nat.{ℕ, _*_, _≤_}
 use lib.Dec.{ltb}
 use lib.ListN.{length, take}
 use Rattle.lists.specs.Parts.{overwrite}
@@ -26,6 +26,10 @@ storing nodes left =
 -- "tidying gives 1 to 9 as before"
 unfoldable pub removed : List ℕ → List ℕ → List ℕ → Outcome ℕ (List ℕ)
 removed ws ls nodes = unlessRefused (storedVerdict ws ls) 0 nodes (storing nodes (withoutEmptyBlocks ws))
+
+-- So no number above 9, and never 16: the theorem `up-to-nine` (proofs/UpToNine.antt).
+abbrev pub UpToNine : Type 0
+UpToNine = (ws ls nodes : List ℕ) → removed ws ls nodes .answer .verdict .number ≤ 9
 
 -- If done, what stands in the buffer, as far as the size says, is the table without its empty blocks.
 unfoldable pub TableLeft : List ℕ → List ℕ → Outcome ℕ (List ℕ) → Type 0
