@@ -2,12 +2,11 @@
 -- Assumes nothing.
 use mathlib.Core.Path.{_≡_, refl}
 use mathlib.Core.List.{List, [], _∷_, _++_}
-use mathlib.Core.Bool.{Bool, true, false}
 use Prim.Native.Nat.{ℕ, suc, _+_, _<_, _≤_}
 use lib.ListN.{length, take, getD}
 use lib.Seq.{take-suc}
 use native.Mathlib.Omega.{arith}
-use Rattle.lists.specs.Choice.{pick}
+use Rattle.lists.proofs.Parts.{pick-within}
 use Rattle.command_line.specs.Place.{nextLine, nextColumn, through}
 
 through-snoc : (step : ℕ → ℕ → ℕ) (here : ℕ) (text : List ℕ) (byte : ℕ)
@@ -22,13 +21,8 @@ through-next step here text at l =
     let add-one : at + 1 ≡ suc at = omega arith in
     rw (add-one, take-suc text at 0 l) (through-snoc step here (take at text) (getD text at 0))
 
-pick-above : (t : Bool) (a b most : ℕ) → a ≤ most → b ≤ most → pick t a b ≤ most
-unfolding pick
-pick-above true a b most l m = l
-pick-above false a b most l m = m
-
 pub line-bound : (here byte : ℕ) → nextLine here byte ≤ here + 1
-line-bound here byte = pick-above _ _ _ _ (omega arith) (omega arith)
+line-bound here byte = pick-within _ _ _ _ (omega arith) (omega arith)
 
 pub column-bound : (here byte : ℕ) → nextColumn here byte ≤ here + 1
-column-bound here byte = pick-above _ _ _ _ (omega arith) (omega arith)
+column-bound here byte = pick-within _ _ _ _ (omega arith) (omega arith)

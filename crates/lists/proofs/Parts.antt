@@ -231,6 +231,11 @@ unfolding pick
 pick-add true m n = refl
 pick-add false m n = refl
 
+pub pick-within : (b : Bool) (m n most : ℕ) → m ≤ most → n ≤ most → pick b m n ≤ most
+unfolding pick
+pick-within true m n most h k = h
+pick-within false m n most h k = k
+
 pub pick-le : (b : Bool) (n : ℕ) → pick b n 0 ≤ n
 unfolding pick
 pick-le true n = omega arith

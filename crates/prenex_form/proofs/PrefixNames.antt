@@ -13,8 +13,8 @@ use Rattle.lists.specs.Choice.{pick, pick-yes, pick-no, Is, is-true, is-false, 
 use Rattle.lists.specs.Members.{mem, distinct}
 use Rattle.lists.specs.Parts.{sum, upTo}
 use Rattle.lists.proofs.Members.{mem-one, mem-neither, mem-flatMap-from, distinct-append}
-use Rattle.lists.proofs.Parts.{flatMap-append, upTo-cong, length-upTo, length-each, mem-upTo-from, sum-cong, sum-mono, sum-add, term-le, sum-zero, pick-le, pick-add}
-use Rattle.lists.proofs.Sums.{sum-ones}
+use Rattle.lists.proofs.Parts.{flatMap-append, upTo-cong, length-upTo, length-each, mem-upTo-from, sum-cong, sum-mono, sum-add, term-le, sum-zero, pick-add}
+use Rattle.lists.proofs.Sums.{ones-le}
 use Rattle.formula.specs.Node.{Table, isBlock, bound}
 use Rattle.formula.specs.Tree.{Tree, count, boundBelow}
 use Rattle.formula.specs.Form.{Block, blocksOf}
@@ -351,8 +351,7 @@ module _ (t : Table) where
 
   pub blockCount-le : blockCount t ≤ t .size
   unfolding blockCount
-  blockCount-le =
-      omega (arith, sum-mono (λ i. pick (isBlock (t .node i)) 1 0) (λ i. 1) (t .size) (λ i h. pick-le (isBlock (t .node i)) 1), sum-ones (λ i. 1) (t .size) (λ i h. refl))
+  blockCount-le = ones-le (λ i. isBlock (t .node i)) (t .size)
 
   -- how much lifting writes, from q, b and the depth
   pub entries-le : boundCount t + innerBoundBelow t (t .size) + innerBelow t (t .size) ≤ 2 * boundCount t + blockCount t

@@ -3,14 +3,15 @@
 use mathlib.Core.Path.{_≡_, refl, sym, _∙_, ap}
 use mathlib.Core.Bool.{Bool, true, false}
 use mathlib.Core.List.{List}
-use Prim.Native.Nat.{ℕ, zero, suc, _+_, _<_, _≤_}
+use Prim.Native.Nat.{ℕ, suc, _+_, _<_, _≤_}
 use native.Mathlib.Numerals.{add-one}
 use native.Mathlib.Omega.{arith}
 use mir.Val.{boolByte}
 use lib.ListN.{length, getD, set, length-set}
 use Rattle.lists.specs.Choice.{pick}
 use Rattle.lists.specs.Parts.{sum}
-use Rattle.lists.proofs.Parts.{sum-grows, pick-le}
+use Rattle.lists.proofs.Parts.{sum-grows}
+use Rattle.lists.proofs.Sums.{ones-le}
 use Rattle.lists.proofs.Stores.{set-cases}
 use Rattle.formula.specs.Words.{nodeCount, field, wordsAt, wordList}
 use Rattle.formula.specs.declared.NodeWords.{NodeWords}
@@ -31,9 +32,8 @@ module _ (ws : List ℕ) where
   left-counted i t e = rw (e, add-one) (omega (arith, byte-is (stays ws i)))
 
   pub left-le : (i : ℕ) → leftBelow ws i ≤ i
-  unfolding leftBelow sum
-  left-le zero = omega arith
-  left-le (suc i) = omega (arith, left-le i, pick-le (stays ws i) 1)
+  unfolding leftBelow
+  left-le i = ones-le (stays ws) i
 
   pub left-grows : (i j : ℕ) → i ≤ j → leftBelow ws i ≤ leftBelow ws j
   unfolding leftBelow

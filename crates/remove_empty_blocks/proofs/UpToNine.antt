@@ -1,15 +1,16 @@
 -- Removing gives no number above 9.
 -- Assumes nothing.
 use mathlib.Core.Path.{refl, sym, subst}
-use mathlib.Core.Bool.{Bool, true, false}
+use mathlib.Core.Bool.{false}
 use mathlib.Core.List.{List}
 use Prim.Native.Nat.{ℕ, _≤_}
 use native.Mathlib.Omega.{arith}
 use lib.Dec.{eqb, ltb}
 use lib.ListN.{length}
 use borrow.Author.Tests.{eqb-true, eqb-false}
-use Rattle.lists.specs.Choice.{pick, pick-no, Is, is-true, is-false, look}
+use Rattle.lists.specs.Choice.{pick-no, Is, is-true, is-false, look}
 use Rattle.lists.specs.Parts.{overwrite}
+use Rattle.lists.proofs.Parts.{pick-within}
 use Rattle.formula.specs.Words.{nodeCount}
 use Rattle.refusals.specs.Verdict.{refusal, notATree, accepted}
 use Rattle.refusals.specs.Outcome.{Outcome, refused, done, unlessShort}
@@ -22,11 +23,6 @@ use Rattle.acceptance.proofs.Order.{verdict-order}
 use Rattle.empty_blocks.specs.Removal.{withoutEmptyBlocks}
 use Rattle.remove_empty_blocks.specs.Outcome.{storing, removed, UpToNine}
 use Rattle.remove_empty_blocks.proofs.Outcome.{removed-accepted}
-
-pick-within : (t : Bool) (a b most : ℕ) → a ≤ most → b ≤ most → pick t a b ≤ most
-unfolding pick
-pick-within true a b most h k = h
-pick-within false a b most h k = k
 
 -- a node of a stored table has no fault above 7: 16 does not apply
 fault-within : (ws ls : List ℕ) (i : ℕ) → nodeFault storedLimits ws ls i ≤ 7
