@@ -2,7 +2,7 @@
 -- Assumes nothing.
 use mathlib.Core.Path.{_≡_, refl, sym, _∙_, ap, subst}
 use mathlib.Core.Bool.{Bool, true, false, not, _&&_, _||_}
-use mathlib.Core.List.{List, [], _∷_, _++_, append-nil, flatMap}
+use mathlib.Core.List.{List, [], _∷_, _++_, append-nil}
 use Prim.Native.Nat.{ℕ, suc, _+_, _-_, _/_, _%_, _≤_, _<_, max}
 use native.Mathlib.Numerals.{add-one}
 use native.Mathlib.Omega.{arith}
@@ -14,11 +14,11 @@ use Rattle.lists.specs.Choice.{pick-yes, pick-no, Is, is-true, is-false, look, 
 use Rattle.lists.specs.Search.{lowest}
 use Rattle.lists.specs.Members.{mem, all, maximum}
 use Rattle.lists.proofs.Search.{lowest-le}
-use Rattle.lists.proofs.Members.{mem-append}
 use Rattle.lists.proofs.Stores.{set-cases}
 use Rattle.formula.specs.Words.{isBlockKind, range, blockWords}
 use Rattle.formula.specs.Form.{Block, prefixWidth, blockAt, blocksOf, binds}
 use Rattle.formula.specs.Truth.{digit}
+use Rattle.formula.proofs.Prefix.{binds-mem}
 use Rattle.refusals.specs.Verdict.{refusal, accepted}
 use Rattle.acceptance.specs.Verdict.{isNumberTo, rangePastEnd}
 use Rattle.form_check.specs.Verdict.{formLimits, repeats, namesBefore, badBlock, prefixVerdict}
@@ -218,10 +218,9 @@ module _ (ps xs : List ℕ) (j : ℕ) (b : BlockWords) (e : b ≡ blockWordsAt p
       rw (add-one, names-next ps xs j)
       (flagged-pushed (namesBefore ps xs j) (blockAt ps xs j .variables) bound highest (rw block-names at f))
 
-binds-names : (bs : List Block) (x : ℕ) → mem x (prefixNames bs) ≡ binds bs x
-unfolding prefixNames flatMap binds mem
-binds-names [] x = refl
-binds-names (b ∷ bs) x = mem-append x (b .variables) (prefixNames bs) ∙ ap (λ t. mem x (b .variables) || t) (binds-names bs x)
+pub binds-names : (bs : List Block) (x : ℕ) → mem x (prefixNames bs) ≡ binds bs x
+unfolding prefixNames
+binds-names bs x = sym (binds-mem bs x)
 
 -- which names the prefix binds, by the flags
 pub flags-bind : (ps xs bound : List ℕ) (highest : ℕ) → NamesFlagged (prefixNames (blocksOf ps xs)) bound highest

@@ -73,7 +73,7 @@ module _ (t : Table) (tree : Tree t) where
       go (here v) next = record { node = i; within = h; variable-is = v }
       go (through a m k n) next = next a (let l : a < i = tree .lower i a h m in omega arith) k
 
-  free-occurs : (x : ℕ) → free t x ≡ true → Occurs t x
+  pub free-occurs : (x : ℕ) → free t x ≡ true → Occurs t x
   unfolding free
   free-occurs x e = let h : 0 < t .size = tree .nonempty in free-occurs-at x (t .size) (t .size - 1) (omega arith) e
 
@@ -160,7 +160,7 @@ module _ (t : Table) (p : ℕ → Bool) (stands : (x : ℕ) → p x ≡ true →
 
 module _ (t : Table) (tree : Tree t) where
   -- every node but the last is named once, so there is one operand less than nodes
-  operands-all : sum (λ j. length (operands (t .node j))) (t .size) + 1 ≡ t .size
+  pub operands-all : sum (λ j. length (operands (t .node j))) (t .size) + 1 ≡ t .size
   unfolding timesNamed
   operands-all =
       let n : ℕ = t .size in

@@ -1,6 +1,7 @@
--- The words of a prefix read back as its blocks.
+-- The words of a prefix read back as its blocks, and which numbers blocks bind.
 -- Assumes nothing.
 use mathlib.Core.Path.{_≡_, refl, sym, _∙_, ap}
+use mathlib.Core.Bool.{_||_}
 use mathlib.Core.List.{List, [], _∷_, _++_, flatMap, append-assoc}
 use Prim.Native.Nat.{ℕ, suc, _+_, _*_, _/_}
 use native.Mathlib.Omega.{arith}
@@ -8,9 +9,11 @@ use native.Mathlib.Nat.{mul-div-cancel-left}
 use lib.ListN.{length, getD, take, drop, length-append}
 use lib.Seq.{drop-at, take-at, getD-append-add}
 use Rattle.lists.specs.Choice.{pick}
+use Rattle.lists.specs.Members.{mem}
+use Rattle.lists.proofs.Members.{mem-append}
 use Rattle.formula.specs.Node.{Quantifier, exists, for-all}
 use Rattle.formula.specs.Words.{range}
-use Rattle.formula.specs.Form.{Block, quantifierOf, kindOf, blockAt, blocksFrom, blocksOf, prefixWords}
+use Rattle.formula.specs.Form.{Block, quantifierOf, kindOf, blockAt, blocksFrom, blocksOf, prefixWords, binds}
 
 -- the kind says which quantifier it is
 pub quantifier-read : (q : Quantifier) → quantifierOf (kindOf q) ≡ q
@@ -62,3 +65,9 @@ unfolding blocksOf variablesOf
 words-read bs =
     let e : length (prefixWords 0 bs) / 3 ≡ length bs = rw (length-prefixWords 0 bs) (mul-div-cancel-left (length bs) (omega arith)) in
     rw e (blocks-read bs [] [] 0 0 refl refl)
+
+-- Blocks bind the numbers in their lists.
+pub binds-mem : (bs : List Block) (x : ℕ) → binds bs x ≡ mem x (flatMap (λ (b : Block). b .variables) bs)
+unfolding binds flatMap mem
+binds-mem [] x = refl
+binds-mem (b ∷ bs) x = ap (_||_ (mem x (b .variables))) (binds-mem bs x) ∙ sym (mem-append x (b .variables) _)

@@ -15,6 +15,7 @@ use Rattle.lists.proofs.Members.{distinct-tail}
 use Rattle.formula.specs.Node.{Quantifier, exists, for-all, dual}
 use Rattle.formula.specs.Valuation.{Valuation, update, join, quant}
 use Rattle.formula.specs.Meaning.{DiffersAtMostAt}
+use Rattle.formula.specs.Form.{Block, quantify}
 
 -- Two valuations that are equal at the numbers in the list.
 abbrev pub Inside : List ℕ → Valuation → Valuation → Type 0
@@ -123,6 +124,13 @@ quant-append q (x ∷ xs) ys f v = join-cong q _ _ (λ b. quant-append q xs ys f
 pub quant-cong : (q : Quantifier) (xs : List ℕ) (f g : Valuation → Bool) (v : Valuation)
     → ((u : Valuation) → f u ≡ g u) → quant q xs f v ≡ quant q xs g v
 quant-cong q xs f g v h = ap (λ k. quant q xs k v) (fun-ext h)
+
+-- Blocks, and then more.
+pub quantify-append : (bs cs : List Block) (f : Valuation → Bool) (v : Valuation) → quantify (bs ++ cs) f v ≡ quantify bs (quantify cs f) v
+unfolding quantify
+quantify-append [] cs f v = refl
+quantify-append (b ∷ bs) cs f v =
+    quant-cong (b .quantifier) (b .variables) (quantify (bs ++ cs) f) (quantify bs (quantify cs f)) v (quantify-append bs cs f)
 
 -- Two functions under one list, from two valuations.
 pub quant-same : (q : Quantifier) (xs : List ℕ) (f g : Valuation → Bool) (v u : Valuation)

@@ -15,13 +15,14 @@ use Rattle.lists.specs.Members.{mem}
 use Rattle.lists.specs.Search.{lowest, someBelow}
 use Rattle.lists.specs.Parts.{upTo, passing}
 use Rattle.lists.proofs.Search.{lowest-none, lowest-holds, lowest-least}
-use Rattle.lists.proofs.Members.{mem-append, mem-left, mem-right, mem-head, mem-tail, mem-getD, mem-flatMap, or-group}
+use Rattle.lists.proofs.Members.{mem-left, mem-right, mem-head, mem-tail, mem-getD, mem-flatMap, or-group}
 use Rattle.lists.proofs.Parts.{term-le, upTo-cong}
 use Rattle.formula.specs.Node.{Quantifier, exists, for-all, Node, constant, variable, negation, operator, block, Table, operands, isBlock, bound}
 use Rattle.formula.specs.Tree.{Tree, Proper, NoEmptyBlocks, count}
 use Rattle.formula.specs.Truth.{nodeFree, freeAt, free}
 use Rattle.formula.specs.Form.{Block, binds, formFree}
 use Rattle.formula.specs.FreeVariables.{standsAt, highestVariable, freeVariables}
+use Rattle.formula.proofs.Prefix.{binds-mem}
 use Rattle.formula.proofs.Unfolding.{freeAt-node}
 use Rattle.formula.proofs.FreeVariables.{Through, here, through, free-through, through-free}
 use Rattle.prenex_form.specs.Scope.{binder, inner, level, parent}
@@ -148,11 +149,6 @@ binds-append (b ∷ bs) cs x = or-group (mem x (b .variables)) (binds (bs ++ cs)
 binds-one : (b : Block) (x : ℕ) → binds (b ∷ []) x ≡ mem x (b .variables)
 unfolding binds
 binds-one b x = or-false (mem x (b .variables))
-
-pub binds-mem : (bs : List Block) (x : ℕ) → binds bs x ≡ mem x (flatMap (λ (b : Block). b .variables) bs)
-unfolding binds flatMap mem
-binds-mem [] x = refl
-binds-mem (b ∷ bs) x = ap (_||_ (mem x (b .variables))) (binds-mem bs x) ∙ sym (mem-append x (b .variables) _)
 
 module _ (g : ℕ → Block) (x : ℕ) where
   binds-each : (n : ℕ) → binds (upTo (λ j. g j ∷ []) (suc n)) x ≡ (binds (upTo (λ j. g j ∷ []) n) x || mem x (g n .variables))

@@ -2,7 +2,7 @@
 -- Assumes nothing.
 use mathlib.Core.Path.{_≡_, refl, sym, _∙_, ap, fun-ext}
 use mathlib.Core.Bool.{Bool, true, false}
-use mathlib.Core.List.{List, [], _∷_, _++_, flatMap}
+use mathlib.Core.List.{List, [], _∷_, flatMap}
 use Prim.Native.Nat.{ℕ, zero, suc, _-_, _<_}
 use native.Mathlib.Omega.{arith}
 use lib.Dec.{eqb, ltb}
@@ -17,7 +17,7 @@ use Rattle.formula.specs.Tree.{Tree, Proper, NoEmptyBlocks, count}
 use Rattle.formula.specs.Valuation.{Valuation, quant}
 use Rattle.formula.specs.Truth.{truth}
 use Rattle.formula.specs.Form.{Block, quantify, formTruth}
-use Rattle.formula.proofs.Quantify.{quant-append, quant-cong}
+use Rattle.formula.proofs.Quantify.{quant-append, quant-cong, quantify-append}
 use Rattle.prenex_form.specs.Scope.{inner}
 use Rattle.prenex_form.specs.Names.{firstName, newNames, copies}
 use Rattle.prenex_form.specs.Levels.{blocksAt, levels, quantifierAt, levelQuantifier}
@@ -31,12 +31,6 @@ use Rattle.prenex_form.proofs.Seen.{value-real}
 use Rattle.prenex_form.proofs.Exchange.{exchange}
 use Rattle.prenex_form.proofs.PrefixNames.{prefix-read}
 use Rattle.prenex_form.proofs.WrittenOrder.{matrix-truth}
-
-quantify-append : (bs cs : List Block) (f : Valuation → Bool) (v : Valuation) → quantify (bs ++ cs) f v ≡ quantify bs (quantify cs f) v
-unfolding quantify
-quantify-append [] cs f v = refl
-quantify-append (b ∷ bs) cs f v =
-    quant-cong (b .quantifier) (b .variables) (quantify (bs ++ cs) f) (quantify bs (quantify cs f)) v (quantify-append bs cs f)
 
 quantify-cong : (bs : List Block) (f g : Valuation → Bool) (v : Valuation) → ((u : Valuation) → f u ≡ g u) → quantify bs f v ≡ quantify bs g v
 quantify-cong bs f g v h = ap (λ k. quantify bs k v) (fun-ext h)

@@ -17,7 +17,8 @@ use Rattle.prenex_form.specs.Prefix.{prefixBlocks, writtenVariables}
 use Rattle.prenex_form.specs.Promise.{highestName}
 use Rattle.prenex_form.proofs.NameLaws.{variable-le}
 use Rattle.prenex_form.proofs.PrefixNames.{entries-le, prefix-new, prefix-le}
-use Rattle.prenex_form.proofs.FreeNames.{binds-mem, Source, of-table, of-prefix, Applied, of-node, of-form, Sourced, prenex-sourced}
+use Rattle.formula.proofs.Prefix.{binds-mem}
+use Rattle.prenex_form.proofs.FreeNames.{Source, of-table, of-prefix, Applied, of-node, of-form, Sourced, prenex-sourced}
 use Rattle.prenex_form.proofs.Limits.{number-from, is-number, Within}
 use Rattle.prenex_form.proofs.WrittenOrder.{prenex-plain}
 

@@ -1,7 +1,6 @@
 pub mod File
 pub mod Spelling
 pub mod Unbounded
-pub mod Numerals
 pub mod Laws
 pub mod Meaning
 pub mod Refusals

@@ -3,12 +3,12 @@
 use mathlib.Core.Bool.{Bool, true, false, _&&_, _||_}
 use mathlib.Core.List.{List, [], _∷_, _++_}
 use mathlib.Core.Path.{_≡_}
-use Prim.Native.Nat.{ℕ, suc, _+_, _*_, _-_, _≤_, _<_}
-use lib.Dec.{eqb, leb}
+use Prim.Native.Nat.{ℕ, suc, _+_, _-_, _≤_, _<_}
 use lib.ListN.{length, take}
 use Rattle.lists.specs.Choice.{pick}
 use Rattle.lists.specs.Members.{mem, all}
 use Rattle.formula.specs.Node.{Quantifier, exists, for-all}
+unfoldable pub use Rattle.texts.specs.Numerals.{isSpace, isDigit, isNumeral, valueFrom}
 use Rattle.qcir.specs.File.{Name, Literal, Junction, conjunction, disjunction, Gate, junction-gate, xor-gate, quantified-gate, Line, File}
 
 -- A keyword or a sign such as a comma, by its bytes; a name; the end of a line.
@@ -121,23 +121,6 @@ gatesSigns (g ∷ gs) = gateSigns g ++ gatesSigns gs
 -- A file after its header line.
 unfoldable pub fileSigns : File → List Sign
 fileSigns f = freeSigns (f .free) ++ (prefixSigns (f .prefix) ++ (outputSigns (f .output) ++ gatesSigns (f .gates)))
-
--- "spaces and tabs"; a carriage return is no space.
-unfoldable pub isSpace : ℕ → Bool
-isSpace b = eqb b 32 || eqb b 9
-
-unfoldable pub isDigit : ℕ → Bool
-isDigit b = leb 48 b && leb b 57
-
--- "decimal .. without leading zeros"
-unfoldable pub isNumeral : List ℕ → Bool
-isNumeral [] = false
-isNumeral (d ∷ ds) = leb 49 d && leb d 57 && all isDigit ds
-
--- The number that digits give, v being what those before them give.
-unfoldable pub valueFrom : ℕ → List ℕ → ℕ
-valueFrom v [] = v
-valueFrom v (d ∷ ds) = valueFrom (10 * v + (d - 48)) ds
 
 -- The text, whose first byte has position p, spells the signs. Names are at most `most`.
 pub data Spelled (most : ℕ) : ℕ → List Sign → List ℕ → Type 0 where

@@ -19,10 +19,11 @@ use Rattle.formula.specs.Form.{Block, blocksOf}
 use Rattle.acceptance.specs.Limits.{matrixWithin}
 use Rattle.acceptance.specs.Verdict.{isNumberTo}
 use Rattle.form_check.specs.Accepted.{AcceptedFormWithin, prefixNames}
+use Rattle.acceptance.proofs.Matrix.{MatrixNode, matrix-node}
 use Rattle.qcir.specs.File.{prefixVariables, numbersOf}
 use Rattle.qcir_form.specs.File.{isGate, gateNumber, occurs, freeNames, prefixLines, firstGate}
 use Rattle.qcir_form.specs.Laws.{FileFromOne, FileUpTo}
-use Rattle.qcir_form.proofs.Numbers.{prefix-numbers, occurs-from, open-lists, MatrixNode, matrix-node}
+use Rattle.qcir_form.proofs.Numbers.{prefix-numbers, occurs-from, open-lists}
 use Rattle.qcir_form.proofs.PlacedForm.{outerOf, firstOf, endOf, form-outer, form-rising, form-output}
 use Rattle.qcir_form.proofs.NamesSigns.{from-one-pass, up-to-pass, pass-file}
 

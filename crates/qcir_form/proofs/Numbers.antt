@@ -1,8 +1,8 @@
 -- The numbers of the file of a form: those of gates ascend from the first, which is above every name of the free and prefix lines, and
--- so above every name that is written. And what the nodes of a matrix are.
+-- so above every name that is written.
 -- Assumes nothing.
-use mathlib.Core.Path.{_≡_, refl, sym, _∙_, ap, subst}
-use mathlib.Core.Bool.{Bool, true, false, not, _&&_, _||_}
+use mathlib.Core.Path.{_≡_, refl, sym, _∙_, ap}
+use mathlib.Core.Bool.{Bool, true, false, not, _&&_}
 use mathlib.Core.List.{List, [], _∷_, _++_, map, flatMap}
 use Prim.Native.Nat.{ℕ, suc, _≤_, _<_}
 use native.Mathlib.Omega.{arith}
@@ -12,22 +12,17 @@ use Rattle.lists.specs.Search.{lowest, someBelow}
 use Rattle.lists.specs.Members.{mem, ListOf}
 use Rattle.lists.specs.Parts.{sum}
 use Rattle.lists.proofs.Search.{lowest-holds, lowest-least}
-use Rattle.lists.proofs.Members.{mem-append, mem-left, mem-right, maximum-ge}
+use Rattle.lists.proofs.Members.{mem-left, mem-right, maximum-ge}
 use Rattle.lists.proofs.Parts.{sum-grows, highest-ge}
 use Rattle.lists.proofs.Passing.{passing-lists}
-use Rattle.formula.specs.Node.{Quantifier, Node, constant, variable, negation, operator, block, Table, isBlock}
-use Rattle.formula.specs.Words.{nodeCount, wordsAt, nodeAt, tableOf}
+use Rattle.formula.specs.Node.{Quantifier, Node, constant, variable, negation, operator, block, Table}
 use Rattle.formula.specs.Truth.{digit}
 use Rattle.formula.specs.Form.{Block, binds}
 use Rattle.formula.specs.FreeVariables.{standsAt, numberAt, highestVariable}
-use Rattle.formula.proofs.Nodes.{node-constant, node-variable, node-negation, node-operator}
-use Rattle.acceptance.specs.Limits.{matrixWithin}
-use Rattle.acceptance.specs.Verdict.{isNumberTo}
-use Rattle.acceptance.specs.Accepted.{AcceptedWithin}
-use Rattle.acceptance.proofs.Accepted.{Formed, formed-constant, formed-variable, formed-negation, formed-operator, formed-exists, formed-for-all, formed-cases}
 use Rattle.form_check.specs.Accepted.{prefixNames}
 use Rattle.qcir.specs.File.{Line, lineVariables, prefixVariables, numbersOf}
 use Rattle.qcir.proofs.GateLines.{numbers-append}
+use Rattle.form_check.proofs.Flags.{binds-names}
 use Rattle.qcir_form.specs.File.{written, named, isGate, gateNumber, occurs, freeNames, listLines, prefixLines, firstGate}
 
 -- The numbers of gates.
@@ -66,11 +61,6 @@ unfolding prefixLines prefixNames flatMap prefixVariables numbersOf map
 prefix-numbers [] = refl
 prefix-numbers (b ∷ bs) =
     line-numbers (b .quantifier) (b .variables) (prefixLines bs) ∙ ap (λ l. b .variables ++ l) (prefix-numbers bs)
-
-pub binds-mem : (bs : List Block) (x : ℕ) → mem x (prefixNames bs) ≡ binds bs x
-unfolding prefixNames flatMap binds mem
-binds-mem [] x = refl
-binds-mem (b ∷ bs) x = mem-append x (b .variables) (prefixNames bs) ∙ ap (λ p. mem x (b .variables) || p) (binds-mem bs x)
 
 pub known-below : (names : List ℕ) (lines : List Line) (x : ℕ) → mem x (names ++ numbersOf (prefixVariables lines)) ≡ true
     → x < firstGate names lines
@@ -124,7 +114,7 @@ module _ (t : Table) where
   occurs-known bs x o = rw (prefix-numbers bs) (go (look (binds bs x)))
     where
       go : Is (binds bs x) → mem x (freeNames t bs ++ prefixNames bs) ≡ true
-      go (is-true b) = mem-right x (freeNames t bs) (prefixNames bs) (binds-mem bs x ∙ b)
+      go (is-true b) = mem-right x (freeNames t bs) (prefixNames bs) (binds-names bs x ∙ b)
       go (is-false b) =
           mem-left x (freeNames t bs) (prefixNames bs)
           (open-lists bs .members x ∙ and-both (occurs t x) (not (binds bs x)) o (ap not b))
@@ -137,35 +127,3 @@ module _ (t : Table) where
   pub names-below : (bs : List Block) (i x : ℕ) → i < t .size → written t i ≡ true → t .node i ≡ variable x
       → x < firstGate (freeNames t bs) (prefixLines bs)
   names-below bs i x h w e = known-below (freeNames t bs) (prefixLines bs) x (written-known bs i x h w e)
-
--- A node of a matrix whose numbers are from 1 up to m: no block, and its truth table is one of the sixteen.
-abbrev pub MatrixNode : ℕ → Node → Type 0
-MatrixNode m (constant b) = Unit {0}
-MatrixNode m (variable x) = isNumberTo m x ≡ true
-MatrixNode m (negation a) = Unit {0}
-MatrixNode m (operator f a b) = f < 16
-MatrixNode m (block q xs a) = ⊥
-
-not-a-block : (m : ℕ) (nd : Node) → MatrixNode m nd → isBlock nd ≡ false
-unfolding isBlock
-not-a-block m (constant b) w = refl
-not-a-block m (variable x) w = refl
-not-a-block m (negation a) w = refl
-not-a-block m (operator f a b) w = refl
-not-a-block m (block q xs a) w = absurd w
-
-module _ (nodes most : ℕ) (ns : List ℕ) (a : AcceptedWithin (matrixWithin nodes most) ns []) where
-  pub matrix-node : (i : ℕ) → i < nodeCount ns → MatrixNode most (tableOf ns [] .node i)
-  unfolding tableOf
-  matrix-node i h = go (formed-cases (matrixWithin nodes most) (wordsAt ns i) (a .formed i h))
-    where
-      go : Formed (matrixWithin nodes most) (wordsAt ns i) → MatrixNode most (nodeAt ns [] i)
-      go (formed-constant e _ _ _) = subst (MatrixNode most) (sym (node-constant ns [] i e)) tt
-      go (formed-variable e n _ _) = subst (MatrixNode most) (sym (node-variable ns [] i e)) n
-      go (formed-negation e _ _) = subst (MatrixNode most) (sym (node-negation ns [] i e)) tt
-      go (formed-operator e n) = subst (MatrixNode most) (sym (node-operator ns [] i e)) (omega arith)
-      go (formed-exists e p) = clash p refl
-      go (formed-for-all e p) = clash p refl
-
-  pub no-block : (i : ℕ) → i < nodeCount ns → isBlock (tableOf ns [] .node i) ≡ false
-  no-block i h = not-a-block most (tableOf ns [] .node i) (matrix-node i h)

@@ -15,11 +15,12 @@ use Rattle.formula.specs.Node.{Table}
 use Rattle.formula.specs.Words.{tableOf}
 use Rattle.formula.specs.Form.{Block, binds, blocksOf}
 use Rattle.form_check.specs.Accepted.{prefixNames}
+use Rattle.form_check.proofs.Flags.{binds-names}
 use Rattle.qcir.specs.File.{Name, Gate, gateName, gateInputs, prefixVariables, numbersOf, namesOf}
 use Rattle.qcir.specs.Refusals.{gateNames, outerNames, quantifiedNames, repeated, repeatedInGates, laterPlaces, gatesListed, namingGates, without, earlyUses, misplaced}
 use Rattle.qcir_form.specs.File.{occurs, freeNames, prefixLines, formFile}
 use Rattle.qcir_form.specs.Laws.{FilePlaced}
-use Rattle.qcir_form.proofs.Numbers.{prefix-numbers, binds-mem, open-lists}
+use Rattle.qcir_form.proofs.Numbers.{prefix-numbers, open-lists}
 use Rattle.qcir_form.proofs.PlacedLines.{Usable, outer-name, lower-gate, Rising, no-lines, a-line, rising-range, rising-distinct}
 use Rattle.qcir_form.proofs.PlacedForm.{outerOf, firstOf, outer-below, form-outer, form-rising}
 
@@ -102,7 +103,7 @@ outer-distinct t bs d =
     distinct-append (freeNames t bs) (numbersOf (prefixVariables (prefixLines bs)))
     (strict-distinct (freeNames t bs) (open-names .ascending))
     (ap distinct e ∙ d)
-    (λ x m k. clash (sym (binds-mem bs x) ∙ ap (mem x) (sym e) ∙ k)
+    (λ x m k. clash (sym (binds-names bs x) ∙ ap (mem x) (sym e) ∙ k)
     (not-true (binds bs x) (and-right (occurs t x) _ (sym (open-names .members x) ∙ m))))
 
 pub file-placed : FilePlaced

@@ -12,12 +12,13 @@ use Rattle.formula.specs.Form.{Block, blocksOf}
 use Rattle.formula.specs.Tree.{Tree}
 use Rattle.acceptance.specs.Limits.{matrixWithin}
 use Rattle.form_check.specs.Accepted.{AcceptedFormWithin}
+use Rattle.acceptance.proofs.Matrix.{no-block}
 use Rattle.qcir.specs.File.{prefixVariables, numbersOf}
 use Rattle.qcir.specs.Refusals.{outerNames}
 use Rattle.qcir.proofs.GateLines.{numbers-append}
 use Rattle.qcir_form.specs.File.{named, gateNumber, freeNames, prefixLines, firstGate, matrixFile, formFile}
 use Rattle.qcir_form.proofs.Written.{written-root}
-use Rattle.qcir_form.proofs.Numbers.{gate-grows, numbers-named, known-below, written-known, no-block}
+use Rattle.qcir_form.proofs.Numbers.{gate-grows, numbers-named, known-below, written-known}
 use Rattle.qcir_form.proofs.PlacedLines.{Usable, usable-up, Rising, usable, rising-gates}
 
 -- The numbers in the free and prefix lines, and the first gate's.

@@ -1,28 +1,24 @@
 -- How many bytes the text of a form takes at most.
 -- Assumes nothing.
-use mathlib.Core.Path.{_≡_, refl, sym, _∙_, ap}
+use mathlib.Core.Path.{_≡_, refl}
 use mathlib.Core.Bool.{Bool, true, false, not, _&&_}
-use mathlib.Core.List.{List, [], _∷_, _++_, flatMap}
-use Prim.Native.Nat.{ℕ, zero, suc, _+_, _*_, _/_, _≤_, _<_}
+use mathlib.Core.List.{List, [], _∷_, _++_}
+use Prim.Native.Nat.{ℕ, suc, _+_, _*_, _≤_, _<_}
 use native.Mathlib.Omega.{arith}
-use lib.Dec.{leb}
-use lib.ListN.{length, getD, take, drop, length-append, take-append-drop}
-use borrow.Author.Tests.{leb-true}
-use Rattle.lists.specs.Choice.{and-left, and-right, or-cases, clash}
-use Rattle.lists.specs.Members.{mem}
+use lib.ListN.{length, length-append}
+use Rattle.lists.specs.Choice.{and-left}
 use Rattle.lists.specs.Parts.{sum}
-use Rattle.lists.proofs.Members.{all-mem, mem-nil, mem-append, mem-left, mem-right}
 use Rattle.lists.proofs.Parts.{sum-add, sum-mono}
-use Rattle.lists.proofs.Sums.{sum-ones, distinct-few, distinct-below}
+use Rattle.lists.proofs.Sums.{sum-ones}
 use Rattle.formula.specs.Node.{Node, constant, variable, negation, operator, block, Table}
-use Rattle.formula.specs.Words.{nodeCount, range, tableOf}
+use Rattle.formula.specs.Words.{nodeCount, tableOf}
 use Rattle.formula.specs.Truth.{digit}
-use Rattle.formula.specs.Form.{Block, prefixWidth, blockAt, blocksFrom, blocksOf, binds}
+use Rattle.formula.specs.Form.{Block, blocksOf, binds}
 use Rattle.formula.specs.FreeVariables.{highestVariable}
 use Rattle.formula.proofs.FreeVariables.{Occurs, variables, passing-variables}
 use Rattle.formula.proofs.Meaning.{blocks-count}
-use Rattle.acceptance.specs.Verdict.{isNumberTo}
-use Rattle.form_check.specs.Accepted.{prefixNames, AcceptedForm}
+use Rattle.form_check.specs.Accepted.{AcceptedForm}
+use Rattle.form_check.proofs.Entries.{names-few, names-below}
 use Rattle.qcir.specs.File.{File}
 use Rattle.qcir.specs.Spelling.{newline, header, freeSigns, prefixSigns, outputSigns, gatesSigns, fileSigns}
 use Rattle.qcir.specs.Unbounded.{namesUpTo}
@@ -69,27 +65,6 @@ module _ (t : Table) (bs : List Block) where
       sum-mono _ _ (t .size) (λ i h. gate-or-variable (written t i) (t .node i)) in
       omega (arith, few, both, sum-add gates vars (t .size), sum-ones (λ i. 1) (t .size) (λ i h. refl))
 
--- The names of blocks stand in the list.
-mem-range : (x : ℕ) (xs : List ℕ) (first count : ℕ) → mem x (range xs first count) ≡ true → mem x xs ≡ true
-unfolding range
-mem-range x xs first count m =
-    let taken : mem x (drop first xs) ≡ true =
-    ap (mem x) (sym (take-append-drop count (drop first xs))) ∙ mem-left x (take count (drop first xs)) (drop count (drop first xs)) m in
-    ap (mem x) (sym (take-append-drop first xs)) ∙ mem-right x (take first xs) (drop first xs) taken
-
-mem-block : (x : ℕ) (ps xs : List ℕ) (j : ℕ) → mem x (blockAt ps xs j .variables) ≡ true → mem x xs ≡ true
-unfolding blockAt
-mem-block x ps xs j m = mem-range x xs (getD ps (prefixWidth * j + 1) 0) (getD ps (prefixWidth * j + 2) 0) m
-
-mem-blocks : (x : ℕ) (ps xs : List ℕ) (j m : ℕ) → mem x (prefixNames (blocksFrom ps xs j m)) ≡ true → mem x xs ≡ true
-unfolding blocksFrom prefixNames flatMap
-mem-blocks x ps xs j zero h = clash h (mem-nil x)
-mem-blocks x ps xs j (suc m) h =
-    or-cases (mem x (blockAt ps xs j .variables)) (mem x (prefixNames (blocksFrom ps xs (suc j) m)))
-    (sym (mem-append x (blockAt ps xs j .variables) (prefixNames (blocksFrom ps xs (suc j) m))) ∙ h)
-    (mem-block x ps xs j)
-    (mem-blocks x ps xs (suc j) m)
-
 -- The bytes of a file's text by its parts.
 module _ (f : File) (most : ℕ) (low : most < 1000000) (named-low : namesUpTo most (fileSigns f) ≡ true) where
   file-bytes : length (fileText f)
@@ -133,29 +108,11 @@ module _ (ns ps xs : List ℕ) (a : AcceptedForm ns ps xs) where
       )
 
 pub text-room : TextRoom
-unfolding bs blocksOf
-text-room ns ps xs a =
-    let names = prefixNames (blocksOf ps xs) in
-    omega (
-      arith,
-      parts ns ps xs a,
-      prefix-weighs (blocksOf ps xs) .0,
-      blocks-count ps xs,
-      distinct-few names xs (a .apart) (λ x m. mem-blocks x ps xs 0 (length ps / prefixWidth) m),
-    )
-
-number-below : (x : ℕ) → isNumberTo 77823 x ≡ true → x < 77824
-unfolding isNumberTo
-number-below x h = omega (arith, leb-true x 77823 (and-right (leb 1 x) (leb x 77823) h))
+unfolding bs
+text-room ns ps xs a = omega (arith, parts ns ps xs a, prefix-weighs (blocksOf ps xs) .0, blocks-count ps xs, names-few ns ps xs a)
 
 -- Whatever the prefix: what the code counts by does not wrap.
 pub text-short : (ns ps xs : List ℕ) → AcceptedForm ns ps xs → length (formText ns ps xs) ≤ 4194304
 unfolding bs
 text-short ns ps xs a =
-    omega (
-      arith,
-      parts ns ps xs a,
-      prefix-weighs (blocksOf ps xs) .1,
-      distinct-below (prefixNames (blocksOf ps xs)) 77824 (a .apart) (λ x m. number-below x (all-mem (isNumberTo 77823) (prefixNames (blocksOf ps xs)) x (a .numbered) m)),
-      a .matrix .nodes-limit,
-    )
+    omega (arith, parts ns ps xs a, prefix-weighs (blocksOf ps xs) .1, names-below ns ps xs a, a .matrix .nodes-limit)

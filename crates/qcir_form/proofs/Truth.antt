@@ -21,12 +21,13 @@ use Rattle.formula.specs.Form.{Block, blocksOf, quantify, matrixTruth, formTrut
 use Rattle.formula.specs.Tree.{Tree}
 use Rattle.formula.proofs.Quantify.{quant-cong}
 use Rattle.formula.proofs.Unfolding.{value-node}
+use Rattle.acceptance.proofs.Matrix.{MatrixNode, matrix-node}
 use Rattle.qcir.specs.File.{Literal, Gate, Line, lineVariables}
 use Rattle.qcir.specs.Meaning.{Meaning, literalValue, meaning, prefixValue, fileTruth}
 use Rattle.qcir_form.specs.Rows.{RowKind, constant-row, left-row, right-row, and-row, xor-row, row}
 use Rattle.qcir_form.specs.File.{rowOperands, usedOperands, written, turned, rowHasGate, hasGate, rowLiteral, nodeLiteral, nodeGates, isGate, gateNumber, nodeLiteralOf, gatesOf, freeNames, listLines, prefixLines, firstGate, matrixFile, formFile}
 use Rattle.qcir_form.specs.Laws.{FileTruth}
-use Rattle.qcir_form.proofs.Numbers.{gate-first, gate-grows, gate-rises, numbers-named, names-below, MatrixNode, matrix-node}
+use Rattle.qcir_form.proofs.Numbers.{gate-first, gate-grows, gate-rises, numbers-named, names-below}
 use Rattle.qcir_form.proofs.TruthNodes.{literal-kept, gates-kept, no-gates, node-says}
 use Rattle.qcir_form.proofs.Written.{used-lower, written-root, written-down, literal-step}
 

@@ -13,11 +13,11 @@ use Rattle.lists.proofs.Members.{mem-head, mem-tail}
 use Rattle.formula.specs.Node.{Node, constant, variable, negation, operator, block}
 use Rattle.formula.specs.Valuation.{Valuation}
 use Rattle.formula.specs.Truth.{nodeValue}
+use Rattle.acceptance.proofs.Matrix.{MatrixNode}
 use Rattle.qcir.specs.File.{Literal, conjunction, Gate, junction-gate, xor-gate, gateName}
 use Rattle.qcir.specs.Meaning.{Meaning, literalValue, junctionValue, gateValue, meaning}
 use Rattle.qcir_form.specs.Rows.{RowKind, constant-row, left-row, right-row, and-row, xor-row, row, kindValue, rowValue}
 use Rattle.qcir_form.specs.File.{rowOperands, usedOperands, named, literal, turned, unsigned, rowHasGate, hasGate, rowLiteral, nodeLiteral, rowGates, nodeGates}
-use Rattle.qcir_form.proofs.Numbers.{MatrixNode}
 use Rattle.qcir_form.proofs.Rows.{row-rule, signsOperands, left-unsigned, right-unsigned}
 
 -- Exclusive or.

@@ -17,10 +17,10 @@ use Rattle.form_check.specs.Accepted.{prefixNames}
 use Rattle.qcir.specs.File.{Name, Literal, conjunction, Gate, junction-gate, xor-gate, Line}
 use Rattle.qcir.specs.Spelling.{Sign, word, name, newline, free-word, closing, comma, minus-sign, quantifierWord, junctionWord, literalSigns, namesSigns, listSigns, freeSigns, prefixSigns, outputSigns, inputsSigns, anyInputsSigns, gateSigns, gatesSigns}
 use Rattle.qcir.specs.Unbounded.{namesUpTo}
-use Rattle.qcir.specs.Numerals.{digits}
+use Rattle.texts.specs.Numerals.{digits}
 use Rattle.qcir_text.specs.Text.{isByte, wordText, signText, signsText}
 use Rattle.qcir_text.specs.Pieces.{named, listLines}
-use Rattle.qcir_text.proofs.Lengths.{at-most-six}
+use Rattle.texts.proofs.Lengths.{at-most-six}
 use Rattle.qcir_form.specs.Rows.{RowKind, constant-row, left-row, right-row, and-row, xor-row, row}
 use Rattle.qcir_form.specs.File.{turned, unsigned, rowGates, nodeGates, prefixLines}
 

@@ -11,16 +11,18 @@ use Rattle.formula.specs.Form.{Block, prefixWidth, blocksOf}
 use Rattle.form_check.specs.Accepted.{AcceptedForm}
 use Rattle.qcir.specs.Spelling.{newline, header, freeSigns, outputSigns}
 use Rattle.qcir_text.specs.Text.{signsText}
-use Rattle.qcir_text.specs.Put.{Put}
+use Rattle.texts.specs.Put.{Put}
 use Rattle.qcir_text.specs.Pieces.{named, literalOf}
-use Rattle.qcir_text.proofs.Put.{put-then, put-as}
+use Rattle.texts.proofs.Put.{put-then, put-as}
 use Rattle.qcir_text.proofs.Files.{file-text}
 use Rattle.qcir_form.specs.File.{nodeLiteralOf, freeNames, prefixLines, firstGate, matrixFile, formFile, formText}
 use Rattle.qcir_form.proofs.Written.{written-root}
 use Rattle.qcir_form.proofs.Room.{text-short}
+use Rattle.qcir_form.proofs.Numbers.{open-lists}
 use Rattle.qcir_literals.specs.Literals.{Filled}
-use Rattle.qcir_lines.specs.Lines.{textBound, FreeFlags, flaggedBelow, blocksText, gatesText, Writable}
-use Rattle.qcir_lines.proofs.Free.{flagged-open}
+use Rattle.name_flags.specs.Flags.{FreeFlags, flaggedBelow}
+use Rattle.name_flags.proofs.Free.{flagged-list}
+use Rattle.qcir_lines.specs.Lines.{textBound, isFree, blocksText, gatesText, Writable}
 use Rattle.qcir_lines.proofs.Prefix.{prefix-text, form-writable}
 use Rattle.qcir_lines.proofs.Gates.{gates-text}
 
@@ -41,7 +43,7 @@ abbrev pub gatesPiece : List ℕ → List ℕ → List ℕ
 gatesPiece ns literals = gatesText ns literals (nodeCount ns)
 
 module _ {ns ps xs names : List ℕ} {highest : ℕ} {literals : List ℕ} (form : AcceptedForm ns ps xs)
-    (flags : FreeFlags (tableOf ns []) (blocksOf ps xs) names highest)
+    (flags : FreeFlags (isFree (tableOf ns []) (blocksOf ps xs)) names highest)
     (held : Filled (tableOf ns []) (firstGate (freeNames (tableOf ns []) (blocksOf ps xs)) (prefixLines (blocksOf ps xs))) literals) where
   abbrev t : Table
   t = tableOf ns []
@@ -53,7 +55,7 @@ module _ {ns ps xs names : List ℕ} {highest : ℕ} {literals : List ℕ} (form
   first = firstGate (freeNames t bs) (prefixLines bs)
 
   free-is : signsText (freeSigns (map named (freeNames t bs))) ≡ freePiece names highest
-  free-is = ap (λ ys. signsText (freeSigns (map named ys))) (sym (flagged-open t bs names highest flags))
+  free-is = ap (λ ys. signsText (freeSigns (map named ys))) (sym (flagged-list (isFree t bs) names highest (freeNames t bs) flags (open-lists t bs)))
 
   output-is : signsText (outputSigns (nodeLiteralOf t first (t .size - 1))) ≡ outputPiece ns literals
   unfolding tableOf

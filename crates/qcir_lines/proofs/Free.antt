@@ -1,9 +1,9 @@
 -- The free line, name by name.
 -- Assumes nothing.
 use mathlib.Core.Path.{_≡_, refl, sym, _∙_, ap, subst}
-use mathlib.Core.Bool.{Bool, true, false, not, _&&_}
+use mathlib.Core.Bool.{Bool, true, false}
 use mathlib.Core.List.{List, [], _∷_, _++_, map, append-nil}
-use Prim.Native.Nat.{ℕ, suc, _+_, _<_}
+use Prim.Native.Nat.{ℕ, _+_, _<_}
 use native.Mathlib.Omega.{arith}
 use native.Mathlib.Numerals.{add-one}
 use lib.Dec.{eqb}
@@ -11,18 +11,14 @@ use lib.ListN.{length, getD}
 use borrow.Author.Tests.{eq-eqb, ne-eqb}
 use Rattle.lists.specs.Choice.{pick, pick-yes, pick-no}
 use Rattle.lists.specs.Parts.{upTo, passing}
-use Rattle.lists.proofs.Passing.{one-list, passing-lists}
-use Rattle.formula.specs.Node.{Table}
-use Rattle.formula.specs.Form.{Block, binds}
 use Rattle.qcir.specs.Spelling.{word, name, comma, free-word, freeSigns}
 use Rattle.qcir_text.specs.Text.{signsText, signText, wordText, isByte}
-use Rattle.qcir_text.specs.Put.{Put}
+use Rattle.texts.specs.Put.{Put}
 use Rattle.qcir_text.specs.Pieces.{named, openText}
-use Rattle.qcir_text.proofs.Put.{put-none, put-then, put-as}
+use Rattle.texts.proofs.Put.{put-none, put-then, put-as}
 use Rattle.qcir_text.proofs.Texts.{end-signs, free-text, open-more}
-use Rattle.qcir_form.specs.File.{occurs, freeNames}
-use Rattle.qcir_form.proofs.Numbers.{open-lists}
-use Rattle.qcir_lines.specs.Lines.{FreeFlags, flaggedBelow, nameText}
+use Rattle.name_flags.specs.Flags.{flaggedBelow}
+use Rattle.qcir_lines.specs.Lines.{nameText}
 
 -- What stands of the free line before its end.
 abbrev pub openLine : List ℕ → ℕ → List ℕ
@@ -108,14 +104,3 @@ module _ (first : Bool) (flag x : ℕ) where
   pub name-next : flag ≡ 2 → first ≡ false → nameText first flag x ≡ signsText (word comma ∷ name (named x) ∷ [])
   unfolding nameText
   name-next e d = pick-yes (eqb flag 2) _ _ (eq-eqb flag 2 e) ∙ pick-no first _ _ d
-
--- The names that are flagged are the open ones that occur.
-pub flagged-open : (t : Table) (bs : List Block) (names : List ℕ) (highest : ℕ) → FreeFlags t bs names highest
-    → flaggedBelow names (suc highest) ≡ freeNames t bs
-unfolding flaggedBelow
-flagged-open t bs names highest fs =
-    let flag : ℕ → Bool = λ x. eqb (getD names x 0) 2 in
-    let l = passing-lists flag (suc highest) (λ x e. omega (arith, fs .above x (sym (fs .flagged x) ∙ e))) in
-    one-list (λ x. occurs t x && not (binds bs x)) (passing flag (suc highest)) (freeNames t bs)
-    (record { members = λ x. l .members x ∙ fs .flagged x; ascending = l .ascending })
-    (open-lists t bs)

@@ -19,8 +19,8 @@ use Rattle.qcir.specs.File.{Literal, Gate}
 use Rattle.qcir.specs.Spelling.{gatesSigns}
 use Rattle.qcir_text.specs.Text.{signsText}
 use Rattle.qcir_text.specs.Pieces.{literalOf}
-use Rattle.qcir_text.specs.Put.{Put}
-use Rattle.qcir_text.proofs.Put.{put-none, put-then}
+use Rattle.texts.specs.Put.{Put}
+use Rattle.texts.proofs.Put.{put-none, put-then}
 use Rattle.qcir_text.proofs.Files.{gates-append}
 use Rattle.qcir_form.specs.Rows.{RowKind, constant-row, left-row, right-row, and-row, xor-row, row}
 use Rattle.qcir_form.specs.File.{rowHasGate, hasGate, rowLiteral, nodeLiteral, rowGates, nodeGates, isGate, written, gateNumber, nodeLiteralOf, gatesOf}

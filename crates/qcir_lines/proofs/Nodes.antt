@@ -13,9 +13,9 @@ use Rattle.formula.specs.Node.{Node, isBlock}
 use Rattle.formula.specs.Truth.{digit}
 use Rattle.qcir.specs.Spelling.{gatesSigns}
 use Rattle.qcir_text.specs.Text.{signsText}
-use Rattle.qcir_text.specs.Put.{Put}
+use Rattle.texts.specs.Put.{Put}
 use Rattle.qcir_text.specs.Pieces.{literalOf}
-use Rattle.qcir_text.proofs.Put.{put-none, put-as}
+use Rattle.texts.proofs.Put.{put-none, put-as}
 use Rattle.qcir_form.specs.Rows.{RowKind}
 use Rattle.qcir_form.specs.File.{rowGates, nodeGates}
 use Rattle.qcir_rows.specs.declared.Shape.{Shape}

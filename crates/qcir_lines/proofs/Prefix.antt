@@ -1,30 +1,22 @@
 -- The prefix lines, block by block.
 -- Assumes nothing.
 use mathlib.Core.Path.{_≡_, sym, _∙_, ap}
-use mathlib.Core.Bool.{true}
 use mathlib.Core.List.{List, _∷_, _++_, flatMap, append-assoc, append-nil}
-use Prim.Native.Nat.{ℕ, zero, suc, _+_, _*_, _/_, _-_, _≤_, _<_}
+use Prim.Native.Nat.{ℕ, zero, suc, _+_, _*_, _/_, _≤_}
 use native.Mathlib.Nat.{add-zero, zero-add}
 use native.Mathlib.Numerals.{add-one}
 use native.Mathlib.Omega.{arith}
-use lib.Dec.{leb}
-use lib.ListN.{length, getD, take, drop, length-take}
-use borrow.Author.Tests.{leb-true}
-use Rattle.lists.specs.Choice.{and-right}
-use Rattle.lists.specs.Members.{all}
+use lib.ListN.{length, getD}
 use Rattle.lists.specs.Parts.{upTo}
-use Rattle.lists.proofs.Members.{all-mem, mem-getD}
 use Rattle.lists.proofs.Parts.{length-upTo, sum-grows}
-use Rattle.formula.specs.Words.{range}
 use Rattle.formula.specs.Form.{Block, prefixWidth, quantifierOf, blockAt, blocksFrom, blocksOf}
-use Rattle.acceptance.specs.Verdict.{isNumberTo}
 use Rattle.form_check.specs.Accepted.{AcceptedForm}
-use Rattle.form_check.proofs.Names.{names-are, pass-names}
+use Rattle.form_check.proofs.Entries.{readNames, read-names, block-names-below}
 use Rattle.qcir.specs.Spelling.{prefixSigns}
 use Rattle.qcir_text.specs.Text.{signsText}
-use Rattle.qcir_text.specs.Pieces.{listLines, numberBound, AllWritable}
-use Rattle.qcir_text.specs.Put.{Put}
-use Rattle.qcir_text.proofs.Put.{put-none, put-then}
+use Rattle.qcir_text.specs.Pieces.{listLines}
+use Rattle.texts.specs.Put.{Put}
+use Rattle.texts.proofs.Put.{put-none, put-then}
 use Rattle.qcir_text.proofs.Files.{prefix-append}
 use Rattle.qcir_form.specs.File.{prefixLines}
 use Rattle.qcir_lines.specs.Lines.{textBound, blockText, blocksText, Writable}
@@ -66,43 +58,12 @@ module _ (ps xs : List ℕ) where
       let g : ℕ → List ℕ = λ k. blockText (blockAt ps xs k) in
       omega (arith, w .short, length-upTo g j, length-upTo g (length ps / prefixWidth), sum-grows (λ k. length (g k)) j (length ps / prefixWidth) h)
 
--- A block as the code reads it.
-module _ (ps xs : List ℕ) (j : ℕ) where
-  abbrev start : ℕ
-  start = getD ps (prefixWidth * j + 1) 0
-
-  abbrev count : ℕ
-  count = getD ps (prefixWidth * j + 2) 0
-
-  abbrev readNames : List ℕ
-  readNames = take (start + count - start) (drop start xs)
-
-  read-names : readNames ≡ blockAt ps xs j .variables
-  unfolding blockAt range
-  read-names = let e : start + count - start ≡ count = omega arith in rw e
-
-  pub read-writable : AllWritable (blockAt ps xs j .variables) → AllWritable readNames
-  read-writable w = rw read-names w
-
-  pub read-length : length readNames ≤ count
-  read-length = simp length-take (omega arith)
-
-  pub read-text : blockText (blockAt ps xs j) ≡ signsText (prefixSigns (listLines (quantifierOf (getD ps (prefixWidth * j) 0)) readNames))
-  unfolding blockText blockAt
-  read-text = ap (λ ys. signsText (prefixSigns (listLines (quantifierOf (getD ps (prefixWidth * j) 0)) ys))) (sym read-names)
-
-number-low : (x : ℕ) → isNumberTo 77823 x ≡ true → x < numberBound
-unfolding isNumberTo
-number-low x h = omega (arith, leb-true x 77823 (and-right (leb 1 x) (leb x 77823) h))
+-- A block's line, of its names as the code reads them.
+pub read-text : (ps xs : List ℕ) (j : ℕ)
+    → blockText (blockAt ps xs j) ≡ signsText (prefixSigns (listLines (quantifierOf (getD ps (prefixWidth * j) 0)) (readNames ps xs j)))
+unfolding blockText blockAt
+read-text ps xs j = ap (λ ys. signsText (prefixSigns (listLines (quantifierOf (getD ps (prefixWidth * j) 0)) ys))) (sym (read-names ps xs j))
 
 pub form-writable : (ns ps xs : List ℕ) → AcceptedForm ns ps xs → length (blocksText ps xs (length ps / prefixWidth)) ≤ textBound → Writable ps xs
 form-writable ns ps xs a short =
-    record {
-      fits = a .fits;
-      names = λ j h k l.
-          number-low _
-          (all-mem (isNumberTo 77823) (blockAt ps xs j .variables) _
-          (pass-names ps xs (isNumberTo 77823) (length ps / prefixWidth) j h (ap (all (isNumberTo 77823)) (sym (names-are ps xs)) ∙ a .numbered))
-          (mem-getD (blockAt ps xs j .variables) k 0 l));
-      short = short;
-    }
+    record { fits = a .fits; names = λ j h k l. omega (arith, block-names-below ns ps xs a j h k l); short = short }

@@ -1,13 +1,12 @@
 -- The lines of a form's text, by what the walk over the form is lent.
 -- Assumes nothing.
-use mathlib.Core.Bool.{Bool, true, not, _&&_}
+use mathlib.Core.Bool.{Bool, not, _&&_}
 use mathlib.Core.List.{List, [], _∷_}
-use mathlib.Core.Path.{_≡_}
 use Prim.Native.Nat.{ℕ, _+_, _*_, _/_, _<_, _≤_}
 use lib.Dec.{eqb}
 use lib.ListN.{length, getD}
 use Rattle.lists.specs.Choice.{pick}
-use Rattle.lists.specs.Parts.{upTo, passing}
+use Rattle.lists.specs.Parts.{upTo}
 use Rattle.formula.specs.Node.{Node, Table}
 use Rattle.formula.specs.Words.{nodeAt}
 use Rattle.formula.specs.Form.{Block, prefixWidth, blockAt, binds}
@@ -24,16 +23,9 @@ lastStart = 2147483648
 abbrev pub textBound : ℕ
 textBound = 4194304
 
--- The flag 2 stands at each name that is open and occurs in a gate or output line, and at no other name. None of them is above `highest`.
-pub record FreeFlags (t : Table) (bs : List Block) (names : List ℕ) (highest : ℕ) : Type 0 where
-  pub size : length names ≡ 77824
-  pub flagged : (x : ℕ) → eqb (getD names x 0) 2 ≡ (occurs t x && not (binds bs x))
-  pub above : (x : ℕ) → (occurs t x && not (binds bs x)) ≡ true → x ≤ highest
-  pub below : highest < 77824
-
--- The names below n whose flag is 2.
-unfoldable pub flaggedBelow : List ℕ → ℕ → List ℕ
-flaggedBelow names n = passing (λ x. eqb (getD names x 0) 2) n
+-- The name is open and occurs in a gate or output line.
+abbrev pub isFree : Table → List Block → ℕ → Bool
+isFree t bs x = occurs t x && not (binds bs x)
 
 -- What a name adds to the free line, its flag being this one: it may be the line's first.
 unfoldable pub nameText : Bool → ℕ → ℕ → List ℕ

@@ -13,16 +13,16 @@ ghost use Rattle.form_check.specs.Verdict.{formLimits};
 ghost use Rattle.form_check.specs.Accepted.{AcceptedForm};
 ghost use Rattle.qcir.specs.Spelling.{freeSigns, gatesSigns};
 ghost use Rattle.qcir_text.specs.Text.{signsText};
-ghost use Rattle.qcir_text.specs.Put.{Put};
+ghost use Rattle.texts.specs.Put.{Put};
 ghost use Rattle.qcir_text.specs.Pieces.{named, literalOf, numberBound, lastLine, AllWritable};
 ghost use Rattle.qcir_form.specs.Rows.{RowKind};
 ghost use Rattle.qcir_form.specs.File.{rowGates, freeNames, prefixLines, firstGate, formText};
 ghost use Rattle.qcir_rows.specs.Codes.{kindCode, rowTable};
 ghost use Rattle.qcir_literals.specs.Literals.{Filled};
+ghost use Rattle.name_flags.specs.Flags.{FreeFlags, flaggedBelow};
 ghost use Rattle.qcir_lines.specs.Lines.{
   lastStart,
-  FreeFlags,
-  flaggedBelow,
+  isFree,
   nameText,
   blockText,
   blocksText,
@@ -31,7 +31,7 @@ ghost use Rattle.qcir_lines.specs.Lines.{
   gatesText,
 };
 use form_check::PREFIX_WIDTH;
-use qcir_marks::FREE;
+use name_flags::FREE;
 use qcir_rows::AND_ROW;
 use qcir_rows::LEFT_ROW;
 use qcir_rows::NAME;
@@ -54,7 +54,7 @@ pub fn put_text(
     text: &mut [u8],
 ) -> usize
     requires { ⌜ AcceptedForm (now nodes) (now prefix) (now variables) ⌝ }
-    requires { ⌜ FreeFlags (tableOf (now nodes) []) (blocksOf (now prefix) (now variables)) (now names) highest ⌝ }
+    requires { ⌜ FreeFlags (isFree (tableOf (now nodes) []) (blocksOf (now prefix) (now variables))) (now names) highest ⌝ }
     requires { ⌜ Filled (tableOf (now nodes) [])
         (firstGate (freeNames (tableOf (now nodes) []) (blocksOf (now prefix) (now variables)))
         (prefixLines (blocksOf (now prefix) (now variables)))) (now literals) ⌝ }

@@ -7,8 +7,8 @@ use Prim.Native.Nat.{ℕ, _<_, max}
 use native.Mathlib.Omega.{arith}
 use lib.Dec.{eqb}
 use lib.ListN.{length, getD, set, length-set}
-use borrow.Author.Tests.{eqb-true, eq-eqb, ne-eqb}
-use Rattle.lists.specs.Choice.{pick, pick-yes, pick-no, Is, is-true, is-false, look}
+use borrow.Author.Tests.{eq-eqb, ne-eqb}
+use Rattle.lists.specs.Choice.{pick, pick-no}
 use Rattle.lists.specs.Members.{mem}
 use Rattle.lists.proofs.Members.{mem-one}
 use Rattle.lists.proofs.Stores.{getD-set}
@@ -18,40 +18,8 @@ use Rattle.qcir_form.specs.Rows.{RowKind, constant-row, left-row, right-row, an
 use Rattle.qcir_form.specs.File.{rowOperands, usedOperands}
 use Rattle.qcir_rows.specs.Codes.{kindCode, nodeShape}
 use Rattle.qcir_rows.proofs.Shapes.{RowAs}
-use Rattle.qcir_marks.specs.Marks.{flagWith, marksAfter, flagsAfter, highestAfter, NodeMarked, codeOperands, isMarked}
-
--- Flags.
-
--- a name that has a flag keeps it
-flag-same : (b : ℕ) → (b ≡ 0 → ⊥) → flagWith b true ≡ b
-unfolding flagWith
-flag-same b n = pick-no (eqb b 0) _ _ (ne-eqb b 0 n)
-
-flag-open : (b : ℕ) → b ≡ 0 → flagWith b true ≡ 2
-unfolding flagWith pick
-flag-open b z = pick-yes (eqb b 0) _ _ (eq-eqb b 0 z)
-
-module _ (names : List ℕ) (x : ℕ) where
-  pub flag-kept : (getD names x 0 ≡ 0 → ⊥) → (y : ℕ) → getD names y 0 ≡ pick (eqb y x) (flagWith (getD names y 0) true) (getD names y 0)
-  flag-kept n y = go (look (eqb y x))
-    where
-      go : Is (eqb y x) → getD names y 0 ≡ pick (eqb y x) (flagWith (getD names y 0) true) (getD names y 0)
-      go (is-true e) =
-          let q : y ≡ x = eqb-true y x e in
-          let m : getD names y 0 ≡ 0 → ⊥ = λ z. n (ap (λ j. getD names j 0) (sym q) ∙ z) in
-          sym (pick-yes (eqb y x) _ _ e ∙ flag-same (getD names y 0) m)
-      go (is-false e) = sym (pick-no (eqb y x) _ _ e)
-
-  pub flag-new : x < length names → getD names x 0 ≡ 0 → (y : ℕ)
-      → getD (set names x 2) y 0 ≡ pick (eqb y x) (flagWith (getD names y 0) true) (getD names y 0)
-  flag-new h z y = getD-set names x 2 0 h y ∙ go (look (eqb y x))
-    where
-      go : Is (eqb y x) → pick (eqb y x) 2 (getD names y 0) ≡ pick (eqb y x) (flagWith (getD names y 0) true) (getD names y 0)
-      go (is-true e) =
-          let q : y ≡ x = eqb-true y x e in
-          let m : getD names y 0 ≡ 0 = ap (λ j. getD names j 0) q ∙ z in
-          pick-yes (eqb y x) _ _ e ∙ sym (pick-yes (eqb y x) _ _ e ∙ flag-open (getD names y 0) m)
-      go (is-false e) = pick-no (eqb y x) _ _ e ∙ sym (pick-no (eqb y x) _ _ e)
+use Rattle.name_flags.specs.Flags.{flagWith}
+use Rattle.qcir_marks.specs.Marks.{marksAfter, flagsAfter, highestAfter, NodeMarked, codeOperands, isMarked}
 
 two-marks : (p q : Bool) (m : ℕ) → pick q 1 (pick p 1 m) ≡ pick (p || (q || false)) 1 m
 unfolding pick

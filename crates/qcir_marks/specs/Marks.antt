@@ -3,7 +3,7 @@
 use mathlib.Core.Bool.{Bool, not, _&&_, _||_, true}
 use mathlib.Core.List.{List, [], _∷_}
 use mathlib.Core.Path.{_≡_}
-use Prim.Native.Nat.{ℕ, suc, _<_, _≤_, max}
+use Prim.Native.Nat.{ℕ, suc, max}
 use lib.Dec.{eqb, leb}
 use lib.ListN.{getD}
 use Rattle.lists.specs.Choice.{pick}
@@ -12,6 +12,7 @@ use Rattle.lists.specs.Members.{mem}
 use Rattle.formula.specs.Node.{Node, Table}
 use Rattle.formula.specs.Truth.{digit}
 use Rattle.formula.specs.FreeVariables.{standsAt, numberAt}
+use Rattle.name_flags.specs.Flags.{flagWith, Highest}
 use Rattle.qcir_form.specs.File.{usedOperands, written, occurs}
 
 -- Some number from k up and below n passes the test.
@@ -29,15 +30,6 @@ rootMark t i = digit (eqb (suc i) (t .size))
 -- The name stands at a written node from k up.
 unfoldable pub occursFrom : Table → ℕ → ℕ → Bool
 occursFrom t k x = someFrom (λ i. written t i && standsAt x (t .node i)) k (t .size)
-
--- The flag of a name: one that has a flag keeps it, any other gets 2 if it occurs.
-unfoldable pub flagWith : ℕ → Bool → ℕ
-flagWith before found = pick (eqb before 0) (pick found 2 0) before
-
--- The highest number that passes a test; 0 if none does.
-pub record Highest (p : ℕ → Bool) (h : ℕ) : Type 0 where
-  pub above : (x : ℕ) → p x ≡ true → x ≤ h
-  pub passes : 0 < h → p h ≡ true
 
 -- What the pass has found once the nodes from k up are done, the names' flags having been these before it.
 pub record MarkedFrom (t : Table) (before : List ℕ) (k : ℕ) (marks names : List ℕ) (highest : ℕ) : Type 0 where

@@ -1,10 +1,8 @@
 // A pass over a matrix from its root down: which nodes are written, and which names occur at them. An
 // operand that a row ignores is not written, nor what hangs on it.
-ghost use mathlib.Core.Bool.{true};
 ghost use mathlib.Core.List.{[]};
 ghost use mathlib.Core.Path.{_≡_};
-ghost use Prim.Native.Nat.{ℕ, _<_, max};
-ghost use lib.Dec.{eqb};
+ghost use Prim.Native.Nat.{ℕ, _<_};
 ghost use lib.ListN.{length, getD};
 ghost use Rattle.lists.specs.Choice.{pick};
 ghost use Rattle.lists.specs.Members.{mem};
@@ -14,7 +12,6 @@ ghost use Rattle.form_check.specs.Verdict.{formLimits};
 ghost use Rattle.qcir_rows.specs.Codes.{rowTable};
 ghost use Rattle.qcir_marks.specs.Marks.{
   rootMark,
-  flagWith,
   Marked,
   NodeMarked,
   codeOperands,
@@ -24,9 +21,6 @@ use qcir_rows::CONSTANT_ROW;
 use qcir_rows::LEFT_ROW;
 use qcir_rows::NAME;
 use qcir_rows::RIGHT_ROW;
-
-// The flag of a name that occurs in a gate or output line and had none.
-pub const FREE: u8 = 2;
 
 // Marks the nodes that are written, and gives each name at one of them the flag 2 if it has none. The
 // result is the highest name that got one, 0 if none did.
@@ -86,7 +80,7 @@ fn mark_node(
     }
     let shape = qcir_rows::shape_at(rows, nodes, i);
     if shape.row.kind == NAME {
-        return flag_name(names, shape.left, highest);
+        return name_flags::flag_name(names, shape.left, highest);
     }
     mark_operands(
         marks,
@@ -116,19 +110,4 @@ fn mark_operands(marks: &mut [u32], kind: u8, left: usize, right: usize)
     }
     marks[left] = 1;
     marks[right] = 1;
-}
-
-// Gives the name x the flag 2 if it has none. The result is the higher of the two if it got one.
-fn flag_name(names: &mut [u8], x: u32, highest: u32) -> u32
-    requires { ⌜ x < length (now names) ⌝ }
-    ensures { λ r. ⌜ ((y : ℕ) → getD (now (names .exit)) y 0
-        ≡ pick (eqb y x) (flagWith (getD (now (names .entry)) y 0) true) (getD (now (names .entry)) y 0)) ⌝ }
-    ensures { λ r. ⌜ r ≡ pick (eqb (getD (now (names .entry)) x 0) 0) (max highest x) highest ⌝ }
-{
-    let at = x as usize;
-    if names[at] > 0 {
-        return highest;
-    }
-    names[at] = FREE;
-    form_check::higher(highest, x)
 }

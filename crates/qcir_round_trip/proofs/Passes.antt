@@ -20,10 +20,11 @@ use Rattle.acceptance.specs.Accepted.{AcceptedWithin}
 use Rattle.form_check.specs.Verdict.{PassesUnbounded}
 use Rattle.form_check.specs.Accepted.{prefixNames, AcceptedFormWithin}
 use Rattle.form_check.proofs.Accepted.{holds-form}
+use Rattle.acceptance.proofs.Matrix.{MatrixNode, matrix-node}
 use Rattle.qcir.specs.File.{File}
 use Rattle.qcir.specs.Table.{matrixWords, lineBlock, filePrefix, filePrefixWords, filePrefixList}
 use Rattle.qcir_form.specs.File.{prefixLines, matrixFile, formFile}
-use Rattle.qcir_form.proofs.Numbers.{occurs-in, occurs-from, MatrixNode, matrix-node}
+use Rattle.qcir_form.proofs.Numbers.{occurs-in, occurs-from}
 use Rattle.qcir_round_trip.specs.Laws.{PassesAgain}
 use Rattle.qcir_round_trip.proofs.PrefixLines.{names-again, words-kinds, words-fit}
 use Rattle.qcir_round_trip.proofs.RoundTrip.{again-plain, again-whole, again-written, again-matrix, blocks-are, names-occur}

@@ -13,11 +13,12 @@ use Rattle.formula.specs.Words.{isBlockKind}
 use Rattle.formula.specs.Form.{Block, prefixWidth, prefixWords, binds}
 use Rattle.formula.proofs.Nodes.{block-kind-of}
 use Rattle.form_check.specs.Accepted.{prefixNames}
+use Rattle.form_check.proofs.Flags.{binds-names}
 use Rattle.qcir.specs.File.{Line, lineVariables, prefixVariables, numbersOf}
 use Rattle.qcir.specs.Table.{lineBlock}
 use Rattle.qcir.proofs.GateLines.{numbers-append}
 use Rattle.qcir_form.specs.File.{named, listLines, prefixLines}
-use Rattle.qcir_form.proofs.Numbers.{numbers-named, prefix-numbers, binds-mem}
+use Rattle.qcir_form.proofs.Numbers.{numbers-named, prefix-numbers}
 
 -- the line of a block, before others
 line-again : (q : Quantifier) (xs : List ℕ) (ls : List Line)
@@ -45,7 +46,7 @@ pub names-again : (bs : List Block) → prefixNames (map lineBlock (prefixLines 
 names-again bs = lines-names (prefixLines bs) ∙ prefix-numbers bs
 
 pub binds-again : (bs : List Block) (x : ℕ) → binds (map lineBlock (prefixLines bs)) x ≡ binds bs x
-binds-again bs x = sym (binds-mem (map lineBlock (prefixLines bs)) x) ∙ ap (mem x) (names-again bs) ∙ binds-mem bs x
+binds-again bs x = sym (binds-names (map lineBlock (prefixLines bs)) x) ∙ ap (mem x) (names-again bs) ∙ binds-names bs x
 
 -- The words of blocks have the kinds of blocks, and their ranges fit in the blocks' variables.
 pub words-kinds : (s : ℕ) (bs : List Block) (j : ℕ) → j < length bs → isBlockKind (getD (prefixWords s bs) (prefixWidth * j) 0) ≡ true

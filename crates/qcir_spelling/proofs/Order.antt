@@ -17,7 +17,7 @@ use Rattle.qcir_spelling.proofs.Rows.{choose, every, passes, everyArrow
 use Rattle.qcir_spelling.proofs.Signs.{lineEnd, go, after, closes, emitted, after-from}
 use Rattle.qcir_spelling.proofs.Files.{Takes, file-takes}
 use Rattle.qcir_spelling.proofs.Runs.{no-name}
-use Rattle.qcir.proofs.Numerals.{numeral-value}
+use Rattle.texts.proofs.Numerals.{numeral-value}
 
 abbrev InRange : ℕ → Name → Type 0
 InRange most x = (1 ≤ x .number) × (x .number ≤ most)

@@ -10,13 +10,13 @@ use borrow.Author.Tests.{eqb-true, eqb-false}
 use Rattle.lists.specs.Choice.{pick, Is, is-true, is-false, look}
 use Rattle.qcir.specs.File.{Name, Literal, conjunction, junction-gate, xor-gate}
 use Rattle.qcir.specs.Spelling.{word, name, opening, comma, literalSigns, prefixSigns, outputSigns, gateSigns, quantifierWord}
-use Rattle.qcir.specs.Numerals.{digits}
+use Rattle.texts.specs.Numerals.{digits}
 use Rattle.formula.specs.Node.{Quantifier}
 use Rattle.qcir_text.specs.Text.{isByte, wordText, signText, signsText}
-use Rattle.qcir_text.specs.Put.{Put}
+use Rattle.texts.specs.Put.{Put}
 use Rattle.qcir_text.specs.Pieces.{named, literalOf, listLines, inputsText, namesText, openText}
-use Rattle.qcir_text.proofs.Lengths.{some-digit}
-use Rattle.qcir_text.proofs.Put.{put-none, put-then, put-over, put-as, put-from}
+use Rattle.texts.proofs.Lengths.{some-digit}
+use Rattle.texts.proofs.Put.{put-none, put-then, put-over, put-as, put-from}
 use Rattle.qcir_text.proofs.Texts.{end-signs, name-text, literal-plus, literal-minus, output-text, constant-text, and-text, xor-text, line-text, open-first, open-names, names-text, further, further-one, further-next}
 
 -- a minus sign, and the number after it or over it

@@ -10,9 +10,9 @@ use Rattle.lists.specs.Choice.{pick-yes, pick-no, Is, is-true, is-false, look, 
 use Rattle.qcir.specs.File.{Gate, junction-gate, xor-gate, quantified-gate, File}
 use Rattle.qcir.specs.Spelling.{Sign, word, name, newline, header, closing, comma, semicolon, namesSigns, literalSigns, anyInputsSigns, outputSigns, gateSigns, gatesSigns, freeSigns, prefixSigns, fileSigns, isSpace, isCount}
 use Rattle.qcir.specs.Unbounded.{namesUpTo}
-use Rattle.qcir.specs.Numerals.{digits}
+use Rattle.texts.specs.Numerals.{digits}
 use Rattle.qcir.specs.Positions.{SpelledUnplaced, end, space, a-word, a-name, line-end, blank-line, SpellsUnplaced}
-use Rattle.qcir.proofs.Numerals.{digits-numeral, digits-value}
+use Rattle.texts.proofs.Numerals.{digits-numeral, digits-value}
 use Rattle.qcir.proofs.Positions.{spells-says}
 use Rattle.qcir_text.specs.Text.{isByte, wordText, signText, signsText, fileText}
 use Rattle.qcir_text.specs.Laws.{namesFromOne, TextSays}

@@ -12,7 +12,7 @@ use borrow.Author.Tests.{eq-eqb, ne-eqb}
 use Rattle.lists.specs.Choice.{pick, pick-yes, pick-no}
 use Rattle.qcir.specs.File.{Name, Literal, conjunction, junction-gate, xor-gate}
 use Rattle.qcir.specs.Spelling.{Sign, word, name, newline, free-word, opening, closing, comma, literalSigns, namesSigns, inputsSigns, anyInputsSigns, junctionWord, listSigns, freeSigns, prefixSigns, outputSigns, gateSigns, quantifierWord}
-use Rattle.qcir.specs.Numerals.{digits}
+use Rattle.texts.specs.Numerals.{digits}
 use Rattle.formula.specs.Node.{Quantifier, exists, for-all}
 use Rattle.formula.specs.Form.{quantifierOf}
 use Rattle.qcir_text.specs.Text.{isByte, wordText, signText, signsText}

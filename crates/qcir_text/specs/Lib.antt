@@ -1,4 +1,3 @@
 pub mod Text
 pub mod Laws
-pub mod Put
 pub mod Pieces

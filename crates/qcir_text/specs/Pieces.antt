@@ -2,13 +2,13 @@
 -- Assumes nothing.
 use mathlib.Core.Bool.{Bool}
 use mathlib.Core.List.{List, [], _∷_, _++_, map}
-use Prim.Native.Nat.{ℕ, _/_, _%_, _<_}
+use Prim.Native.Nat.{ℕ, _/_, _%_}
 use lib.Dec.{eqb}
-use lib.ListN.{length, getD}
 use Rattle.formula.specs.Node.{Quantifier}
 use Rattle.qcir.specs.File.{Name, Literal, Line}
 use Rattle.qcir.specs.Spelling.{word, newline, opening, closing, comma, literalSigns, namesSigns}
 use Rattle.qcir_text.specs.Text.{signsText}
+pub use Rattle.texts.specs.Bounds.{AllBelow, numberBound, AllWritable, lastPiece, lastLine}
 
 -- Names and literals, at position 0.
 abbrev pub named : ℕ → Name
@@ -43,21 +43,3 @@ namesText (x ∷ xs) = signsText (namesSigns (named x) (map named xs))
 unfoldable pub openText : List ℕ → List ℕ → List ℕ
 openText keyword [] = []
 openText keyword (x ∷ xs) = signsText (word keyword ∷ word opening ∷ []) ++ namesText (x ∷ xs)
-
--- Each element of the list is below the bound.
-abbrev pub AllBelow : ℕ → List ℕ → Type 0
-AllBelow bound xs = (k : ℕ) → k < length xs → getD xs k 0 < bound
-
--- Numbers that are written are below this one.
-abbrev pub numberBound : ℕ
-numberBound = 1000000
-
-abbrev pub AllWritable : List ℕ → Type 0
-AllWritable xs = AllBelow numberBound xs
-
--- The last index at which a piece may start, and the last for a line: no index after them wraps.
-abbrev pub lastPiece : ℕ
-lastPiece = 1099511627776
-
-abbrev pub lastLine : ℕ
-lastLine = 4294967296

@@ -7,7 +7,7 @@ use lib.Dec.{eqb}
 use Rattle.lists.specs.Choice.{pick}
 use Rattle.qcir.specs.File.{File}
 use Rattle.qcir.specs.Spelling.{Sign, word, name, newline, header, fileSigns}
-use Rattle.qcir.specs.Numerals.{digits}
+use Rattle.texts.specs.Numerals.{digits}
 
 -- The word is this one byte.
 unfoldable pub isByte : ℕ → List ℕ → Bool

@@ -5,7 +5,6 @@ ghost use mathlib.Core.List.{[], _∷_, _++_};
 ghost use mathlib.Core.Path.{_≡_};
 ghost use Prim.Native.Nat.{_+_, _*_, _-_, _≤_, _<_};
 ghost use lib.ListN.{length};
-ghost use Rattle.lists.specs.Parts.{overwrite};
 ghost use Rattle.formula.specs.Form.{quantifierOf};
 ghost use Rattle.qcir.specs.File.{conjunction, junction-gate, xor-gate};
 ghost use Rattle.qcir.specs.Spelling.{
@@ -23,9 +22,8 @@ ghost use Rattle.qcir.specs.Spelling.{
   gateSigns,
   prefixSigns,
 };
-ghost use Rattle.qcir.specs.Numerals.{digits};
 ghost use Rattle.qcir_text.specs.Text.{signsText};
-ghost use Rattle.qcir_text.specs.Put.{Put};
+ghost use Rattle.texts.specs.Put.{Put};
 ghost use Rattle.qcir_text.specs.Pieces.{
   named,
   listLines,
@@ -40,89 +38,6 @@ ghost use Rattle.qcir_text.specs.Pieces.{
 };
 use formula::EXISTS_BLOCK;
 
-// Stores a word where it fits.
-fn store_word(text: &mut [u8], at: usize, word: &[u8])
-    requires { ⌜ at + length (now word) ≤ length (now text) ⌝ }
-    ensures { λ _. ⌜ now (text .exit) ≡ overwrite (now (text .entry)) at (now (word .entry)) ⌝ }
-{
-    let mut k: usize = 0;
-    while k < word.len() {
-        text[at + k] = word[k];
-        k += 1;
-    }
-}
-
-// Puts a word: bytes as they are.
-pub fn put_word(text: &mut [u8], at: usize, word: &[u8]) -> usize
-    requires { ⌜ (at ≤ 2 * lastPiece) × (length (now word) ≤ 65536) ⌝ }
-    ensures { λ r. ⌜ Put (now (text .entry)) at (now (word .entry)) (now (text .exit)) r ⌝ }
-{
-    let next = at + word.len();
-    if next <= text.len() {
-        store_word(text, at, word);
-    }
-    next
-}
-
-// How many digits a number has.
-fn digit_count(x: u32) -> usize
-    requires { ⌜ x < numberBound ⌝ }
-    ensures { λ r. ⌜ r ≡ length (digits x) ⌝ }
-{
-    if x >= 100000 {
-        return 6;
-    }
-    if x >= 10000 {
-        return 5;
-    }
-    if x >= 1000 {
-        return 4;
-    }
-    if x >= 100 {
-        return 3;
-    }
-    if x >= 10 {
-        return 2;
-    }
-    1
-}
-
-// Stores a number's digits so that they end before index end, the last digit first.
-fn store_digits(text: &mut [u8], end: usize, x: u32)
-    requires { ⌜ (length (digits x) ≤ end) × (end ≤ length (now text)) ⌝ }
-    ensures { λ _. ⌜ now (text .exit) ≡ overwrite (now (text .entry)) (end - length (digits x)) (digits x) ⌝ }
-{
-    let mut from = end;
-    let mut left = x;
-    while left >= 10 {
-        from -= 1;
-        text[from] = digit(left % 10);
-        left /= 10;
-    }
-    text[from - 1] = digit(left);
-}
-
-// A digit in ASCII.
-fn digit(d: u32) -> u8
-    requires { ⌜ d < 10 ⌝ }
-    ensures { λ r. ⌜ r ≡ 48 + d ⌝ }
-{
-    (48 + d) as u8
-}
-
-// Puts a number in decimal.
-pub fn put_number(text: &mut [u8], at: usize, x: u32) -> usize
-    requires { ⌜ (at ≤ 2 * lastPiece) × (x < numberBound) ⌝ }
-    ensures { λ r. ⌜ Put (now (text .entry)) at (digits x) (now (text .exit)) r ⌝ }
-    ensures { λ r. ⌜ r ≤ at + 6 ⌝ }
-{
-    let next = at + digit_count(x);
-    if next <= text.len() {
-        store_digits(text, next, x);
-    }
-    next
-}
-
 // Puts a literal, which is held as twice its number and one more with a minus sign. A minus sign is stored in any case:
 // without one the number starts at the same index and takes its place.
 pub fn put_literal(text: &mut [u8], at: usize, literal: u32) -> usize
@@ -130,9 +45,9 @@ pub fn put_literal(text: &mut [u8], at: usize, literal: u32) -> usize
     ensures { λ r. ⌜ Put (now (text .entry)) at (signsText (literalSigns (literalOf literal))) (now (text .exit)) r ⌝ }
     ensures { λ r. ⌜ r ≤ at + 7 ⌝ }
 {
-    put_word(text, at, b"-");
+    texts::put_word(text, at, b"-");
     let sign = literal % 2;
-    put_number(text, at + sign as usize, literal / 2)
+    texts::put_number(text, at + sign as usize, literal / 2)
 }
 
 // Puts the header line.
@@ -141,7 +56,7 @@ pub fn put_header(text: &mut [u8], at: usize) -> usize
     ensures { λ r. ⌜ Put (now (text .entry)) at (header ++ signsText (newline ∷ [])) (now (text .exit)) r ⌝ }
     ensures { λ r. ⌜ r ≡ at + 10 ⌝ }
 {
-    put_word(text, at, b"#QCIR-G14\n")
+    texts::put_word(text, at, b"#QCIR-G14\n")
 }
 
 // Puts the end of a line of a list or of inputs.
@@ -150,7 +65,7 @@ pub fn put_close(text: &mut [u8], at: usize) -> usize
     ensures { λ r. ⌜ Put (now (text .entry)) at (signsText (word closing ∷ newline ∷ [])) (now (text .exit)) r ⌝ }
     ensures { λ r. ⌜ r ≡ at + 2 ⌝ }
 {
-    put_word(text, at, b")\n")
+    texts::put_word(text, at, b")\n")
 }
 
 // Puts a comma and a name.
@@ -159,8 +74,8 @@ pub fn put_next_name(text: &mut [u8], at: usize, x: u32) -> usize
     ensures { λ r. ⌜ Put (now (text .entry)) at (signsText (word comma ∷ name (named x) ∷ [])) (now (text .exit)) r ⌝ }
     ensures { λ r. ⌜ r ≤ at + 8 ⌝ }
 {
-    let next = put_word(text, at, b", ");
-    put_number(text, next, x)
+    let next = texts::put_word(text, at, b", ");
+    texts::put_number(text, next, x)
 }
 
 // Puts the start of the free line and its first name.
@@ -169,8 +84,8 @@ pub fn put_first_free(text: &mut [u8], at: usize, x: u32) -> usize
     ensures { λ r. ⌜ Put (now (text .entry)) at (openText free-word (x ∷ [])) (now (text .exit)) r ⌝ }
     ensures { λ r. ⌜ r ≤ at + 11 ⌝ }
 {
-    let next = put_word(text, at, b"free(");
-    put_number(text, next, x)
+    let next = texts::put_word(text, at, b"free(");
+    texts::put_number(text, next, x)
 }
 
 // Puts the line of a prefix block of this kind; nothing if it has no names.
@@ -196,9 +111,9 @@ fn put_quantifier(text: &mut [u8], at: usize, kind: u32) -> usize
     ensures { λ r. ⌜ r ≤ at + 7 ⌝ }
 {
     if kind == EXISTS_BLOCK {
-        return put_word(text, at, b"exists(");
+        return texts::put_word(text, at, b"exists(");
     }
-    put_word(text, at, b"forall(")
+    texts::put_word(text, at, b"forall(")
 }
 
 // Puts names with commas between them.
@@ -207,7 +122,7 @@ fn put_names(text: &mut [u8], at: usize, names: &[u32]) -> usize
     ensures { λ r. ⌜ Put (now (text .entry)) at (namesText (now (names .entry))) (now (text .exit)) r ⌝ }
     ensures { λ r. ⌜ r ≤ at + 8 * length (now (names .entry)) ⌝ }
 {
-    let mut next = put_number(text, at, names[0]);
+    let mut next = texts::put_number(text, at, names[0]);
     let mut i: usize = 1;
     while i < names.len() {
         next = put_next_name(text, next, names[i]);
@@ -222,7 +137,7 @@ pub fn put_output(text: &mut [u8], at: usize, literal: u32) -> usize
     ensures { λ r. ⌜ Put (now (text .entry)) at (signsText (outputSigns (literalOf literal))) (now (text .exit)) r ⌝ }
     ensures { λ r. ⌜ r ≤ at + 16 ⌝ }
 {
-    let mut next = put_word(text, at, b"output(");
+    let mut next = texts::put_word(text, at, b"output(");
     next = put_literal(text, next, literal);
     put_close(text, next)
 }
@@ -234,8 +149,8 @@ pub fn put_constant(text: &mut [u8], at: usize, gate: u32) -> usize
         (signsText (gateSigns (junction-gate conjunction (named gate) []))) (now (text .exit)) r ⌝ }
     ensures { λ r. ⌜ r ≤ at + 15 ⌝ }
 {
-    let next = put_number(text, at, gate);
-    put_word(text, next, b" = and()\n")
+    let next = texts::put_number(text, at, gate);
+    texts::put_word(text, next, b" = and()\n")
 }
 
 // Puts the gate line of a conjunction.
@@ -245,8 +160,8 @@ pub fn put_and(text: &mut [u8], at: usize, gate: u32, left: u32, right: u32) -> 
         (signsText (gateSigns (junction-gate conjunction (named gate) (literalOf left ∷ literalOf right ∷ [])))) (now (text .exit)) r ⌝ }
     ensures { λ r. ⌜ r ≤ at + 31 ⌝ }
 {
-    let mut next = put_number(text, at, gate);
-    next = put_word(text, next, b" = and(");
+    let mut next = texts::put_number(text, at, gate);
+    next = texts::put_word(text, next, b" = and(");
     put_inputs(text, next, left, right)
 }
 
@@ -257,8 +172,8 @@ pub fn put_xor(text: &mut [u8], at: usize, gate: u32, left: u32, right: u32) -> 
         (signsText (gateSigns (xor-gate (named gate) (literalOf left) (literalOf right)))) (now (text .exit)) r ⌝ }
     ensures { λ r. ⌜ r ≤ at + 31 ⌝ }
 {
-    let mut next = put_number(text, at, gate);
-    next = put_word(text, next, b" = xor(");
+    let mut next = texts::put_number(text, at, gate);
+    next = texts::put_word(text, next, b" = xor(");
     put_inputs(text, next, left, right)
 }
 
@@ -269,7 +184,7 @@ fn put_inputs(text: &mut [u8], at: usize, left: u32, right: u32) -> usize
     ensures { λ r. ⌜ r ≤ at + 18 ⌝ }
 {
     let mut next = put_literal(text, at, left);
-    next = put_word(text, next, b", ");
+    next = texts::put_word(text, next, b", ");
     next = put_literal(text, next, right);
     put_close(text, next)
 }

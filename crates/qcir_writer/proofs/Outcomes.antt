@@ -1,149 +1,45 @@
--- Which way writing goes, by the form's verdict and the room, and what is owed of each outcome.
+-- What writing answers and leaves, by the laws of every text.
 -- Assumes nothing.
-use mathlib.Core.Path.{_≡_, refl, sym, _∙_, ap, subst}
-use mathlib.Core.List.{List, [], _∷_, _++_}
-use Prim.Native.Nat.{ℕ, _+_, _/_, _<_, _≤_}
-use native.Mathlib.Omega.{arith}
-use lib.Dec.{eqb, ltb}
-use lib.ListN.{length, take}
-use borrow.Author.Tests.{eqb-true, eqb-false, ltb-true, ltb-false, lt-ltb, le-ltb}
-use Rattle.lists.specs.Choice.{Is, is-true, is-false, look}
-use Rattle.lists.specs.Parts.{overwrite}
-use Rattle.lists.proofs.Overwrite.{take-overwrite}
+use mathlib.Core.Path.{_≡_}
+use mathlib.Core.List.{List, _++_}
+use Prim.Native.Nat.{ℕ, _/_, _<_, _≤_}
+use lib.ListN.{length}
 use Rattle.formula.specs.Words.{nodeCount}
 use Rattle.formula.specs.Form.{prefixWidth}
-use Rattle.refusals.specs.Verdict.{refusal, accepted}
-use Rattle.refusals.specs.Outcome.{Outcome, done, refused, unlessShort}
-use Rattle.refusals.specs.declared.Verdict.{Verdict}
-use Rattle.refusals.proofs.Outcome.{call-next, call-refused, call-room, call-short}
+use Rattle.refusals.specs.Verdict.{refusal}
+use Rattle.refusals.specs.Outcome.{Outcome}
 use Rattle.form_check.specs.Verdict.{formVerdict}
 use Rattle.form_check.specs.Accepted.{AcceptedForm}
-use Rattle.form_check.specs.Order.{FirstOfForm, matrix, ragged, bad, none}
-use Rattle.form_check.proofs.Order.{form-order}
-use Rattle.acceptance.specs.Limits.{TableLimits}
-use Rattle.form_check.proofs.Accepted.{form-holds, holds-form, number-zero}
+use Rattle.form_texts.specs.Writing.{after}
+use Rattle.form_texts.proofs.Outcomes as outcomes
+use Rattle.texts.specs.Put.{Put}
 use Rattle.qcir_form.specs.File.{formText}
 use Rattle.qcir_form.specs.Laws.{roomFor}
 use Rattle.qcir_form.specs.Promise.{TextOf}
 use Rattle.qcir_form.proofs.Room.{text-room}
-use Rattle.qcir_text.specs.Put.{Put}
 use Rattle.qcir_round_trip.proofs.Theorem.{text-written}
-use Rattle.qcir_writer.specs.Writing.{writeOutcome, answerOf, after, TextWritten, RoomSuffices}
-
-no-elements : (l : List ℕ) → length l ≡ 0 → l ≡ []
-no-elements [] e = refl
-no-elements (x ∷ l) e = absurd (omega (arith, e))
-
--- No form is refused by 9.
-not-nine : (lim : TableLimits) (ns ps xs : List ℕ) (v : Verdict) → FirstOfForm lim ns ps xs v → v .number ≡ 9 → ⊥
-unfolding refusal accepted
-not-nine lim ns ps xs _ (matrix f) z = omega (arith, z)
-not-nine lim ns ps xs _ (ragged e f) z = omega (arith, z)
-not-nine lim ns ps xs _ (bad w j l b k) z = omega (arith, z)
-not-nine lim ns ps xs _ (none w k) z = omega (arith, z)
+use Rattle.qcir_writer.specs.Writing.{writeOutcome, TextWritten, RoomSuffices}
 
 module _ (ns ps xs before : List ℕ) where
-  text : List ℕ
-  text = formText ns ps xs
-
-  written : Outcome ℕ (List ℕ)
-  written = record { answer = done (length text); buffers = overwrite before 0 text }
-
-  -- what comes after the form's verdict
-  roomy : Outcome ℕ (List ℕ)
-  roomy = unlessShort (ltb (length before) (length text)) 0 before written
-
   pub is-refused : (number position : ℕ) → refusal number position ≡ formVerdict ns ps xs → (number ≡ 0 → ⊥)
       → after (record { number = number; position = position; bytes = 0 }) before ≡ writeOutcome ns ps xs before
-  unfolding writeOutcome answerOf refused refusal text written roomy
-  is-refused number position e n = rw (← e) (sym (call-refused 0 before roomy (refusal number position) n))
+  unfolding writeOutcome
+  is-refused = outcomes.is-refused ns ps xs (formText ns ps xs) before
 
-  is-accepted : formVerdict ns ps xs ≡ accepted → writeOutcome ns ps xs before ≡ roomy
-  unfolding writeOutcome text written roomy accepted
-  is-accepted e = call-next 0 before roomy (formVerdict ns ps xs) (ap (λ (v : Verdict). v .number) e)
-
-  pub is-short : formVerdict ns ps xs ≡ accepted → length before < length (formText ns ps xs)
-      → after (record { number = 9; position = 0; bytes = 0 }) before ≡ writeOutcome ns ps xs before
-  unfolding answerOf refused text roomy
-  is-short e h = sym (is-accepted e ∙ call-short 0 before written _ (lt-ltb _ _ h))
-
-  pub is-done : formVerdict ns ps xs ≡ accepted → length (formText ns ps xs) ≤ length before
-      → after (record { number = 0; position = 0; bytes = length (formText ns ps xs) }) (overwrite before 0 (formText ns ps xs))
-      ≡ writeOutcome ns ps xs before
-  unfolding answerOf done accepted refusal text written roomy
-  is-done e h = sym (is-accepted e ∙ call-room 0 before written _ (le-ltb _ _ h))
-
-  -- The walk over a part without bytes tells the size, and leaves the part without bytes.
   pub lines-short : (part lent : List ℕ) (n : ℕ) → AcceptedForm ns ps xs → Put lent 0 (formText ns ps xs) part n → length lent ≡ 0 → length before < n
       → after (record { number = 9; position = 0; bytes = 0 }) (part ++ before) ≡ writeOutcome ns ps xs before
-  lines-short part lent n a put e h =
-      rw (no-elements part (put .kept ∙ e)) (is-short (holds-form _ ns ps xs a) (omega (arith, put .counted, h)))
+  unfolding writeOutcome
+  lines-short = outcomes.lines-short ns ps xs (formText ns ps xs) before
 
-  -- The walk over the buffer, which has room, writes the text.
   pub lines-done : (part lent last : List ℕ) (n m : ℕ) → AcceptedForm ns ps xs → Put lent 0 (formText ns ps xs) part n → length lent ≡ 0
       → n ≤ length before → Put (part ++ before) 0 (formText ns ps xs) last m
       → after (record { number = 0; position = 0; bytes = n }) last ≡ writeOutcome ns ps xs before
-  lines-done part lent last n m a put e h over =
-      let size : n ≡ length (formText ns ps xs) = omega (arith, put .counted) in
-      let room : 0 + length (formText ns ps xs) ≤ length before = omega (arith, size, h) in
-      let over' : Put before 0 (formText ns ps xs) last m =
-      subst (λ (l : List ℕ). Put (l ++ before) 0 (formText ns ps xs) last m) (no-elements part (put .kept ∙ e)) over in
-      rw (size, over' .held room) (is-done (holds-form _ ns ps xs a) (omega (arith, room)))
+  unfolding writeOutcome
+  lines-done = outcomes.lines-done ns ps xs (formText ns ps xs) before
 
-  -- What is owed of the outcome.
-  data Way : Type 0 where
-    refused-way : (formVerdict ns ps xs .number ≡ 0 → ⊥) → writeOutcome ns ps xs before ≡ record { answer = refused (formVerdict ns ps xs) 0; buffers = before } → Way
-    short-way : formVerdict ns ps xs ≡ accepted → length before < length text
-        → writeOutcome ns ps xs before ≡ record { answer = refused (refusal 9 0) 0; buffers = before } → Way
-    done-way : formVerdict ns ps xs ≡ accepted → length text ≤ length before → writeOutcome ns ps xs before ≡ written → Way
-
-  way : Way
-  unfolding writeOutcome text written roomy
-  way = go (look (eqb (formVerdict ns ps xs .number) 0)) (look (ltb (length before) (length text)))
-    where
-      go : Is (eqb (formVerdict ns ps xs .number) 0) → Is (ltb (length before) (length text)) → Way
-      go (is-false n) s = refused-way (eqb-false _ _ n) (call-refused 0 before roomy (formVerdict ns ps xs) (eqb-false _ _ n))
-      go (is-true z) (is-true s) =
-          let e = number-zero _ ns ps xs (eqb-true _ _ z) in
-          short-way e (ltb-true _ _ s) (is-accepted e ∙ call-short 0 before written _ s)
-      go (is-true z) (is-false s) =
-          let e = number-zero _ ns ps xs (eqb-true _ _ z) in
-          done-way e (ltb-false _ _ s) (is-accepted e ∙ call-room 0 before written _ s)
-
-  start-written : length text ≤ length before → take (length text) (overwrite before 0 text) ≡ text
-  start-written h =
-      let e : length text ≡ 0 + length text = omega arith in
-      ap (λ (k : ℕ). take k (overwrite before 0 text)) e ∙ take-overwrite before 0 text (omega (arith, h))
-
-  pub outcome-written : TextWritten ns ps xs (writeOutcome ns ps xs before)
-  unfolding TextWritten refused refusal done written text
-  outcome-written = go way
-    where
-      number : Outcome ℕ (List ℕ) → ℕ
-      number o = o .answer .verdict .number
-
-      go : Way → number (writeOutcome ns ps xs before) ≡ 0
-          → TextOf ns ps xs (take (writeOutcome ns ps xs before .answer .sizes) (writeOutcome ns ps xs before .buffers))
-      go (refused-way n e) z = absurd (n (sym (ap number e) ∙ z))
-      go (short-way a h e) z = absurd (omega (arith, sym (ap number e) ∙ z))
-      go (done-way a h e) z =
-          subst (λ (o : Outcome ℕ (List ℕ)). TextOf ns ps xs (take (o .answer .sizes) (o .buffers))) (sym e)
-          (subst (TextOf ns ps xs) (sym (start-written h)) (text-written ns ps xs a))
-
-  pub outcome-room : RoomSuffices ns ps xs before (writeOutcome ns ps xs before)
-  unfolding RoomSuffices refused refusal done accepted written text
-  outcome-room = go way
-    where
-      number : Outcome ℕ (List ℕ) → ℕ
-      number o = o .answer .verdict .number
-
-      go : Way → number (writeOutcome ns ps xs before) ≡ 9
-          → length before < roomFor (nodeCount ns) (length ps / prefixWidth) (length xs)
-      go (refused-way n e) z = absurd (not-nine _ ns ps xs _ (form-order _ ns ps xs) (sym (ap number e) ∙ z))
-      go (short-way a h e) z = let r = text-room ns ps xs (form-holds _ ns ps xs a) in omega (arith, h, r)
-      go (done-way a h e) z = absurd (omega (arith, sym (ap number e) ∙ z))
-
-  -- An outcome that is the defined one keeps what is promised.
   pub promised : (o : Outcome ℕ (List ℕ)) → o ≡ writeOutcome ns ps xs before
       → (o ≡ writeOutcome ns ps xs before) × (TextWritten ns ps xs o × RoomSuffices ns ps xs before o)
-  promised o e = (e, (subst (TextWritten ns ps xs) (sym e) outcome-written, subst (RoomSuffices ns ps xs before) (sym e) outcome-room))
+  unfolding writeOutcome TextWritten RoomSuffices
+  promised =
+      outcomes.promised ns ps xs (formText ns ps xs) before (TextOf ns ps xs) (text-written ns ps xs)
+      (roomFor (nodeCount ns) (length ps / prefixWidth) (length xs)) (text-room ns ps xs)

@@ -10,24 +10,19 @@ ghost use Rattle.formula.specs.Form.{blocksOf, binds};
 ghost use Rattle.form_check.specs.Accepted.{AcceptedForm, prefixNames};
 ghost use Rattle.qcir_form.specs.File.{freeNames, prefixLines, firstGate};
 ghost use Rattle.qcir_literals.specs.Literals.{Filled};
-ghost use Rattle.qcir_lines.specs.Lines.{FreeFlags};
+ghost use Rattle.name_flags.specs.Flags.{FreeFlags};
+ghost use Rattle.qcir_lines.specs.Lines.{isFree};
+ghost use Rattle.form_texts.specs.Writing.{after};
 ghost use Rattle.qcir_writer.specs.Writing.{
   writeOutcome,
-  after,
   TextWritten,
   RoomSuffices,
 };
 use form_check::NAMES;
 use form_check::NODES;
+use form_texts::Answer;
 use refusals::ACCEPTED;
 use refusals::BUFFER_TOO_SHORT;
-
-// The number of a refusal (0: done), its node or block, and the bytes written.
-pub struct Answer {
-    pub number: u32,
-    pub position: u64,
-    pub bytes: usize,
-}
 
 // Writes a form as a QCIR text, or refuses it by 14 or 15, or the buffer by 9.
 //
@@ -90,7 +85,7 @@ fn write_lines(
     text: &mut [u8],
 ) -> Answer
     requires { ⌜ AcceptedForm (now nodes) (now prefix) (now variables) ⌝ }
-    requires { ⌜ FreeFlags (tableOf (now nodes) []) (blocksOf (now prefix) (now variables)) (now names) last ⌝ }
+    requires { ⌜ FreeFlags (isFree (tableOf (now nodes) []) (blocksOf (now prefix) (now variables))) (now names) last ⌝ }
     requires { ⌜ Filled (tableOf (now nodes) [])
         (firstGate (freeNames (tableOf (now nodes) []) (blocksOf (now prefix) (now variables)))
         (prefixLines (blocksOf (now prefix) (now variables)))) (now literals) ⌝ }

@@ -7,7 +7,7 @@ use Prim.Native.Nat.{suc, _+_, _*_, _-_, _≤_}
 use lib.Dec.{eqb}
 use lib.ListN.{length}
 use borrow.Author.Tests.{eqb-true, eqb-false}
-use Rattle.qcir_text.specs.Put.{Put}
+use Rattle.texts.specs.Put.{Put}
 use Rattle.qcir_lines.proofs.Free.{openLine, free-none, free-name, free-end, free-no-line}
 use Rattle.qcir_lines.proofs.put_free.Statement.{statement}
 use Rattle.qcir_lines.proofs.put_free.Tie as tie

@@ -1,7 +1,7 @@
 -- `qcir_lines::put_free_name` meets its contract.
 -- Assumes nothing.
 use native.Mathlib.Omega.{arith}
-use Rattle.qcir_text.proofs.Put.{put-none, put-as}
+use Rattle.texts.proofs.Put.{put-none, put-as}
 use Rattle.qcir_lines.proofs.Free.{name-none, name-first, name-next}
 use borrow.Author.Needs.{needs}
 use Rattle.qcir_lines.proofs.put_free_name.Statement.{statement}

@@ -6,7 +6,7 @@ use mathlib.Core.Path.{_≡_, refl, _∙_}
 use Prim.Native.Nat.{_+_, _*_, _-_, _≤_}
 use lib.ListN.{length}
 use Rattle.formula.specs.Words.{nodeCount}
-use Rattle.qcir_text.specs.Put.{Put}
+use Rattle.texts.specs.Put.{Put}
 use Rattle.qcir_lines.specs.Lines.{gatesText}
 use Rattle.qcir_lines.proofs.Gates.{gates-none, gates-next}
 use Rattle.qcir_lines.proofs.put_gates.Statement.{statement}

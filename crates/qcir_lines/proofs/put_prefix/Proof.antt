@@ -6,7 +6,7 @@ use mathlib.Core.Path.{_≡_, refl, _∙_}
 use Prim.Native.Nat.{_/_, _-_, _≤_}
 use lib.ListN.{length}
 use Rattle.formula.specs.Form.{prefixWidth}
-use Rattle.qcir_text.specs.Put.{Put}
+use Rattle.texts.specs.Put.{Put}
 use Rattle.qcir_lines.specs.Lines.{blocksText}
 use Rattle.qcir_lines.proofs.Prefix.{blocks-none, blocks-next, begun-short}
 use Rattle.qcir_lines.proofs.put_prefix.Statement.{statement}

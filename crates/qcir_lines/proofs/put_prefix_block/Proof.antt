@@ -2,8 +2,10 @@
 -- Assumes nothing.
 use native.Mathlib.Omega.{arith}
 use Prim.Native.Nat.{_+_, _*_}
-use Rattle.qcir_text.proofs.Put.{put-as}
-use Rattle.qcir_lines.proofs.Prefix.{read-writable, read-length, read-text}
+use Rattle.texts.proofs.Put.{put-as}
+use Rattle.form_check.proofs.Entries.{read-length, read-below}
+use Rattle.texts.specs.Bounds.{numberBound}
+use Rattle.qcir_lines.proofs.Prefix.{read-text}
 use borrow.Author.Needs.{needs}
 use Rattle.qcir_lines.proofs.put_prefix_block.Statement.{statement}
 use Rattle.qcir_lines.proofs.put_prefix_block.Tie as tie
@@ -60,7 +62,7 @@ put-block-requires : tie.Need-put-block-requires
 put-block-requires c κs =
     let s = c .before .before .before .before .before .before .before .before in
     let l = read-length (s .args .prefix .now) (s .args .variables .now) (s .args .j) in
-    (s .pre .0 .1, omega (arith, l, c .before .shared-slice-known5 .given (3 * s .args .j + 2)), read-writable (s .args .prefix .now) (s .args .variables .now) (s .args .j) (s .pre .1 .1))
+    (s .pre .0 .1, omega (arith, l, c .before .shared-slice-known5 .given (3 * s .args .j + 2)), read-below (s .args .prefix .now) (s .args .variables .now) (s .args .j) numberBound (s .pre .1 .1))
 
 same-length : tie.Need-same-length
 same-length c = search needs

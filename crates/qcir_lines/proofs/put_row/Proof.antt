@@ -2,7 +2,7 @@
 -- Assumes nothing.
 use native.Mathlib.Omega.{arith}
 use Rattle.qcir_text.specs.Pieces.{literalOf}
-use Rattle.qcir_text.proofs.Put.{put-as}
+use Rattle.texts.proofs.Put.{put-as}
 use Rattle.qcir_lines.proofs.Rows.{unsigned-word, row-and, row-xor, row-constant, row-else}
 use borrow.Author.Needs.{needs}
 use Rattle.qcir_lines.proofs.put_row.Statement.{statement}

@@ -4,7 +4,7 @@ use borrow.Author.Needs.{needs}
 use native.Mathlib.Omega.{arith}
 use Prim.Native.Nat.{_+_, _*_, _-_, _≤_}
 use lib.ListN.{length}
-use Rattle.qcir_text.specs.Put.{Put}
+use Rattle.texts.specs.Put.{Put}
 use Rattle.qcir_text.proofs.Texts.{further}
 use Rattle.qcir_text.proofs.Lines.{put-no-further, put-further, put-all-names}
 use Rattle.qcir_text.proofs.put_names.Statement.{statement}

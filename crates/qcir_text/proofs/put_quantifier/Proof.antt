@@ -2,7 +2,7 @@
 -- Assumes nothing.
 use native.Mathlib.Omega.{arith}
 use borrow.Author.Needs.{needs}
-use Rattle.qcir_text.proofs.Put.{put-as}
+use Rattle.texts.proofs.Put.{put-as}
 use Rattle.qcir_text.proofs.Texts.{exists-text, forall-text}
 use Rattle.qcir_text.proofs.put_quantifier.Statement.{statement}
 use Rattle.qcir_text.proofs.put_quantifier.Tie as tie

@@ -8,8 +8,8 @@ use native.Mathlib.Omega.{arith}
 use lib.ListN.{length, length-append}
 use Rattle.lists.specs.Parts.{overwrite}
 use Rattle.lists.proofs.Overwrite.{overwrite-nil, overwrite-append, length-overwrite}
-use Rattle.qcir_text.specs.Put.{Put}
-use Rattle.qcir_text.proofs.Stores.{overwrite-over}
+use Rattle.texts.specs.Put.{Put}
+use Rattle.texts.proofs.Stores.{overwrite-over}
 
 -- a piece that is stored, and one that does not fit
 pub put-stored : (before : List ℕ) (at : ℕ) (piece after : List ℕ) (next : ℕ) → next ≡ at + length piece → next ≤ length before

@@ -1,11 +1,11 @@
--- `qcir_text::put_word` meets its contract.
+-- `texts::put_word` meets its contract.
 -- Assumes nothing.
 use mathlib.Core.Path.{refl}
 use native.Mathlib.Omega.{arith}
 use borrow.Author.Needs.{needs}
-use Rattle.qcir_text.proofs.Put.{put-counted}
-use Rattle.qcir_text.proofs.put_word.Statement.{statement}
-use Rattle.qcir_text.proofs.put_word.Tie as tie
+use Rattle.texts.proofs.Put.{put-counted}
+use Rattle.texts.proofs.put_word.Statement.{statement}
+use Rattle.texts.proofs.put_word.Tie as tie
 
 add-next : tie.Need-add-next
 add-next c = search needs

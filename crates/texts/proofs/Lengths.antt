@@ -7,9 +7,9 @@ use lib.Dec.{ltb}
 use lib.ListN.{length}
 use borrow.Author.Tests.{ltb-true, ltb-false}
 use Rattle.lists.specs.Choice.{Is, is-true, is-false, look}
-use Rattle.qcir.specs.Numerals.{digits}
-use Rattle.qcir.proofs.Numerals.{by-tenths, length-below-ten, length-step}
-use Rattle.qcir_text.specs.Pieces.{numberBound}
+use Rattle.texts.specs.Numerals.{digits}
+use Rattle.texts.proofs.Numerals.{by-tenths, length-below-ten, length-step}
+use Rattle.texts.specs.Bounds.{numberBound}
 
 -- at least one
 pub some-digit : (x : ℕ) → 1 ≤ length (digits x)

@@ -1,13 +1,13 @@
--- `qcir_text::put_number` meets its contract.
+-- `texts::put_number` meets its contract.
 -- Assumes nothing.
 use mathlib.Core.Path.{ap}
 use Prim.Native.Nat.{_+_}
 use native.Mathlib.Omega.{arith}
 use borrow.Author.Needs.{needs}
-use Rattle.qcir_text.proofs.Lengths.{at-most-six}
-use Rattle.qcir_text.proofs.Put.{put-stored, put-counted}
-use Rattle.qcir_text.proofs.put_number.Statement.{statement}
-use Rattle.qcir_text.proofs.put_number.Tie as tie
+use Rattle.texts.proofs.Lengths.{at-most-six}
+use Rattle.texts.proofs.Put.{put-stored, put-counted}
+use Rattle.texts.proofs.put_number.Statement.{statement}
+use Rattle.texts.proofs.put_number.Tie as tie
 
 digit-count-requires : tie.Need-digit-count-requires
 digit-count-requires c κs = search needs

@@ -10,9 +10,9 @@ use lib.ListN.{length, getD, set, take, drop, length-append}
 use lib.Seq.{length-take-le, take-suc, take-all, take-append-le, take-take, take-at, drop-at}
 use Rattle.lists.specs.Parts.{overwrite}
 use Rattle.lists.proofs.Overwrite.{overwrite-nil, overwrite-append, set-one, length-overwrite, drop-overwrite}
-use Rattle.qcir.specs.Numerals.{digits}
-use Rattle.qcir.proofs.Numerals.{digits-below-ten, digits-step}
-use Rattle.qcir_text.proofs.Lengths.{some-digit}
+use Rattle.texts.specs.Numerals.{digits}
+use Rattle.texts.proofs.Numerals.{digits-below-ten, digits-step}
+use Rattle.texts.proofs.Lengths.{some-digit}
 
 -- one more byte of a word, the k before it being stored
 pub store-next : (out text : List ℕ) (at : ℕ) (word : List ℕ) (k : ℕ) → text ≡ overwrite out at (take k word) → k < length word

@@ -1,4 +1,4 @@
--- `qcir_marks::flag_name` meets its contract: the name has a flag already, or gets one.
+-- `name_flags::flag_name` meets its contract: the name has a flag already, or gets one.
 -- Assumes nothing.
 use native.Mathlib.Omega.{arith}
 use borrow.Author.Needs.{needs}
@@ -6,10 +6,10 @@ use Prim.Native.Nat.{max}
 use mathlib.Core.Path.{_≡_, sym, _∙_}
 use borrow.Author.Tests.{eq-eqb, ne-eqb}
 use Rattle.lists.specs.Choice.{pick-yes, pick-no}
-use Rattle.qcir_marks.proofs.Steps.{flag-kept, flag-new}
+use Rattle.name_flags.proofs.Flags.{flag-kept, flag-new}
 use lib.ListN.{getD}
-use Rattle.qcir_marks.proofs.flag_name.Statement.{statement}
-use Rattle.qcir_marks.proofs.flag_name.Tie as tie
+use Rattle.name_flags.proofs.flag_name.Statement.{statement}
+use Rattle.name_flags.proofs.flag_name.Tie as tie
 
 slice-read-if1 : tie.Need-slice-read-if1
 slice-read-if1 c = search needs

@@ -11,9 +11,9 @@ use borrow.Author.Tests.{leb-true, le-leb, ltb-true, ltb-false, lt-ltb, le-ltb}
 use Rattle.lists.specs.Choice.{pick-yes, pick-no, and-left, and-right, and-both, clash, Is, is-true, is-false, look}
 use Rattle.lists.specs.Members.{all}
 use Rattle.lists.proofs.Members.{all-append}
-use Rattle.qcir.specs.Spelling.{isDigit, isNumeral, valueFrom}
-use Rattle.qcir.specs.Numerals.{digitsFrom, digits}
-use Rattle.qcir.specs.Laws.{DigitsValue, DigitsNumeral, ZeroNoNumeral, EveryDigit, NumeralValue, NumeralDigits, DigitsBelowTen, DigitsStep, LengthBelowTen, LengthStep, ValueAppend}
+use Rattle.texts.specs.Numerals.{isDigit, isNumeral, valueFrom}
+use Rattle.texts.specs.Numerals.{digitsFrom, digits}
+use Rattle.texts.specs.Laws.{DigitsValue, DigitsNumeral, ZeroNoNumeral, EveryDigit, NumeralValue, NumeralDigits, DigitsBelowTen, DigitsStep, LengthBelowTen, LengthStep, ValueAppend}
 
 below-ten-from : (steps n : ℕ) → n < 10 → digitsFrom steps n ≡ (48 + n) ∷ []
 unfolding digitsFrom

@@ -1,4 +1,4 @@
--- `qcir_text::store_word` meets its contract. The loop's invariant: the first k bytes of the word are stored.
+-- `texts::store_word` meets its contract. The loop's invariant: the first k bytes of the word are stored.
 -- Assumes nothing.
 use mathlib.Core.Path.{_≡_, sym}
 use Prim.Native.Nat.{_-_, _≤_}
@@ -7,9 +7,9 @@ use native.Mathlib.Omega.{arith}
 use lib.ListN.{length, take, length-set}
 use Rattle.lists.specs.Parts.{overwrite}
 use Rattle.lists.proofs.Overwrite.{overwrite-nil}
-use Rattle.qcir_text.proofs.Stores.{store-next, store-all}
-use Rattle.qcir_text.proofs.store_word.Statement.{statement}
-use Rattle.qcir_text.proofs.store_word.Tie as tie
+use Rattle.texts.proofs.Stores.{store-next, store-all}
+use Rattle.texts.proofs.store_word.Statement.{statement}
+use Rattle.texts.proofs.store_word.Tie as tie
 
 abbrev Inv-loop : tie.InvT-loop
 Inv-loop text₀ at word k₀ text k = (k ≤ length word) × (length text ≡ length text₀) × (text ≡ overwrite text₀ at (take k word))

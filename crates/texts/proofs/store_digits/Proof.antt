@@ -1,11 +1,11 @@
--- `qcir_text::store_digits` meets its contract. The loop's invariant: the digits after those of `left` are stored.
+-- `texts::store_digits` meets its contract. The loop's invariant: the digits after those of `left` are stored.
 -- Assumes nothing.
 use borrow.Author.Needs.{needs}
 use native.Mathlib.Omega.{arith}
 use lib.ListN.{length-set}
-use Rattle.qcir_text.proofs.Stores.{Back, back-start, back-room, back-length, back-step, back-end}
-use Rattle.qcir_text.proofs.store_digits.Statement.{statement}
-use Rattle.qcir_text.proofs.store_digits.Tie as tie
+use Rattle.texts.proofs.Stores.{Back, back-start, back-room, back-length, back-step, back-end}
+use Rattle.texts.proofs.store_digits.Statement.{statement}
+use Rattle.texts.proofs.store_digits.Tie as tie
 
 abbrev Inv-loop : tie.InvT-loop
 Inv-loop text₀ end x from₀ left₀ text from left = Back text₀ end x text from left

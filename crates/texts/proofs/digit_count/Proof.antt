@@ -1,10 +1,10 @@
--- `qcir_text::digit_count` meets its contract.
+-- `texts::digit_count` meets its contract.
 -- Assumes nothing.
 use mathlib.Core.Path.{sym}
 use native.Mathlib.Omega.{arith}
-use Rattle.qcir_text.proofs.Lengths.{one-digit, two-digits, three-digits, four-digits, five-digits, six-digits}
-use Rattle.qcir_text.proofs.digit_count.Statement.{statement}
-use Rattle.qcir_text.proofs.digit_count.Tie as tie
+use Rattle.texts.proofs.Lengths.{one-digit, two-digits, three-digits, four-digits, five-digits, six-digits}
+use Rattle.texts.proofs.digit_count.Statement.{statement}
+use Rattle.texts.proofs.digit_count.Tie as tie
 
 returns : tie.Need-returns
 returns c = sym (six-digits _ (omega arith) (omega arith))

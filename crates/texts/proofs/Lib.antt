@@ -1,0 +1,4 @@
+pub mod Numerals
+pub mod Lengths
+pub mod Stores
+pub mod Put

@@ -1,0 +1,4 @@
+pub mod Numerals
+pub mod Laws
+pub mod Bounds
+pub mod Put
