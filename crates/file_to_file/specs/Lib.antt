@@ -1,1 +1,2 @@
 pub mod FileToFile
+pub mod FileToClauses

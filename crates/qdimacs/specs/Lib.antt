@@ -1,0 +1,4 @@
+pub mod Problem
+pub mod Spelling
+pub mod Text
+pub mod Laws

@@ -1,0 +1,13 @@
+pub mod Gates
+pub mod TruthNodes
+pub mod TruthBlocks
+pub mod Truth
+pub mod Sound
+pub mod Blocks
+pub mod Numbers
+pub mod Bound
+pub mod Grammatical
+pub mod Theorem
+pub mod Weights
+pub mod Room
+pub mod Shapes
