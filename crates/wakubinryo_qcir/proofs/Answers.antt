@@ -5,7 +5,8 @@ use mathlib.Core.List.{List}
 use Prim.Native.Nat.{ℕ}
 use Rattle.refusals.specs.Outcome.{AnswerWith, Outcome}
 use Rattle.qcir.specs.Reading.{limits, Written, Buffers, buffers, Reading, Only, TableWritten}
-use Rattle.qcir_writer.specs.Writing.{writeOutcome, TextWritten, RoomSuffices}
+use Rattle.form_texts.specs.declared.Answer.{Answer as TextAnswer}
+use Rattle.form_texts.specs.Writing.{answerOf as textAnswerOf, after as textAfter}
 use Rattle.qcir_reader.specs.declared.Answer.{Answer}
 use Rattle.qcir_reader.specs.Reads.{answerOf, after}
 
@@ -17,10 +18,7 @@ Said text before o = Reading limits text before o × (Only limits text before o 
 pub read-said : (text words list words' list' : List ℕ) (r : Answer) (a : AnswerWith Written) → a ≡ answerOf r → Said text (buffers words list) (after r (buffers words' list')) → Said text (buffers words list) (record { answer = a; buffers = buffers words' list' })
 read-said text words list words' list' r a e h = subst (λ (x : AnswerWith Written). Said text (buffers words list) (record { answer = x; buffers = buffers words' list' })) (sym e) h
 
--- what is promised of a writing's outcome, clause by clause
-abbrev Wrote : List ℕ → List ℕ → List ℕ → List ℕ → Outcome ℕ (List ℕ) → Type 0
-Wrote ns ps xs before o =
-    (o ≡ writeOutcome ns ps xs before) × (TextWritten ns ps xs o × RoomSuffices ns ps xs before o)
-
-pub write-said : (ns ps xs before held : List ℕ) (r : Rattle.qcir_writer.specs.declared.Answer.Answer) (a : AnswerWith ℕ) → a ≡ Rattle.qcir_writer.specs.Writing.answerOf r → Wrote ns ps xs before (record { answer = Rattle.qcir_writer.specs.Writing.answerOf r; buffers = held }) → Wrote ns ps xs before (record { answer = a; buffers = held })
-write-said ns ps xs before held r a e h = subst (λ (x : AnswerWith ℕ). Wrote ns ps xs before (record { answer = x; buffers = held })) (sym e) h
+-- the same of a writing
+pub write-said : (P : Outcome ℕ (List ℕ) → Type 0) (held : List ℕ) (r : TextAnswer) (a : AnswerWith ℕ) → a ≡ textAnswerOf r
+    → P (textAfter r held) → P (record { answer = a; buffers = held })
+write-said P held r a e h = subst (λ (x : AnswerWith ℕ). P (record { answer = x; buffers = held })) (sym e) h

@@ -1,11 +1,14 @@
-// The C interface of QCIR files: reading and writing under their C names. include/wakubinryo.h says the
-// promises in words.
+// The C interface of files: reading QCIR, and writing QCIR and QDIMACS, under their C names.
+// include/wakubinryo.h says the promises in words.
 ghost use mathlib.Core.Path.{_≡_};
 ghost use Rattle.refusals.specs.Verdict.{Plain};
 ghost use Rattle.qcir.specs.Reading.{limits, buffers, Reading, Only, TableWritten};
 ghost use Rattle.qcir_reader.specs.Reads.{answerOf};
-ghost use Rattle.qcir_writer.specs.Writing.{answerOf as writingOf, writeOutcome, TextWritten, RoomSuffices};
+ghost use Rattle.form_texts.specs.Writing.{answerOf as writingOf};
+ghost use Rattle.qcir_writer.specs.Writing.{writeOutcome, TextWritten, RoomSuffices};
+ghost use Rattle.qdimacs_writer.specs.Writing as clauses;
 ghost use Rattle.wakubinryo_qcir.specs.Words.{writtenAnswer, readOutcome, textAnswer, textOutcome};
+use form_texts::Answer as TextAnswer;
 use qcir_reader::Answer;
 
 // Reads a QCIR text into a formula table: number, position, words and list entries written.
@@ -65,7 +68,34 @@ pub extern "C" fn wakubinryo_write_qcir(
     put_text_answer(answer, qcir_writer::write(nodes, prefix, variables, text));
 }
 
-fn put_text_answer(answer: &mut [u64; 3], a: qcir_writer::Answer)
+// Writes a prenex form as a QDIMACS text: number, position and bytes written.
+//
+// The contract rules out a call that writes QCIR, and a writing that takes the list for the prefix.
+#[no_mangle]
+pub extern "C" fn wakubinryo_write_qdimacs(
+    nodes: &[u32],
+    prefix: &[u32],
+    variables: &[u32],
+    text: &mut [u8],
+    answer: &mut [u64; 3],
+)
+    ensures outcome { λ _.
+        ⌜ textOutcome (now (answer .exit)) (now (text .exit))
+        ≡ clauses.writeOutcome (now (nodes .entry)) (now (prefix .entry)) (now (variables .entry)) (now (text .entry)) ⌝ }
+    ensures written { λ _.
+        ⌜ clauses.ClausesWritten (now (nodes .entry)) (now (prefix .entry)) (now (variables .entry))
+        (textOutcome (now (answer .exit)) (now (text .exit))) ⌝ }
+    ensures room { λ _.
+        ⌜ clauses.RoomSuffices (now (nodes .entry)) (now (prefix .entry)) (now (variables .entry)) (now (text .entry))
+        (textOutcome (now (answer .exit)) (now (text .exit))) ⌝ }
+{
+    put_text_answer(
+        answer,
+        qdimacs_writer::write(nodes, prefix, variables, text),
+    );
+}
+
+fn put_text_answer(answer: &mut [u64; 3], a: TextAnswer)
     ensures { λ _. ⌜ textAnswer (now (answer .exit)) ≡ writingOf a ⌝ }
 {
     *answer = [a.number as u64, a.position, a.bytes as u64];

@@ -2,7 +2,7 @@
 -- Assumes nothing.
 use mathlib.Core.Path.{refl}
 use borrow.Author.Needs.{needs}
-use Rattle.qcir_writer.specs.Writing.{answerOf}
+use Rattle.form_texts.specs.Writing.{answerOf}
 use Rattle.wakubinryo_qcir.specs.Words.{textAnswer}
 use Rattle.wakubinryo_qcir.proofs.put_text_answer.Statement.{statement}
 use Rattle.wakubinryo_qcir.proofs.put_text_answer.Tie as tie

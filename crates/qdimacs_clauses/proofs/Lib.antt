@@ -1,0 +1,4 @@
+pub mod Operators
+pub mod Nodes
+pub mod Gates
+pub mod Root

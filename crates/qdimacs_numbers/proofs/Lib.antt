@@ -1,0 +1,5 @@
+pub mod Flags
+pub mod Counts
+pub mod Numbers
+pub mod Words
+pub mod Free

@@ -1,0 +1,5 @@
+pub mod Runs
+pub mod Steps
+pub mod Prefix
+pub mod Whole
+pub mod Held
