@@ -1,6 +1,6 @@
 /*
  * wakubinryo: QCIR files to formula tables, these to prenex form, and prenex
- * forms to QCIR files.
+ * forms to QCIR and QDIMACS files.
  *
  * FORMULA TABLES
  *
@@ -113,7 +113,7 @@
  * line ends in LF; one space follows a comma and stands on each side of =, and
  * there is no other.
  *
- * The refusals of writing are 9 above and these:
+ * The refusals of writing, as QCIR or as QDIMACS, are 9 above and these:
  *
  *   number  given when                                                position
  *   14      the nodes are none, not a multiple of four words or over  0
@@ -129,12 +129,40 @@
  * Order: 14, with the nodes upward, each tested for 3 and 4, and then for 8;
  * 15; 9.
  *
+ * QDIMACS TEXTS
+ *
+ * A QDIMACS text is written from a prenex form as clauses over its variables
+ * and gate variables. Each operator, not node and constant has a gate variable,
+ * and so has the root if it is a variable, its gate being equal to it. They are
+ * numbered in node order from one above the highest number at a variable node
+ * or in a prefix block, from 1 if there is none.
+ *
+ *   p cnf V C       the header: highest gate variable, number of clauses
+ *   e x .. 0        exists and for-all blocks by turns, the outermost first
+ *   a x .. 0
+ *   l .. 0          the clauses
+ *
+ * A literal l is a variable, or a minus sign and a variable. One space stands
+ * between words, and each line ends in LF. The blocks are an exists block of
+ * the form's free variables, ascending, those too that an operator ignores; the
+ * prefix blocks; and an exists block of the gate variables. Empty ones go, then
+ * neighbours of one kind are joined, names staying in order.
+ *
+ * Gates come in node order, each with a clause for every row of its meaning:
+ * one for a constant, two for a not node or a variable, four for an operator,
+ * from false to true with left leading. A clause has the literals of left,
+ * right and gate, in this order: an operand's is the one that is false in the
+ * row, the gate's has a minus sign if the row's value is 0. A literal that
+ * comes twice in a clause is written once, and a clause with a variable and its
+ * opposite isn't written; equal clauses stay. Last comes the clause of the
+ * root's gate alone.
+ *
  * MEMORY
  *
  * All lengths count elements: 32-bit words, or bytes of a text. A call reads
  * what is lent to it as const, writes the answer and the buffers lent to it,
  * and touches nothing else: it allocates nothing and keeps nothing. It uses
- * less than 256 KiB of stack, reading or writing a QCIR text less than 1 MiB;
+ * less than 256 KiB of stack, reading or writing a text less than 1 MiB;
  * this is measured, not proved. On refusal no buffer has changed, whatever the
  * buffers held. If done, a buffer's words after the last one written keep
  * their content. Pointers are aligned and not null, even where the length is
@@ -205,7 +233,7 @@ enum {
     WAKUBINRYO_READ_ANSWER = 4
 };
 
-/* The answer of writing a QCIR text, of 64-bit words. */
+/* The answer of writing a QCIR or QDIMACS text, of 64-bit words. */
 enum {
     WAKUBINRYO_BYTES_WRITTEN = 2, /* bytes of the text */
     WAKUBINRYO_WRITE_ANSWER = 3
@@ -217,6 +245,10 @@ enum {
  */
 #define WAKUBINRYO_TEXT_ROOM(nodes, blocks, entries) \
     (31 * ((size_t)(nodes) + 1) + 7 * (size_t)(blocks) + 8 * (size_t)(entries))
+
+/* The same for the QDIMACS text. */
+#define WAKUBINRYO_CLAUSES_ROOM(nodes, blocks, entries) \
+    (64 * ((size_t)(nodes) + 1) + 4 * (size_t)(blocks) + 6 * (size_t)(entries))
 
 /*
  * Measures a table.
@@ -345,6 +377,30 @@ void wakubinryo_write_qcir(const uint32_t *nodes, size_t nodes_len,
                            const uint32_t *variables, size_t variables_len,
                            uint8_t *text, size_t text_len,
                            uint64_t answer[WAKUBINRYO_WRITE_ANSWER]);
+
+/*
+ * Writes a prenex form as a QDIMACS text.
+ *
+ * Numbers 0, 9, 14 and 15, and the answer as for wakubinryo_write_qcir. If
+ * done, text holds the bytes of the text, and bytes after the last one keep
+ * their content. It gives 9 exactly if neither 14 nor 15 applies and text is
+ * shorter than that; WAKUBINRYO_CLAUSES_ROOM is always enough. A form that
+ * wakubinryo_lift writes is never refused by 14 or 15.
+ *
+ * The text is true exactly if some valuation of the form's free variables makes
+ * the form true: so what wakubinryo_read_qcir reads, lifted and written, is
+ * true exactly if some valuation of the read file's free variables makes that
+ * file true. The header's numbers are the highest number in the text's blocks
+ * and clauses and the number of its clauses. No clause is empty or has a
+ * variable twice, and every variable of a clause stands in exactly one block.
+ * Exists and for-all blocks alternate, none is empty, and the last is an exists
+ * block.
+ */
+void wakubinryo_write_qdimacs(const uint32_t *nodes, size_t nodes_len,
+                              const uint32_t *prefix, size_t prefix_len,
+                              const uint32_t *variables, size_t variables_len,
+                              uint8_t *text, size_t text_len,
+                              uint64_t answer[WAKUBINRYO_WRITE_ANSWER]);
 
 #ifdef __cplusplus
 }

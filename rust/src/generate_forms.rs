@@ -1,9 +1,9 @@
 //! Prenex forms to try: random ones, damaged ones, and the families of the
 //! benchmark. The same seed always gives the same forms.
 
+use crate::form_check::{HIGHEST_NAME, MOST_NODES};
 use crate::generate::{self, comparator_chain, deep_nest, Order, Rng};
 use crate::reference::WIDTH;
-use crate::write_qcir::{HIGHEST_NAME, MOST_NODES};
 use crate::{prenex_form, PrenexForm};
 
 /// What a random form is made of.
@@ -412,7 +412,8 @@ fn long_prefix(blocks: usize, size: usize) -> PrenexForm {
 #[cfg(test)]
 mod tests {
     use super::*;
-    use crate::write_qcir::{append, text_without_limits, Limits};
+    use crate::form_check::Limits;
+    use crate::write_qcir::{append, text_without_limits};
     use std::collections::BTreeSet;
 
     #[test]

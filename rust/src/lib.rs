@@ -1,9 +1,10 @@
 //! A safe wrapper over the static libraries wakubinryo_tables and
 //! wakubinryo_qcir, and what its tests and its benchmarks need: an
-//! implementation in plain Rust ([`reference`] and, for QCIR files, [`qcir`] and
-//! [`write_qcir`](mod@write_qcir)), reading without limits ([`read_back`]), truth
-//! values by brute force ([`brute`], [`circuit`]) and tables, files and forms to
-//! try ([`generate`], [`generate_qcir`], [`generate_forms`]).
+//! implementation in plain Rust ([`reference`] and, for files, [`qcir`],
+//! [`write_qcir`](mod@write_qcir) and [`write_qdimacs`](mod@write_qdimacs)),
+//! reading without limits ([`read_back`]), truth values by brute force
+//! ([`brute`], [`circuit`], [`qdimacs`]) and tables, files and forms to try
+//! ([`generate`], [`generate_qcir`], [`generate_forms`]).
 //!
 //! A formula table is a slice of words, four to a node, and a list of variable
 //! numbers. See `include/wakubinryo.h` for what each call promises.
@@ -12,15 +13,18 @@ pub mod answer;
 pub mod brute;
 pub mod circuit;
 pub mod comparators;
+pub mod form_check;
 pub mod generate;
 pub mod generate_forms;
 pub mod generate_qcir;
 pub mod qcir;
+pub mod qdimacs;
 pub mod read_back;
 pub mod reference;
 pub mod timing;
 pub mod words;
 pub mod write_qcir;
+pub mod write_qdimacs;
 
 pub use answer::{CountAnswer, Reason, Refusal, Sizes, SizesAnswer};
 pub use answer::{TextAnswer, Written, WrittenAnswer};
@@ -86,12 +90,23 @@ mod ffi {
             text_len: usize,
             answer: *mut u64,
         );
+        pub fn wakubinryo_write_qdimacs(
+            nodes: *const u32,
+            nodes_len: usize,
+            prefix: *const u32,
+            prefix_len: usize,
+            variables: *const u32,
+            variables_len: usize,
+            text: *mut u8,
+            text_len: usize,
+            answer: *mut u64,
+        );
     }
 }
 
 /// The calls as they are, with their answers as words.
 pub mod raw {
-    use super::{ffi, CountAnswer, SizesAnswer, TextAnswer, WrittenAnswer};
+    use super::{ffi, CountAnswer, PrenexForm, SizesAnswer, TextAnswer, WrittenAnswer};
 
     pub fn measure(words: &[u32], list: &[u32], answer: &mut SizesAnswer) {
         // SAFETY: the call reads the two slices and writes the answer, no more.
@@ -188,27 +203,42 @@ pub mod raw {
         }
     }
 
-    pub fn write_qcir(
-        nodes: &[u32],
-        prefix: &[u32],
-        variables: &[u32],
-        text: &mut [u8],
-        answer: &mut TextAnswer,
-    ) {
+    /// A call that writes a form as a text.
+    type WriteText = unsafe extern "C" fn(
+        *const u32,
+        usize,
+        *const u32,
+        usize,
+        *const u32,
+        usize,
+        *mut u8,
+        usize,
+        *mut u64,
+    );
+
+    fn write_text(call: WriteText, form: &PrenexForm, text: &mut [u8], answer: &mut TextAnswer) {
         // SAFETY: as above.
         unsafe {
-            ffi::wakubinryo_write_qcir(
-                nodes.as_ptr(),
-                nodes.len(),
-                prefix.as_ptr(),
-                prefix.len(),
-                variables.as_ptr(),
-                variables.len(),
+            call(
+                form.nodes.as_ptr(),
+                form.nodes.len(),
+                form.prefix.as_ptr(),
+                form.prefix.len(),
+                form.variables.as_ptr(),
+                form.variables.len(),
                 text.as_mut_ptr(),
                 text.len(),
                 answer.as_mut_ptr(),
             )
         }
+    }
+
+    pub fn write_qcir(form: &PrenexForm, text: &mut [u8], answer: &mut TextAnswer) {
+        write_text(ffi::wakubinryo_write_qcir, form, text, answer)
+    }
+
+    pub fn write_qdimacs(form: &PrenexForm, text: &mut [u8], answer: &mut TextAnswer) {
+        write_text(ffi::wakubinryo_write_qdimacs, form, text, answer)
     }
 }
 
@@ -352,34 +382,62 @@ pub fn read_qcir(text: &[u8]) -> Result<Table, Refusal> {
     Ok(table)
 }
 
-/// Writes a prenex form as a QCIR file into a buffer and says how many bytes
-/// it takes.
-pub fn write_qcir(form: &PrenexForm, text: &mut [u8]) -> Result<usize, Refusal> {
-    let mut answer = TextAnswer::default();
-    raw::write_qcir(
-        &form.nodes,
-        &form.prefix,
-        &form.variables,
-        text,
-        &mut answer,
-    );
+/// A writing call that has been answered: how many bytes the text takes.
+fn written(answer: TextAnswer) -> Result<usize, Refusal> {
     match answer {
         [0, _, bytes] => Ok(bytes as usize),
         [number, position, _] => Err(refusal(number as u32, position, [0, 0])),
     }
 }
 
-/// Bytes enough for the file of any form with so many nodes, prefix blocks and
-/// variables.
+/// Writes a prenex form as a QCIR file into a buffer and says how many bytes
+/// it takes.
+pub fn write_qcir(form: &PrenexForm, text: &mut [u8]) -> Result<usize, Refusal> {
+    let mut answer = TextAnswer::default();
+    raw::write_qcir(form, text, &mut answer);
+    written(answer)
+}
+
+/// Writes a prenex form as a QDIMACS file into a buffer and says how many bytes
+/// it takes.
+pub fn write_qdimacs(form: &PrenexForm, text: &mut [u8]) -> Result<usize, Refusal> {
+    let mut answer = TextAnswer::default();
+    raw::write_qdimacs(form, text, &mut answer);
+    written(answer)
+}
+
+/// Bytes enough for the QCIR file of any form with so many nodes, prefix blocks
+/// and variables.
 pub const fn qcir_room(nodes: usize, blocks: usize, entries: usize) -> usize {
     31 * (nodes + 1) + 7 * blocks + 8 * entries
 }
 
-/// Allocates room and writes a prenex form as a QCIR file.
-pub fn qcir_text(form: &PrenexForm) -> Result<Vec<u8>, Refusal> {
+/// Bytes enough for the QDIMACS file of any form with so many nodes, prefix
+/// blocks and variables.
+pub const fn qdimacs_room(nodes: usize, blocks: usize, entries: usize) -> usize {
+    64 * (nodes + 1) + 4 * blocks + 6 * entries
+}
+
+/// The text that a call writes for a form into a buffer with this room.
+fn text_of(
+    form: &PrenexForm,
+    room: fn(usize, usize, usize) -> usize,
+    write: fn(&PrenexForm, &mut [u8]) -> Result<usize, Refusal>,
+) -> Result<Vec<u8>, Refusal> {
     let (nodes, blocks) = (form.nodes.len() / WIDTH, form.prefix.len() / 3);
-    let mut text = vec![0; qcir_room(nodes, blocks, form.variables.len())];
-    let bytes = write_qcir(form, &mut text)?;
+    let mut text = vec![0; room(nodes, blocks, form.variables.len())];
+    let bytes = write(form, &mut text)?;
     text.truncate(bytes);
     Ok(text)
+}
+
+/// Allocates room and writes a prenex form as a QCIR file.
+pub fn qcir_text(form: &PrenexForm) -> Result<Vec<u8>, Refusal> {
+    text_of(form, qcir_room, write_qcir)
+}
+
+/// Allocates room and writes a prenex form as a QDIMACS file: true exactly if
+/// some valuation of the form's free variables makes the form true.
+pub fn qdimacs_text(form: &PrenexForm) -> Result<Vec<u8>, Refusal> {
+    text_of(form, qdimacs_room, write_qdimacs)
 }

@@ -1,6 +1,6 @@
-//! What the command-line tool says in words. The Rattle programs measure_qcir
-//! and lift_qcir say the same (crates/command_line); tests/words.rs runs them
-//! beside the tool.
+//! What the command-line tool says in words. The Rattle programs measure_qcir,
+//! lift_qcir and lift_qdimacs say the same (crates/command_line); tests/words.rs
+//! runs them beside the tool.
 
 use crate::answer::{Reason, Refusal, Sizes};
 use crate::qcir::LONGEST;

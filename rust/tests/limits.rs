@@ -2,13 +2,16 @@
 
 mod common;
 
-use common::{assert_free_variables, assert_same, each, library_measure, some_nodes};
+use common::forms::FORMATS;
+use common::{assert_free_variables, assert_same, each, library_measure, some_nodes, Case};
 use common::{reference_form, reference_free_variables, reference_left, Prefill, TOO_SHORT};
 use common::{LIBRARY_FREE_VARIABLES, LIBRARY_LIFT, LIBRARY_REMOVE};
 use std::thread;
-use wakubinryo::answer::{count_words, size_words};
+use wakubinryo::answer::{count_words, size_words, text_words};
+use wakubinryo::form_check::MOST_NODES;
 use wakubinryo::generate::{accepted, empty_nest, largest_form, most_free_variables};
 use wakubinryo::generate::{every_fourth_empty, parity_chain, Profile, Table};
+use wakubinryo::generate_forms::FAMILIES;
 use wakubinryo::{PrenexForm, Sizes, WIDTH};
 
 #[test]
@@ -77,12 +80,14 @@ fn one_free_variable_in_two_nodes() {
     assert!(full > 300, "only {full} with as many as there may be");
 }
 
-/// The stack that include/wakubinryo.h says is enough for a call.
+/// The stack that include/wakubinryo.h says is enough for a call, and, with what
+/// its thread needs besides, for a call that writes a text.
 const STACK: usize = 256 * 1024;
+const STACK_OF_WRITING: usize = 1024 * 1024 + 64 * 1024;
 
-/// Makes calls in a thread with no more stack than that.
-fn with_little_stack<T: Send + 'static>(calls: impl FnOnce() -> T + Send + 'static) -> T {
-    let thread = thread::Builder::new().stack_size(STACK).spawn(calls);
+/// Makes calls in a thread with no more stack than this.
+fn with_stack<T: Send + 'static>(stack: usize, calls: impl FnOnce() -> T + Send + 'static) -> T {
+    let thread = thread::Builder::new().stack_size(stack).spawn(calls);
     thread.expect("a thread").join().expect("no panic")
 }
 
@@ -93,7 +98,7 @@ fn stack_of_the_calls() {
         let (count, expected_names) = reference_free_variables(&table);
         let mut form = PrenexForm::with_sizes(&sizes.expect("accepted"));
         let mut names = vec![0; expected_names.len()];
-        let given = with_little_stack(move || {
+        let given = with_stack(STACK, move || {
             let measured = library_measure(&table);
             let PrenexForm {
                 nodes,
@@ -120,10 +125,27 @@ fn stack_of_removing_empty_blocks() {
         let expected = reference_left(&table).expect("not refused");
         let count = count_words(Ok((expected.len() / WIDTH) as u32));
         let mut nodes = vec![0; expected.len()];
-        let given = with_little_stack(move || {
+        let given = with_stack(STACK, move || {
             let left = LIBRARY_REMOVE(&table, &mut nodes);
             (left, nodes)
         });
         assert!(given == (count, expected));
+    }
+}
+
+#[test]
+fn stack_of_writing() {
+    for format in FORMATS {
+        for (name, family) in FAMILIES {
+            let _case = Case(name, 0);
+            let form = family(MOST_NODES);
+            let expected = (format.reference_text)(&form).expect("written");
+            let mut text = vec![0; expected.len()];
+            let given = with_stack(STACK_OF_WRITING, move || {
+                let answer = (format.library)(&form, &mut text);
+                (answer, text)
+            });
+            assert!(given == (text_words(Ok(expected.len())), expected));
+        }
     }
 }

@@ -26,8 +26,13 @@ fn example() -> String {
     path.to_str().expect("a path in UTF-8").into()
 }
 
+fn lifted_to(format: &str) -> String {
+    let name = format!("examples/comparators.lifted.{format}");
+    fs::read_to_string(repository(&name)).expect("the example")
+}
+
 fn lifted() -> String {
-    fs::read_to_string(repository("examples/comparators.lifted.qcir")).expect("the example")
+    lifted_to("qcir")
 }
 
 #[track_caller]
@@ -61,7 +66,15 @@ fn help_and_version() {
         let left = run(tool(), arguments, b"");
         assert_eq!((left.status, &*left.error), (Some(0), ""));
         assert!(left.output.starts_with("usage: wakubinryo "));
-        for word in ["measure", "lift", "-o", "--version", "Exit status"] {
+        for word in [
+            "measure",
+            "lift",
+            "--format qcir",
+            "--format qdimacs",
+            "-o",
+            "--version",
+            "Exit status",
+        ] {
             assert!(left.output.contains(word), "help without {word}");
         }
     }
@@ -80,6 +93,27 @@ fn file_or_standard_input() {
         assert_done(run(tool(), &[command, "-"], &text), output);
         assert_done(run(tool(), &[command, "-o", "-", "-"], &text), output);
     }
+}
+
+#[test]
+fn formats() {
+    for format in ["qcir", "qdimacs"] {
+        let output = lifted_to(format);
+        for arguments in [
+            ["lift", "--format", format, &example()],
+            ["lift", &example(), "--format", format],
+            ["--format", format, "lift", &example()],
+        ] {
+            assert_done(run(tool(), &arguments, b""), &output);
+        }
+    }
+    let folder = folder("formats");
+    let out = folder.join("out.qdimacs");
+    let name = out.to_str().expect("UTF-8");
+    let arguments = ["lift", "--format", "qdimacs", &example(), "-o", name];
+    assert_done(run(tool(), &arguments, b""), "");
+    let written = fs::read_to_string(&out).expect("written");
+    assert_eq!(written, lifted_to("qdimacs"));
 }
 
 /// What was lifted is read again; none of its gates is quantified.
@@ -149,14 +183,16 @@ fn refusals() {
     let (file, out) = (folder.join("in"), folder.join("out"));
     for (text, error) in refused() {
         fs::write(&file, &text).expect("written");
+        let name = file.to_str().expect("UTF-8");
         for command in ["measure", "lift"] {
-            let name = file.to_str().expect("UTF-8");
             assert_failed(run(tool(), &[command, name], b""), 1, error);
             assert_failed(run(tool(), &[command], text.as_bytes()), 1, error);
             let out = out.to_str().expect("UTF-8");
             let left = run(tool(), &[command, name, "-o", out], b"");
             assert_failed(left, 1, error);
         }
+        let left = run(tool(), &["lift", "--format", "qdimacs", name], b"");
+        assert_failed(left, 1, error);
     }
     assert_eq!(files(&folder), ["in"]);
     // A file that stands is left as it is.
@@ -254,6 +290,13 @@ fn bad_usage() {
         (&["lift", "a", "b"], "more than one file: b"),
         (&["lift", "a", "-o"], "-o without a file"),
         (&["lift", "a", "-o", "b", "-o", "c"], "-o twice"),
+        (&["lift", "--format"], "--format without a name"),
+        (&["lift", "--format", "cnf", "a"], "unknown format cnf"),
+        (
+            &["lift", "--format", "qcir", "--format", "qcir"],
+            "--format twice",
+        ),
+        (&["measure", "--format", "qcir"], "--format without lift"),
     ];
     for (arguments, words) in cases {
         let left = run(tool(), arguments, b"");

@@ -1,5 +1,6 @@
-//! The Rattle programs measure_qcir and lift_qcir say what the tool says. They
-//! are in ../target/bin once `rt check measure_qcir lift_qcir` has been run.
+//! The Rattle programs measure_qcir, lift_qcir and lift_qdimacs say what the tool
+//! says. They are in ../target/bin once `rt check measure_qcir lift_qcir
+//! lift_qdimacs` has been run.
 
 mod programs;
 
@@ -11,16 +12,34 @@ fn tool() -> &'static Path {
     Path::new(env!("CARGO_BIN_EXE_wakubinryo"))
 }
 
-/// The tool's commands, and the programs that do the same.
-fn programs() -> [(&'static str, PathBuf); 2] {
-    ["measure", "lift"].map(|command| {
-        let program = repository(&format!("target/bin/{command}_qcir"));
+/// A Rattle program, and the tool's arguments before the file's name that ask for
+/// the same.
+struct Program {
+    path: PathBuf,
+    arguments: &'static [&'static str],
+}
+
+impl Program {
+    /// What the tool says of a file.
+    fn tool_on(&self, name: &str) -> Left {
+        run(tool(), &[self.arguments, &[name]].concat(), b"")
+    }
+}
+
+fn programs() -> [Program; 3] {
+    let programs: [(&str, &[&str]); 3] = [
+        ("measure_qcir", &["measure"]),
+        ("lift_qcir", &["lift"]),
+        ("lift_qdimacs", &["lift", "--format", "qdimacs"]),
+    ];
+    programs.map(|(name, arguments)| {
+        let path = repository("target/bin").join(name);
         assert!(
-            program.is_file(),
-            "{} is missing: run `rt check {command}_qcir` in the repository's root",
-            program.display()
+            path.is_file(),
+            "{} is missing: run `rt check {name}` in the repository's root",
+            path.display()
         );
-        (command, program)
+        Program { path, arguments }
     })
 }
 
@@ -36,26 +55,32 @@ fn refusals_agree() {
     for (text, error) in refused() {
         fs::write(&file, &text).expect("written");
         let name = file.to_str().expect("UTF-8");
-        for (command, program) in programs() {
-            let expected = said(run(tool(), &[command, name], b""));
+        for program in programs() {
+            let expected = said(program.tool_on(name));
             assert_eq!(expected, (String::new(), error.to_string()));
-            assert_eq!(said(run(&program, &[name], b"")), expected);
-            assert_eq!(said(run(&program, &["-"], text.as_bytes())), expected);
+            let path = &program.path;
+            assert_eq!(said(run(path, &[name], b"")), expected);
+            assert_eq!(said(run(path, &["-"], text.as_bytes())), expected);
             let nothing: [&str; 0] = [];
-            assert_eq!(said(run(&program, &nothing, text.as_bytes())), expected);
+            assert_eq!(said(run(path, &nothing, text.as_bytes())), expected);
         }
     }
 }
 
 #[test]
 fn answers_agree() {
-    for example in ["adder_box", "comparators", "comparators.lifted"] {
+    for example in [
+        "adder_box",
+        "comparators",
+        "comparators.lifted",
+        "comparators_unfillable",
+    ] {
         let file = repository(&format!("examples/{example}.qcir"));
         let name = file.to_str().expect("UTF-8");
-        for (command, program) in programs() {
-            let expected = run(tool(), &[command, name], b"");
+        for program in programs() {
+            let expected = program.tool_on(name);
             assert_eq!(expected.status, Some(0));
-            assert_eq!(said(run(&program, &[name], b"")), said(expected));
+            assert_eq!(said(run(&program.path, &[name], b"")), said(expected));
         }
     }
 }
@@ -66,10 +91,10 @@ fn file_errors_agree() {
     let missing = folder.join("missing");
     for file in [&folder, &missing] {
         let name = file.to_str().expect("UTF-8");
-        for (command, program) in programs() {
-            let expected = run(tool(), &[command, name], b"");
+        for program in programs() {
+            let expected = program.tool_on(name);
             assert_eq!(expected.status, Some(2));
-            assert_eq!(said(run(&program, &[name], b"")), said(expected));
+            assert_eq!(said(run(&program.path, &[name], b"")), said(expected));
         }
     }
 }

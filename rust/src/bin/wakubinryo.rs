@@ -1,5 +1,5 @@
-//! The command-line tool: measures or lifts a QCIR file. It calls the library
-//! and holds no rule of its own.
+//! The command-line tool: measures a QCIR file, or lifts it to a QCIR or a
+//! QDIMACS file. It calls the library and holds no rule of its own.
 
 use std::ffi::{OsStr, OsString};
 use std::fs::{self, File, OpenOptions};
@@ -8,11 +8,12 @@ use std::path::{Path, PathBuf};
 use std::process::{self, ExitCode};
 use wakubinryo::qcir::LONGEST;
 use wakubinryo::words::{self, STANDARD_INPUT, STANDARD_OUTPUT};
-use wakubinryo::{measure, prenex_form, qcir_text, read_qcir, Refusal};
+use wakubinryo::{measure, prenex_form, qcir_text, qdimacs_text, read_qcir};
+use wakubinryo::{PrenexForm, Refusal};
 
 const USAGE: &str = "\
 usage: wakubinryo measure [FILE] [-o OUT]
-       wakubinryo lift [FILE] [-o OUT]
+       wakubinryo lift [--format qcir|qdimacs] [FILE] [-o OUT]
        wakubinryo --help | --version
 ";
 
@@ -20,8 +21,14 @@ const HELP: &str = "
 Reads a QCIR file and moves all its quantifiers into a prefix.
 
   measure    print the sizes of the file's table and of its prenex form
-  lift       print a prenex QCIR file with the same truth value
+  lift       print its prenex form
 
+  --format qcir
+             print a prenex QCIR file with the same truth value; so too if there
+             is no --format
+  --format qdimacs
+             print clauses that are true exactly if some valuation of the free
+             variables makes the file true
   FILE       the file to read; standard input if it is - or left out
   -o OUT     write to the file OUT, whole or not at all; standard output if OUT
              is - or there is no -o
@@ -47,10 +54,13 @@ enum Failure {
     Unread,
 }
 
+/// What writes a form in a format.
+type Format = fn(&PrenexForm) -> Result<Vec<u8>, Refusal>;
+
 #[derive(Clone, Copy)]
 enum Command {
     Measure,
-    Lift,
+    Lift(Format),
 }
 
 /// What the arguments ask for. A name that is left out is `-`.
@@ -85,7 +95,7 @@ fn run(arguments: impl Iterator<Item = OsString>) -> Result<(), Failure> {
             let text = read(&request.input)?;
             let answer = match request.command {
                 Command::Measure => measured(&text),
-                Command::Lift => lifted(&text),
+                Command::Lift(format) => lifted(&text, format),
             };
             let answer = answer.map_err(|r| Failure::Refused(words::refused(&r, &text)))?;
             write(&request.output, &answer)
@@ -99,14 +109,15 @@ fn measured(text: &[u8]) -> Result<Vec<u8>, Refusal> {
     Ok(words::figures(&sizes).into_bytes())
 }
 
-fn lifted(text: &[u8]) -> Result<Vec<u8>, Refusal> {
+fn lifted(text: &[u8], format: Format) -> Result<Vec<u8>, Refusal> {
     let table = read_qcir(text)?;
-    qcir_text(&prenex_form(&table.words, &table.list)?)
+    format(&prenex_form(&table.words, &table.list)?)
 }
 
 fn parse(mut arguments: impl Iterator<Item = OsString>) -> Result<Asked, Failure> {
     let wrong = |words: String| Err(Failure::Usage(words));
     let mut command = None;
+    let mut format: Option<Format> = None;
     let mut input = None;
     let mut output = None;
     let mut options = true;
@@ -122,16 +133,28 @@ fn parse(mut arguments: impl Iterator<Item = OsString>) -> Result<Asked, Failure
                 Some(_) if output.is_some() => return wrong("-o twice".into()),
                 name => output = name,
             },
+            ("--format", true) => match arguments.next() {
+                None => return wrong("--format without a name".into()),
+                Some(_) if format.is_some() => return wrong("--format twice".into()),
+                Some(name) if name == "qcir" => format = Some(qcir_text),
+                Some(name) if name == "qdimacs" => format = Some(qdimacs_text),
+                Some(name) => {
+                    return wrong(format!("unknown format {}", name.to_string_lossy()));
+                }
+            },
             (_, true) => return wrong(format!("unknown option {shown}")),
             ("measure", _) if command.is_none() => command = Some(Command::Measure),
-            ("lift", _) if command.is_none() => command = Some(Command::Lift),
+            ("lift", _) if command.is_none() => command = Some(Command::Lift(qcir_text)),
             _ if command.is_none() => return wrong(format!("unknown command {shown}")),
             _ if input.is_some() => return wrong(format!("more than one file: {shown}")),
             _ => input = Some(argument),
         }
     }
-    let Some(command) = command else {
-        return wrong("no command".into());
+    let command = match (command, format) {
+        (None, _) => return wrong("no command".into()),
+        (Some(Command::Measure), Some(_)) => return wrong("--format without lift".into()),
+        (Some(_), Some(format)) => Command::Lift(format),
+        (Some(command), None) => command,
     };
     Ok(Asked::Run(Request {
         command,

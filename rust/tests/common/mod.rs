@@ -1,19 +1,19 @@
-//! Comparing the library with the reference, table by table, file by file and
-//! form by form.
+//! Comparing the library with the reference, table by table and file by file;
+//! form by form in [`forms`].
 
 #![allow(dead_code)]
 
+pub mod forms;
 pub mod vectors;
 
 use std::fmt::Display;
-use wakubinryo::answer::{count_words, size_words, text_words, written_words};
+use wakubinryo::answer::{count_words, size_words, written_words};
 use wakubinryo::generate::{Rng, Table};
 use wakubinryo::reference::{LIMIT, WIDTH};
-use wakubinryo::write_qcir::{self, Limits};
 use wakubinryo::{free_variables, lift, measure, prenex_form, qcir, raw, reference};
-use wakubinryo::{qcir_room, qcir_text, read_qcir, read_qcir_into};
+use wakubinryo::{read_qcir, read_qcir_into};
 use wakubinryo::{remove_empty_blocks, without_empty_blocks};
-use wakubinryo::{CountAnswer, SizesAnswer, TextAnswer, WrittenAnswer};
+use wakubinryo::{CountAnswer, SizesAnswer, WrittenAnswer};
 use wakubinryo::{PrenexForm, Reason, Refusal, Sizes, Written};
 
 /// Words that buffers hold before a call.
@@ -601,99 +601,4 @@ pub fn assert_same_reading(text: &[u8], prefill: Prefill, spare: usize) -> Resul
     let [n, q] = [table.words.len() / WIDTH, table.list.len()];
     assert_eq!([sizes.n as usize, sizes.q as usize], [n, q]);
     Ok(table)
-}
-
-/// A writing call with its answer as words: the library's own, the wrapper's,
-/// or the reference's.
-pub type Write = fn(&PrenexForm, &mut [u8]) -> TextAnswer;
-
-pub const LIBRARY_WRITE: Write = |form, text| {
-    let mut answer = TextAnswer::default().map(|_| UNANSWERED.into());
-    let PrenexForm {
-        nodes,
-        prefix,
-        variables,
-    } = form;
-    raw::write_qcir(nodes, prefix, variables, text, &mut answer);
-    answer
-};
-
-const WRAPPED_WRITE: Write = |form, text| text_words(wakubinryo::write_qcir(form, text));
-
-const REFERENCE_WRITE: Write = |form, text| text_words(write_qcir::write(form, text));
-
-/// The file that the reference writes for a form.
-pub fn reference_text(form: &PrenexForm) -> Result<Vec<u8>, Refusal> {
-    let mut text = Vec::new();
-    write_qcir::append(form, Limits::LIBRARY, &mut text)?;
-    Ok(text)
-}
-
-/// Writes into a buffer of this length and holds answer and buffer to what is
-/// expected.
-pub fn assert_write(
-    write: Write,
-    form: &PrenexForm,
-    len: usize,
-    prefill: Prefill,
-    expected: Result<&[u8], Refusal>,
-) {
-    let mut text = Lent::new(len, prefill, 0);
-    let given = write(form, text.lend());
-    let answer = text_words(expected.map(<[u8]>::len));
-    assert_eq!(given, answer, "answer of write_qcir, {len} bytes");
-    text.assert_holds(expected.unwrap_or(&[]), "text");
-}
-
-/// Holds a writing call to given results, with buffers that are exact, longer
-/// by `spare` and, for a form that is written, too short.
-fn assert_writes(
-    write: Write,
-    form: &PrenexForm,
-    expected: Result<&[u8], Refusal>,
-    prefill: Prefill,
-    spare: usize,
-) {
-    let exact = expected.map_or(0, <[u8]>::len);
-    for len in [exact, exact + spare] {
-        assert_write(write, form, len, prefill, expected);
-    }
-    if expected.is_ok() {
-        for len in [0, exact - 1, exact - 1 - spare % exact] {
-            assert_write(write, form, len, prefill, Err(TOO_SHORT));
-        }
-    }
-}
-
-/// Holds the library, its wrapper and the reference to given results.
-pub fn assert_writing(
-    form: &PrenexForm,
-    expected: Result<&[u8], Refusal>,
-    prefill: Prefill,
-    spare: usize,
-) {
-    for write in [LIBRARY_WRITE, WRAPPED_WRITE, REFERENCE_WRITE] {
-        assert_writes(write, form, expected, prefill, spare);
-    }
-    let wrapped = qcir_text(form);
-    assert_eq!(wrapped.as_deref(), expected.as_ref().map(|text| &**text));
-}
-
-/// Holds the library to the reference's results, and a file's length to the
-/// room that is said to be enough.
-pub fn assert_same_writing(
-    form: &PrenexForm,
-    prefill: Prefill,
-    spare: usize,
-) -> Result<Vec<u8>, Refusal> {
-    let text = reference_text(form);
-    let before = form.clone();
-    let expected = text.as_deref().map_err(|&refusal| refusal);
-    assert_writes(LIBRARY_WRITE, form, expected, prefill, spare);
-    assert!(*form == before, "the form has changed");
-    if let Ok(text) = &text {
-        let (nodes, blocks) = (form.nodes.len() / WIDTH, form.prefix.len() / 3);
-        assert!(text.len() <= qcir_room(nodes, blocks, form.variables.len()));
-    }
-    text
 }
