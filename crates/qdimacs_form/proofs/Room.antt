@@ -51,7 +51,7 @@ unfolding digit
 digit-le true = omega arith
 digit-le false = omega arith
 
-sum-digits : (p : ℕ → Bool) (n : ℕ) → sum (λ i. digit (p i)) n ≤ n
+pub sum-digits : (p : ℕ → Bool) (n : ℕ) → sum (λ i. digit (p i)) n ≤ n
 unfolding sum
 sum-digits p zero = omega arith
 sum-digits p (suc n) = omega (arith, sum-digits p n, digit-le (p n))

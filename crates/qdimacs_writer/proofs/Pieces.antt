@@ -1,7 +1,7 @@
 -- The text of a form by what is found of it before: header, quantifier lines, the gates' clauses, and those of the root.
 -- Assumes nothing.
 use mathlib.Core.Path.{_≡_, refl, sym, _∙_, ap, fun-ext}
-use mathlib.Core.Bool.{Bool, true, false}
+use mathlib.Core.Bool.{true, false}
 use mathlib.Core.List.{List, [], _∷_, _++_, flatMap, append-assoc}
 use Prim.Native.Nat.{ℕ, zero, suc, _+_, _-_, _≤_, _<_}
 use native.Mathlib.Omega.{arith}
@@ -28,6 +28,7 @@ use Rattle.qdimacs.specs.Problem.{Clause}
 use Rattle.qdimacs.proofs.Lines.{problem-text}
 use Rattle.qdimacs_form.specs.Clauses.{isGateNode, hasGate, gatesBelow, firstGate, gateVariable, variableOf, hasValue, gateClauses, writtenClauses, nodeClauses, matrixClauses, closedBlocks, filledBlocks, joinedBlocks, matrixProblem, formProblem, clausesText}
 use Rattle.qdimacs_form.proofs.Gates.{root-gate, variable-gate, variable-name, gate-last, gate-root, variable-below}
+use Rattle.qdimacs_form.proofs.Room.{sum-digits}
 use Rattle.qdimacs_words.specs.Words.{Loose}
 use Rattle.qdimacs_words.proofs.Loose.{put-loose, loose-then, loose-put}
 use Rattle.qdimacs_numbers.proofs.Numbers.{name-under, operand-under}
@@ -46,11 +47,6 @@ abbrev pub linesOfBlocks : List ℕ → List ℕ → List ℕ → Outline → Li
 linesOfBlocks ps xs names o =
     blocksText (joinedBlocks (filledBlocks (closedBlocks (flaggedBelow names (suc (o .highest))) (blocksOf ps xs) (numbers (o .first) (o .next - o .first)))))
 
-digit-low : (b : Bool) → digit b ≤ 1
-unfolding digit
-digit-low true = omega arith
-digit-low false = omega arith
-
 -- The lines of clauses, part by part.
 lines-append : (cs ds : List Clause) → linesText (cs ++ ds) ≡ linesText cs ++ linesText ds
 unfolding linesText
@@ -60,12 +56,6 @@ lines-upTo : (g : ℕ → List Clause) (n : ℕ) → linesText (upTo g n) ≡ up
 unfolding upTo linesText flatMap
 lines-upTo g zero = refl
 lines-upTo g (suc n) = lines-append (upTo g n) (g n) ∙ ap (λ ls. ls ++ linesText (g n)) (lines-upTo g n)
-
--- At most each node has a gate.
-gates-few : (t : Table) (n : ℕ) → gatesBelow t n ≤ n
-unfolding gatesBelow sum
-gates-few t zero = omega arith
-gates-few t (suc n) = omega (arith, gates-few t n, digit-low (hasGate t n))
 
 -- A node that has operands, and is no block, has a gate.
 uses-gate : (a : ℕ) (nd : Node) → isBlock nd ≡ false → mem a (operands nd) ≡ true → isGateNode nd ≡ true
@@ -136,8 +126,8 @@ module _ (ns ps xs names words : List ℕ) (o : Outline) (h : Outlined ns ps xs 
   gates-follow = omega (arith, next-is)
 
   pub next-low : o .next ≤ 118784
-  unfolding tableOf
-  next-low = omega (arith, next-is, gates-few t (nodeCount ns), h .form .matrix .nodes-limit, h .low)
+  unfolding tableOf gatesBelow
+  next-low = omega (arith, next-is, sum-digits (hasGate t) (nodeCount ns), h .form .matrix .nodes-limit, h .low)
 
   writable : (i : ℕ) → i < t .size → variables i < numberBound
   unfolding highestVariable

@@ -23,7 +23,7 @@ use refusals::BUFFER_TOO_SHORT;
 // Writes a form as a QDIMACS text, or refuses it by 14 or 15, or the buffer by 9.
 //
 // The contract rules out a writer that numbers gates from the prefix's names alone, one that refuses a short
-// buffer before the form's prefix is looked at, and one that takes a buffer a byte too short.
+// buffer before the form's prefix is looked at, and one that writes bytes before the room is known.
 pub fn write(nodes: &[u32], prefix: &[u32], variables: &[u32], text: &mut [u8]) -> Answer
     ensures outcome { λ r.
         ⌜ after r (now (text .exit))
