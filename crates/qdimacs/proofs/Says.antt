@@ -61,7 +61,7 @@ every-map test f [] h = refl
 every-map test f (x ∷ xs) h = and-both _ _ (h x) (every-map test f xs h)
 
 -- and of two lists.
-every-append : {A : Type 0} (test : A → Bool) (xs ys : List A) → every test xs ≡ true → every test ys ≡ true → every test (xs ++ ys) ≡ true
+pub every-append : {A : Type 0} (test : A → Bool) (xs ys : List A) → every test xs ≡ true → every test ys ≡ true → every test (xs ++ ys) ≡ true
 unfolding every
 every-append test [] ys h k = k
 every-append test (x ∷ xs) ys h k = and-both (test x) _ (and-left _ _ h) (every-append test xs ys (and-right (test x) _ h) k)

@@ -20,12 +20,13 @@ use Rattle.qdimacs_form.proofs.Shapes.{two-written, same-written}
 use Rattle.qdimacs_words.specs.Words.{literalText}
 use Rattle.qdimacs_rows.specs.Rows.{linesText}
 use Rattle.qdimacs_clauses.specs.Held.{WordsHeld, clausesAt, rootText}
-use Rattle.qdimacs_rows.proofs.Lines.{plain-length, minus-length, none-size, one-sizes, two-sizes}
+use Rattle.qdimacs_words.proofs.Pieces.{positive-length}
+use Rattle.qdimacs_rows.proofs.Lines.{minus-length, none-size, one-sizes, two-sizes}
 use Rattle.qdimacs_clauses.proofs.Nodes.{constant-clauses, operator-clauses, negation-clauses, root-clauses, left-above, right-above}
 
 -- A literal and the space behind it are two bytes at least, and a clause four.
 value-long : (g : ℕ) (c : Bool) → 2 ≤ length (literalText (hasValue g c))
-value-long g true = omega (arith, plain-length g, some-digit g)
+value-long g true = omega (arith, positive-length g, some-digit g)
 value-long g false = omega (arith, minus-length g, some-digit g)
 
 none-long : (g : ℕ) (c : Bool) → 4 ≤ length (linesText (noOperand g c))

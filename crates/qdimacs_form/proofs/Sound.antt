@@ -2,7 +2,7 @@
 -- Assumes nothing.
 use mathlib.Core.Path.{_≡_, refl, ap}
 use mathlib.Core.Bool.{Bool, true, false, not, _&&_, xor}
-use mathlib.Core.List.{List, [], _∷_, _++_}
+use mathlib.Core.List.{List, [], _∷_}
 use Prim.Native.Nat.{ℕ, zero, suc, _-_, _<_}
 use native.Mathlib.Omega.{arith}
 use lib.Dec.{eqb}
@@ -13,6 +13,7 @@ use Rattle.lists.specs.Members.{mem, distinct}
 use Rattle.lists.specs.Parts.{upTo}
 use Rattle.formula.specs.Node.{Node, constant, variable, negation, operator, block, Table}
 use Rattle.qdimacs.specs.Problem.{Literal, Clause, clauseVariables, every}
+use Rattle.qdimacs.proofs.Says.{every-append}
 use Rattle.qdimacs_form.specs.Clauses.{hasGate, gateVariable, variableOf, hasValue, noOperand, oneOperand, twoOperands, gateClauses, sameLiteral, opposite, without, once, holdsOpposite, isTautology, writtenClauses, nodeClauses, matrixClauses, matrixProblem, formProblem}
 use Rattle.qdimacs_form.specs.Laws.{soundClause, ProblemClauses}
 
@@ -117,15 +118,10 @@ one-sound l = sound-once l [] refl
 -- What holds of every element of a list.
 
 module _ {A : Type 0} (p : A → Bool) where
-  pub every-append : (xs ys : List A) → every p xs ≡ true → every p ys ≡ true → every p (xs ++ ys) ≡ true
-  unfolding every
-  every-append [] ys h k = k
-  every-append (x ∷ xs) ys h k = and-both (p x) _ (and-left (p x) _ h) (every-append xs ys (and-right (p x) _ h) k)
-
   pub every-upTo : (g : ℕ → List A) (n : ℕ) → ((i : ℕ) → i < n → every p (g i) ≡ true) → every p (upTo g n) ≡ true
   unfolding every upTo
   every-upTo g zero h = refl
-  every-upTo g (suc n) h = every-append (upTo g n) (g n) (every-upTo g n (λ i l. h i (omega arith))) (h n (omega arith))
+  every-upTo g (suc n) h = every-append p (upTo g n) (g n) (every-upTo g n (λ i l. h i (omega arith))) (h n (omega arith))
 
 -- every clause of a list, by a property
 abbrev pub Each : (Clause → Type 0) → List Clause → Type 0

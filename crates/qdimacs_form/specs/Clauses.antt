@@ -149,7 +149,7 @@ unfoldable pub joinedBlocks : List Block → List Block
 joinedBlocks [] = []
 joinedBlocks (b ∷ bs) = joinedTo b (joinedBlocks bs)
 
--- The problem of a matrix under prefix blocks, with these open names. "The header gives the highest gate number and the exact clause count":
+-- The problem of a matrix under prefix blocks, with these open names; "the header gives the highest gate number and the exact clause count":
 -- the last gate is the root's.
 unfoldable pub matrixProblem : Table → List Block → List ℕ → Problem
 matrixProblem t bs open-names =

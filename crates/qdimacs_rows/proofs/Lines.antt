@@ -18,7 +18,7 @@ use Rattle.qdimacs.proofs.Lines.{clause-text}
 use Rattle.qdimacs_form.specs.Clauses.{falseAt, hasValue, noOperand, oneOperand, twoOperands}
 use Rattle.qdimacs_words.specs.declared.Piece.{Piece}
 use Rattle.qdimacs_words.specs.Words.{literalText, PieceHolds}
-use Rattle.qdimacs_words.proofs.Pieces.{positive-text, negative-text}
+use Rattle.qdimacs_words.proofs.Pieces.{negative-text, positive-length}
 use Rattle.qdimacs_rows.specs.Rows.{linesText}
 
 -- The end of a clause.
@@ -81,16 +81,13 @@ two-lines g f x y =
         → linesText ((falseAt x p ∷ falseAt y q ∷ hasValue g (f p q) ∷ []) ∷ cs) ≡ twoRow g f x y p q ++ linesText cs
     row p q cs = lines-next _ cs ∙ ap (λ l. l ++ linesText cs) (line-three (falseAt x p) (falseAt y q) (hasValue g (f p q)))
 
--- How long a literal is, with the space behind it.
-pub plain-length : (x : ℕ) → length (literalText (falseAt x false)) ≡ length (digits x) + 1
-plain-length x = ap length (positive-text x) ∙ length-append (digits x) (32 ∷ [])
-
+-- How long a literal with a minus sign is, with the space behind it.
 pub minus-length : (x : ℕ) → length (literalText (falseAt x true)) ≡ length (digits x) + 2
 minus-length x = ap length (negative-text x) ∙ omega (arith, length-append (digits x) (32 ∷ []))
 
 value-length : (g : ℕ) (c : Bool) → length (literalText (hasValue g c)) + digit c ≡ length (digits g) + 2
 unfolding digit
-value-length g true = omega (arith, plain-length g)
+value-length g true = omega (arith, positive-length g)
 value-length g false = omega (arith, minus-length g)
 
 -- A word that is 0 or 1 is a value's digit.
@@ -157,9 +154,9 @@ two-length table g x y h =
       value-length g (f false true),
       value-length g (f true false),
       value-length g (f true true),
-      plain-length x,
-      plain-length y,
-      plain-length g,
+      positive-length x,
+      positive-length y,
+      positive-length g,
       minus-length x,
       minus-length y,
     )
