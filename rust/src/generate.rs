@@ -91,17 +91,17 @@ impl Table {
         self.push([kind, first, numbers.len() as u32, body])
     }
 
-    fn blocks(&self) -> Vec<usize> {
+    pub(crate) fn blocks(&self) -> Vec<usize> {
         self.where_kind(|kind| kind == 5 || kind == 6)
     }
 
-    fn where_kind(&self, wanted: impl Fn(u32) -> bool) -> Vec<usize> {
+    pub(crate) fn where_kind(&self, wanted: impl Fn(u32) -> bool) -> Vec<usize> {
         (0..self.len())
             .filter(|&i| wanted(self.node(i)[0]))
             .collect()
     }
 
-    fn range(&self, block: usize) -> std::ops::Range<usize> {
+    pub(crate) fn range(&self, block: usize) -> std::ops::Range<usize> {
         let [_, first, count, _] = self.node(block);
         first as usize..(first + count) as usize
     }

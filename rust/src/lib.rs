@@ -3,18 +3,21 @@
 //! implementation in plain Rust ([`reference`] and, for files, [`qcir`],
 //! [`write_qcir`](mod@write_qcir) and [`write_qdimacs`](mod@write_qdimacs)),
 //! reading without limits ([`read_back`]), truth values by brute force
-//! ([`brute`], [`circuit`], [`qdimacs`]) and tables, files and forms to try
-//! ([`generate`], [`generate_qcir`], [`generate_forms`]).
+//! ([`brute`], [`circuit`], [`qdimacs`]), alpha-equivalence of two tables
+//! ([`alpha`]) and tables, pairs of them, files and forms to try ([`generate`],
+//! [`generate_alpha`], [`generate_qcir`], [`generate_forms`]).
 //!
 //! A formula table is a slice of words, four to a node, and a list of variable
 //! numbers. See `include/wakubinryo.h` for what each call promises.
 
+pub mod alpha;
 pub mod answer;
 pub mod brute;
 pub mod circuit;
 pub mod comparators;
 pub mod form_check;
 pub mod generate;
+pub mod generate_alpha;
 pub mod generate_forms;
 pub mod generate_qcir;
 pub mod qcir;

@@ -69,10 +69,13 @@ fn help_and_version() {
         for word in [
             "measure",
             "lift",
+            "same FILE FILE",
             "--format qcir",
             "--format qdimacs",
             "-o",
             "--version",
+            "the same truth value",
+            "highest variable numbers",
             "Exit status",
         ] {
             assert!(left.output.contains(word), "help without {word}");
@@ -177,6 +180,100 @@ fn output_file_that_stands() {
     assert_eq!(files(&folder), ["link", "out"]);
 }
 
+/// A file of one design with a free variable 9 and these numbers for its bound
+/// variable and its first gate.
+fn design(bound: u32, gate: u32) -> String {
+    let [and, block, or] = [gate, gate + 1, gate + 2];
+    format!(
+        "#QCIR-G14\nfree(9)\noutput({or})\n{and} = and({bound}, 9)\n\
+         {block} = exists({bound}; {and})\n{or} = or(-{block}, 9)\n"
+    )
+}
+
+/// Writes a text to a file of a folder and gives its name.
+fn written(folder: &Path, file: &str, text: &str) -> String {
+    let path = folder.join(file);
+    fs::write(&path, text).expect("written");
+    path.to_str().expect("UTF-8").into()
+}
+
+#[test]
+fn same_or_different() {
+    let folder = folder("same_or_different");
+    let first = design(2, 10);
+    // Another bound variable and other gates; a highest number that is higher;
+    // another operand.
+    let renamed = format!("{}\n# the same\n", design(5, 20));
+    let higher = design(10, 20);
+    let negated = first.replace("and(2,", "and(-2,");
+    for (one, other, same) in [
+        (&first, &first, true),
+        (&first, &renamed, true),
+        (&first, &higher, false),
+        (&renamed, &higher, false),
+        (&first, &negated, false),
+    ] {
+        for (one, other) in [(one, other), (other, one)] {
+            let a = &*written(&folder, "a", one);
+            let b = &*written(&folder, "b", other);
+            let (word, status) = if same {
+                ("same\n", 0)
+            } else {
+                ("different\n", 1)
+            };
+            for left in [
+                run(tool(), &["same", a, b], b""),
+                run(tool(), &["same", "--", a, b], b""),
+                run(tool(), &["same", "-", b], one.as_bytes()),
+                run(tool(), &["same", a, "-"], other.as_bytes()),
+            ] {
+                assert_eq!((&*left.output, &*left.error), (word, ""));
+                assert_eq!(left.status, Some(status));
+            }
+        }
+    }
+    assert_done(
+        run(tool(), &["same", &example(), &example()], b""),
+        "same\n",
+    );
+
+    // Forms are compared and not their texts, which have no double negation.
+    let plain = "#QCIR-G14\nfree(1)\noutput(1)\n";
+    let doubled = "#QCIR-G14\nfree(1)\noutput(-2)\n2 = and(-1)\n";
+    for text in [plain, doubled] {
+        assert_done(run(tool(), &["lift"], text.as_bytes()), plain);
+    }
+    let plain = written(&folder, "plain", plain);
+    let left = run(tool(), &["same", &plain, "-"], doubled.as_bytes());
+    assert_eq!((&*left.output, left.status), ("different\n", Some(1)));
+}
+
+/// Each file that is refused is named, the first one first.
+#[test]
+fn refusals_of_two() {
+    let folder = folder("refusals_of_two");
+    let good = &*written(&folder, "good", &design(2, 10));
+    for (text, error) in refused() {
+        let bad = &*written(&folder, "bad", &text);
+        let (named, unnamed) = (
+            format!("{bad}: {error}"),
+            format!("standard input: {error}"),
+        );
+        let text = text.as_bytes();
+        for (arguments, error) in [
+            (["same", bad, good], named.clone()),
+            (["same", good, bad], named.clone()),
+            (["same", bad, bad], named.repeat(2)),
+            (["same", "-", good], unnamed.clone()),
+            (["same", good, "-"], unnamed.clone()),
+            (["same", "-", bad], format!("{unnamed}{named}")),
+            (["same", bad, "-"], format!("{named}{unnamed}")),
+        ] {
+            assert_failed(run(tool(), &arguments, text), 1, &error);
+        }
+    }
+}
+
 #[test]
 fn refusals() {
     let folder = folder("refusals");
@@ -213,16 +310,24 @@ fn unreadable_file() {
         ),
         (folder.to_str().expect("UTF-8"), "Is a directory"),
     ];
+    // One that is refused is not spoken of.
+    let refused = &*written(&folder, "refused", "");
     for (name, why) in cases {
         let error = format!("{name}: {why}\n");
         assert_failed(run(tool(), &["measure", name], b""), 2, &error);
         assert_failed(run(tool(), &["lift", name], b""), 2, &error);
+        for other in [&*example(), refused, "-"] {
+            assert_failed(run(tool(), &["same", name, other], b""), 2, &error);
+            assert_failed(run(tool(), &["same", other, name], b""), 2, &error);
+        }
     }
-    let input = File::open(&folder).expect("a folder");
-    let left = Command::new(tool()).arg("lift").stdin(input).output();
-    let left = left.expect("the tool can be run");
-    assert_eq!(left.stderr, b"standard input: Is a directory\n");
-    assert_eq!(left.status.code(), Some(2));
+    for arguments in [&["lift"][..], &["same", "-", &example()]] {
+        let input = File::open(&folder).expect("a folder");
+        let left = Command::new(tool()).args(arguments).stdin(input).output();
+        let left = left.expect("the tool can be run");
+        assert_eq!(left.stderr, b"standard input: Is a directory\n");
+        assert_eq!(left.status.code(), Some(2));
+    }
 }
 
 #[test]
@@ -252,14 +357,19 @@ fn unwritable_output() {
 #[cfg(target_os = "linux")]
 #[test]
 fn standard_output_full_or_unread() {
-    let full = File::create("/dev/full").expect("a device");
-    let left = Command::new(tool())
-        .args(["lift", &example()])
-        .stdout(full)
-        .output()
-        .expect("the tool can be run");
-    assert_eq!(left.stderr, b"standard output: No space left on device\n");
-    assert_eq!(left.status.code(), Some(2));
+    for arguments in [
+        &["lift", &*example()][..],
+        &["same", &example(), &example()],
+    ] {
+        let full = File::create("/dev/full").expect("a device");
+        let left = Command::new(tool())
+            .args(arguments)
+            .stdout(full)
+            .output()
+            .expect("the tool can be run");
+        assert_eq!(left.stderr, b"standard output: No space left on device\n");
+        assert_eq!(left.status.code(), Some(2));
+    }
 
     // The reader is gone before the tool has read its input.
     let mut child = Command::new(tool())
@@ -297,6 +407,18 @@ fn bad_usage() {
             "--format twice",
         ),
         (&["measure", "--format", "qcir"], "--format without lift"),
+        (&["same"], "same without two files"),
+        (&["same", "a"], "same without two files"),
+        (&["same", "-"], "same without two files"),
+        (&["same", "a", "b", "c"], "more than two files: c"),
+        (&["same", "-", "-"], "standard input twice"),
+        (&["same", "a", "b", "-o", "c"], "-o with same"),
+        (&["-o", "-", "same", "a", "b"], "-o with same"),
+        (
+            &["same", "--format", "qcir", "a", "b"],
+            "--format without lift",
+        ),
+        (&["same", "a", "b", "--fast"], "unknown option --fast"),
     ];
     for (arguments, words) in cases {
         let left = run(tool(), arguments, b"");

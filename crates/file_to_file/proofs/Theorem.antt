@@ -25,12 +25,12 @@ use Rattle.file_to_file.specs.FileToClauses.{liftedClauses, SameAnswer, 
 use Rattle.file_to_file.proofs.Passes.{lift-passes}
 
 -- The file that a text was read as, and its table.
-record Read (text ws ls : List ℕ) : Type 0 where
-  file : File
-  spells : Spells (limits .names) text file
-  table : TableOf (limits .names) text ws ls
+pub record Read (text ws ls : List ℕ) : Type 0 where
+  pub file : File
+  pub spells : Spells (limits .names) text file
+  pub table : TableOf (limits .names) text ws ls
 
-was-read : (text : List ℕ) (before : Buffers) (o : Outcome Written Buffers) → Reading limits text before o → o .answer .verdict .number ≡ 0
+pub was-read : (text : List ℕ) (before : Buffers) (o : Outcome Written Buffers) → Reading limits text before o → o .answer .verdict .number ≡ 0
     → Read text (take (o .answer .sizes .words) (o .buffers .words)) (take (o .answer .sizes .entries) (o .buffers .list))
 unfolding refusedWith refused refusal TableWritten limits
 was-read text before _ (too-long l) zero = absurd (omega (arith, zero))

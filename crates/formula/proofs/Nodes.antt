@@ -3,15 +3,15 @@
 use mathlib.Core.Path.{_≡_, refl, sym, _∙_, ap}
 use mathlib.Core.Bool.{Bool, true, false}
 use mathlib.Core.List.{List, _++_}
-use Prim.Native.Nat.{ℕ, zero, suc, _+_, _*_, _<_}
+use Prim.Native.Nat.{ℕ, zero, suc, _+_, _*_, _≤_, _<_}
 use native.Mathlib.Omega.{arith}
 use lib.Dec.{eqb}
-use lib.ListN.{length, getD}
+use lib.ListN.{length, getD, List·getD-eq-default}
 use borrow.Author.Tests.{ne-eqb}
 use Rattle.lists.specs.Choice.{pick, clash}
 use Rattle.formula.specs.Node.{Quantifier, exists, for-all, Node, constant, variable, negation, operator, block, isBlock}
 use Rattle.formula.specs.Truth.{digit}
-use Rattle.formula.specs.Words.{width, field, isBlockKind, range, wordsAt, nodeOf, wordsOf, blockWords, wordList, nodeAt}
+use Rattle.formula.specs.Words.{width, nodeCount, field, isBlockKind, range, wordsAt, nodeOf, wordsOf, blockWords, wordList, nodeAt}
 use Rattle.formula.specs.declared.NodeWords.{NodeWords}
 use Rattle.formula.specs.Form.{quantifierOf, kindOf}
 
@@ -153,3 +153,13 @@ module _ (ws ls : List ℕ) (i : ℕ) where
       go (kind-exists e) = node-exists e ∙ rw e
       go (kind-for-all e) = node-for-all e ∙ rw e
       go (kind-none e1 e2 e3 e4 e5 e6) = clash b (rw (node-none e1 e2 e3 e4 e5 e6))
+
+-- Past the last of whole nodes every word reads as 0, and every node as constant 0.
+module _ (ws ls : List ℕ) (whole : length ws ≡ width * nodeCount ws) (i : ℕ) (past : nodeCount ws ≤ i) where
+  pub kind-past : field ws i 0 ≡ 0
+  unfolding field
+  kind-past = List·getD-eq-default ws 0 (omega arith)
+
+  pub node-past : nodeAt ws ls i ≡ constant false
+  unfolding nodeAt nodeOf pick
+  node-past = rw kind-past

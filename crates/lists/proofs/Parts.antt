@@ -197,6 +197,11 @@ sum-positive f (suc n) h = go (look (ltb 0 (f n))) (sum-positive f n)
     go (is-false t) next =
         let z : f n ≤ 0 = ltb-false 0 (f n) t in let r = next (omega arith) in (r .0, omega (arith, r .1), r .2)
 
+pub highest-cong : (f g : ℕ → ℕ) (n : ℕ) → ((i : ℕ) → i < n → f i ≡ g i) → highest f n ≡ highest g n
+unfolding highest
+highest-cong f g zero h = refl
+highest-cong f g (suc n) h = rw (highest-cong f g n (λ i l. h i (omega arith)), h n (omega arith))
+
 pub highest-ge : (f : ℕ → ℕ) (n i : ℕ) → i < n → f i ≤ highest f n
 unfolding highest
 highest-ge f zero i h = absurd (not-suc-le-zero h)

@@ -1,7 +1,7 @@
 -- What follows from the equations of measuring and lifting where they are done: the sizes are those written, and the buffers hold a
 -- prenex form.
 -- Assumes nothing.
-use mathlib.Core.Path.{_≡_, sym, _∙_, ap}
+use mathlib.Core.Path.{_≡_, refl, sym, _∙_, ap, subst}
 use mathlib.Core.List.{List}
 use Prim.Native.Nat.{ℕ, _*_}
 use native.Mathlib.Omega.{arith}
@@ -22,9 +22,9 @@ use Rattle.prenex_form.specs.declared.Sizes.{Sizes}
 use Rattle.prenex_form.specs.Matrix.{writtenNodes}
 use Rattle.prenex_form.specs.Prefix.{writtenPrefix, writtenVariables}
 use Rattle.prenex_form.specs.Sizes.{sizes}
-use Rattle.prenex_form.specs.Promise.{SizesOf}
+use Rattle.prenex_form.specs.Promise.{PrenexOf, SizesOf}
 use Rattle.prenex_form.proofs.Theorem.{prenex, sizes-written}
-use Rattle.prenex.specs.Outcome.{noSizes, measured, FormBuffers, tooShort, written, lifted, SizesWritten, FormWritten}
+use Rattle.prenex.specs.Outcome.{noSizes, measured, FormBuffers, writtenForm, tooShort, written, lifted, SizesWritten, formLeft, FormWritten}
 
 -- what is written over a buffer's start stands there
 start-of : (out ws : List ℕ) (n : ℕ) → length ws ≡ n → take n (overwrite out 0 ws) ≡ ws
@@ -55,7 +55,7 @@ module _ (ws ls : List ℕ) where
 
   module _ (before : FormBuffers) (o : Outcome Sizes FormBuffers) (e : o ≡ lifted ws ls before) (z : o .answer .verdict .number ≡ 0) where
     -- a lift that is done
-    lifted-is : (verdict ws ls ≡ accepted) × (o ≡ record { answer = done (sizes (tableOf ws ls)); buffers = written (tableOf ws ls) before })
+    pub lifted-is : (verdict ws ls ≡ accepted) × (o ≡ record { answer = done (sizes (tableOf ws ls)); buffers = written (tableOf ws ls) before })
     unfolding lifted refused refusal
     lifted-is = by-verdict (look (eqb (verdict ws ls .number) 0))
       where
@@ -84,9 +84,11 @@ module _ (ws ls : List ℕ) where
   unfolding SizesWritten
   lifted-sizes before o e z = sizes-are (o .answer .sizes) (sizes-answered before o e z)
 
-  pub lifted-form : (before : FormBuffers) (o : Outcome Sizes FormBuffers) → o ≡ lifted ws ls before → FormWritten (tableOf ws ls) o
-  unfolding written FormWritten
-  lifted-form before o e z =
+  -- what is left of it in the buffers is the written form
+  pub lifted-left : (before : FormBuffers) (o : Outcome Sizes FormBuffers) → o ≡ lifted ws ls before → o .answer .verdict .number ≡ 0
+      → formLeft o ≡ writtenForm (tableOf ws ls)
+  unfolding written
+  lifted-left before o e z =
       let t = tableOf ws ls in
       let d = lifted-is before o e z in
       let m = sizes-written t in
@@ -103,4 +105,10 @@ module _ (ws ls : List ℕ) where
       ap (λ (k : ℕ). take k (o .buffers .variables)) (ap (λ (y : Sizes). y .entries) s)
       ∙ ap (take (sizes t .entries)) (ap (λ (p : Outcome Sizes FormBuffers). p .buffers .variables) (d .1))
       ∙ start-of (before .variables) (writtenVariables t) _ (m .entries-measured) in
-      rw (n, p, v) (prenex ws ls (d .0))
+      rw (n, p, v) refl
+
+  pub lifted-form : (before : FormBuffers) (o : Outcome Sizes FormBuffers) → o ≡ lifted ws ls before → FormWritten (tableOf ws ls) o
+  unfolding FormWritten
+  lifted-form before o e z =
+      subst (λ form. PrenexOf (tableOf ws ls) (form .nodes) (form .prefix) (form .variables)) (sym (lifted-left before o e z))
+      (prenex ws ls (lifted-is before o e z .0))

@@ -44,6 +44,10 @@ pub record FormBuffers : Type 0 where
 abbrev pub buffers : List ℕ → List ℕ → List ℕ → FormBuffers
 buffers nodes prefix variables = record { nodes = nodes; prefix = prefix; variables = variables }
 
+-- The written form of a table: the words of its nodes, its prefix and its list.
+abbrev pub writtenForm : Table → FormBuffers
+writtenForm t = buffers (writtenNodes t) (writtenPrefix t) (writtenVariables t)
+
 -- Refusal 9, BufferTooShort (document 01: no room): "an output buffer shorter than the size needed".
 unfoldable pub tooShort : Table → FormBuffers → Bool
 tooShort t before =
@@ -76,10 +80,15 @@ after r held = record { answer = answerOf r; buffers = held }
 unfoldable pub SizesWritten : Table → AnswerWith Sizes → Type 0
 SizesWritten t a = a .verdict .number ≡ 0 → SizesOf (a .sizes) (writtenNodes t) (writtenPrefix t) (writtenVariables t)
 
--- If done, what stands in the buffers, as far as the sizes say, is a prenex form of the table.
-unfoldable pub FormWritten : Table → Outcome Sizes FormBuffers → Type 0
-FormWritten t o =
+-- What stands in the buffers, as far as the sizes say.
+abbrev pub formLeft : Outcome Sizes FormBuffers → FormBuffers
+formLeft o =
     let s = o .answer .sizes in
     let held = o .buffers in
-    o .answer .verdict .number ≡ 0
-    → PrenexOf t (take (width * s .nodes) (held .nodes)) (take (prefixWidth * s .blocks) (held .prefix)) (take (s .entries) (held .variables))
+    buffers (take (width * s .nodes) (held .nodes)) (take (prefixWidth * s .blocks) (held .prefix)) (take (s .entries) (held .variables))
+
+-- If done, that is a prenex form of the table.
+unfoldable pub FormWritten : Table → Outcome Sizes FormBuffers → Type 0
+FormWritten t o =
+    let form = formLeft o in
+    o .answer .verdict .number ≡ 0 → PrenexOf t (form .nodes) (form .prefix) (form .variables)

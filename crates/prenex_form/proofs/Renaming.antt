@@ -124,3 +124,17 @@ unfolding truth valueAt
 renamed-truth t proper v =
     renamed-value t proper (t .size) (t .size - 1) (omega arith) v v
     (λ x l. ap v (sym (newName-root t (proper .tree) (t .size - 1) x (omega arith))))
+
+-- Below a root block: a valuation that gives its variables what another gives their new names, both else as v, gives the body the
+-- value that the other gives it at cut 0.
+pub renamed-body : (t : Table) → Proper t → (i : ℕ) → suc i ≡ t .size → isBlock (t .node i) ≡ true
+    → (a : ℕ) → mem a (operands (t .node i)) ≡ true → (v v' w' : Valuation)
+    → ((k : ℕ) → k < length (bound (t .node i)) → v' (getD (bound (t .node i)) k 0) ≡ w' (getD (newNames t i) k 0))
+    → DiffersAtMostAt (bound (t .node i)) v' v → DiffersAtMostAt (newNames t i) w' v
+    → value (t .size) t a v' ≡ valueAt t 0 a w'
+unfolding valueAt
+renamed-body t proper i e b a m v v' w' same ov ow =
+    let h : i < t .size = omega arith in
+    let l = proper .tree .lower i a h m in
+    renamed-value t proper (t .size) a (omega arith) v' w'
+    (related-body t proper i a h m b v v v' w' (λ x k. ap v (sym (newName-root t (proper .tree) i x e))) same ov ow)

@@ -2,10 +2,11 @@
 -- Assumes nothing.
 use mathlib.Core.Path.{_≡_, refl, sym, _∙_, ap, fun-ext}
 use mathlib.Core.Bool.{Bool, true, false}
-use mathlib.Core.List.{List, [], _∷_, flatMap}
+use mathlib.Core.List.{List, [], _∷_, _++_, flatMap}
 use Prim.Native.Nat.{ℕ, zero, suc, _-_, _<_}
 use native.Mathlib.Omega.{arith}
 use lib.Dec.{eqb, ltb}
+use lib.ListN.{drop}
 use borrow.Author.Tests.{eqb-true, ltb-true, ltb-false}
 use Rattle.lists.specs.Choice.{pick, pick-yes, pick-no, Is, is-true, is-false, look, clash, and-left, absent}
 use Rattle.lists.specs.Members.{mem}
@@ -53,14 +54,16 @@ module _ (t : Table) (tree : Tree t) where
       quant-append q (leading t j) cs (bound-matrix (suc j)) v
       ∙ quant-cong q (leading t j) (quant q cs (bound-matrix (suc j))) (matrixAt t j j) v (λ u. sym (exchange t tree j u))
 
-  blocks-before : (j : ℕ) (v : Valuation) → quantify (upTo (λ i. prefixBlock t i ∷ []) j) (bound-matrix j) v ≡ bound-matrix 0 v
+  -- so many blocks from one on: g counts up from it
+  blocks-from : (g : ℕ → ℕ) → ((i : ℕ) → g (suc i) ≡ suc (g i)) → (k : ℕ) (v : Valuation)
+      → quantify (upTo (λ i. prefixBlock t (g i) ∷ []) k) (bound-matrix (g k)) v ≡ bound-matrix (g 0) v
   unfolding upTo quantify
-  blocks-before zero v = refl
-  blocks-before (suc j) v =
-      let bs = upTo (λ i. prefixBlock t i ∷ []) j in
-      quantify-append bs (prefixBlock t j ∷ []) (bound-matrix (suc j)) v
-      ∙ quantify-cong bs (quantify (prefixBlock t j ∷ []) (bound-matrix (suc j))) (bound-matrix j) v (one-block j)
-      ∙ blocks-before j v
+  blocks-from g next zero v = refl
+  blocks-from g next (suc k) v =
+      let bs = upTo (λ i. prefixBlock t (g i) ∷ []) k in
+      quantify-append bs (prefixBlock t (g k) ∷ []) (bound-matrix (g (suc k))) v
+      ∙ quantify-cong bs (quantify (prefixBlock t (g k) ∷ []) (bound-matrix (g (suc k)))) (bound-matrix (g k)) v (λ u. rw (next k) (one-block (g k) u))
+      ∙ blocks-from g next k v
 
   -- below the deepest level there is nothing to bind
   none-deeper : blocksAt t (suc (levels t)) ≡ []
@@ -127,8 +130,39 @@ module _ (t : Table) (tree : Tree t) where
       go (is-false e) =
           rw (pick-no _ [] bs e)
           (quantify-cong bs (matrixAt t (levels t) (levels t)) (bound-matrix (suc (levels t))) v deepest
-          ∙ blocks-before (suc (levels t)) v
+          ∙ blocks-from (λ i. i) (λ i. refl) (suc (levels t)) v
           ∙ root-value v (look (isBlock (t .node (t .size - 1)))))
+
+  -- what stands behind block 0 of the prefix
+  pub later : ℕ → List Block
+  later k = upTo (λ i. prefixBlock t (suc i) ∷ []) k
+
+  prefix-first : (k : ℕ) → upTo (λ i. prefixBlock t i ∷ []) (suc k) ≡ prefixBlock t 0 ∷ later k
+  unfolding upTo later
+  prefix-first zero = refl
+  prefix-first (suc k) = ap (λ (bs : List Block). bs ++ (prefixBlock t (suc k) ∷ [])) (prefix-first k)
+
+  -- a table with a block
+  module _ (i : ℕ) (h : i < t .size) (b : isBlock (t .node i) ≡ true) where
+    pub prefix-starts : prefixBlocks t ≡ prefixBlock t 0 ∷ later (levels t)
+    unfolding prefixBlocks
+    prefix-starts =
+        pick-no _ _ _ (absent _ (λ e. clash b (no-block (eqb-true _ _ e) i h))) ∙ prefix-first (levels t)
+
+    -- The matrix before any level is the rest of the form behind block 0, under the copies of level 1: what stands at the end of block 0.
+    pub rest-exchange : (v : Valuation)
+        → quant (levelQuantifier t 0) (flatMap (copies t) (blocksAt t 1)) (quantify (drop 1 (prefixBlocks t)) (matrixAt t (levels t) (levels t))) v
+        ≡ matrixAt t 0 0 v
+    unfolding bound-matrix levelQuantifier later
+    rest-exchange v =
+        let rest = quantify (drop 1 (prefixBlocks t)) (matrixAt t (levels t) (levels t)) in
+        let cs = flatMap (copies t) (blocksAt t 1) in
+        quant-cong (levelQuantifier t 0) cs rest (bound-matrix 1) v
+        (λ u.
+        ap (λ (bs : List Block). quantify (drop 1 bs) (matrixAt t (levels t) (levels t)) u) prefix-starts
+        ∙ quantify-cong (later (levels t)) (matrixAt t (levels t) (levels t)) (bound-matrix (suc (levels t))) u deepest
+        ∙ blocks-from suc (λ i. refl) (levels t) u)
+        ∙ sym (exchange t tree 0 v)
 
 -- The written form has the table's truth value.
 pub same-truth : (t : Table) → Proper t → NoEmptyBlocks t → (v : Valuation)

@@ -1,6 +1,8 @@
-//! The command-line tool: measures a QCIR file, or lifts it to a QCIR or a
-//! QDIMACS file. It calls the library and holds no rule of its own.
+//! The command-line tool: measures a QCIR file, lifts it to a QCIR or a QDIMACS
+//! file, or compares the prenex forms of two. It calls the library and holds no
+//! rule of its own.
 
+use std::borrow::Cow;
 use std::ffi::{OsStr, OsString};
 use std::fs::{self, File, OpenOptions};
 use std::io::{self, ErrorKind, Read, Write};
@@ -14,6 +16,7 @@ use wakubinryo::{PrenexForm, Refusal};
 const USAGE: &str = "\
 usage: wakubinryo measure [FILE] [-o OUT]
        wakubinryo lift [--format qcir|qdimacs] [FILE] [-o OUT]
+       wakubinryo same FILE FILE
        wakubinryo --help | --version
 ";
 
@@ -22,6 +25,8 @@ Reads a QCIR file and moves all its quantifiers into a prefix.
 
   measure    print the sizes of the file's table and of its prenex form
   lift       print its prenex form
+  same       print same if the prenex forms of two files are equal word for
+             word, and different if they are not
 
   --format qcir
              print a prenex QCIR file with the same truth value; so too if there
@@ -29,15 +34,22 @@ Reads a QCIR file and moves all its quantifiers into a prefix.
   --format qdimacs
              print clauses that are true exactly if some valuation of the free
              variables makes the file true
-  FILE       the file to read; standard input if it is - or left out
+  FILE       the file to read; standard input if it is - or left out. same has
+             two, and one of them may be -
   -o OUT     write to the file OUT, whole or not at all; standard output if OUT
              is - or there is no -o
   --help     print this text
   --version  print the version
 
-A refusal goes to standard error: its number, its place and the reason.
-Exit status: 0 done; 1 refused; 2 wrong usage, or a file that can't be read or
-written.
+Files that are the same have the same truth value, so a store need keep only
+one of them. Two files of one design that differ in the numbers of bound
+variables and of gates alone are the same if the highest variable numbers that
+they use or bind are equal, and different if not.
+
+A refusal goes to standard error: its number, its place and the reason; with
+same, the file's name comes first.
+Exit status: 0 done or same; 1 refused or different; 2 wrong usage, or a file
+that can't be read or written.
 ";
 
 const VERSION: &str = concat!("wakubinryo ", env!("CARGO_PKG_VERSION"), "\n");
@@ -60,24 +72,27 @@ type Format = fn(&PrenexForm) -> Result<Vec<u8>, Refusal>;
 #[derive(Clone, Copy)]
 enum Command {
     Measure,
-    Lift(Format),
+    Lift,
+    Same,
 }
 
-/// What the arguments ask for. A name that is left out is `-`.
-struct Request {
-    command: Command,
+/// The file to read and the one to write.
+struct Files {
     input: OsString,
     output: OsString,
 }
 
+/// What the arguments ask for. A name that is left out is `-`.
 enum Asked {
-    Run(Request),
+    Measure(Files),
+    Lift(Format, Files),
+    Same([OsString; 2]),
     Print(String),
 }
 
 fn main() -> ExitCode {
     let (message, status) = match run(std::env::args_os().skip(1)) {
-        Ok(()) => return ExitCode::SUCCESS,
+        Ok(status) => return status,
         Err(Failure::Refused(words)) => (format!("{words}\n"), 1),
         Err(Failure::File(words)) => (format!("{words}\n"), 2),
         Err(Failure::Usage(words)) => (format!("wakubinryo: {words}\n{USAGE}"), 2),
@@ -88,19 +103,21 @@ fn main() -> ExitCode {
     ExitCode::from(status)
 }
 
-fn run(arguments: impl Iterator<Item = OsString>) -> Result<(), Failure> {
+fn run(arguments: impl Iterator<Item = OsString>) -> Result<ExitCode, Failure> {
     match parse(arguments)? {
-        Asked::Print(text) => print(text.as_bytes()),
-        Asked::Run(request) => {
-            let text = read(&request.input)?;
-            let answer = match request.command {
-                Command::Measure => measured(&text),
-                Command::Lift(format) => lifted(&text, format),
-            };
-            let answer = answer.map_err(|r| Failure::Refused(words::refused(&r, &text)))?;
-            write(&request.output, &answer)
-        }
+        Asked::Measure(files) => answer(&files, measured)?,
+        Asked::Lift(format, files) => answer(&files, |text| format(&form(text)?))?,
+        Asked::Same(names) => return compare(&names),
+        Asked::Print(text) => print(text.as_bytes())?,
     }
+    Ok(ExitCode::SUCCESS)
+}
+
+/// Reads a file and writes what is said of it.
+fn answer(files: &Files, say: impl Fn(&[u8]) -> Result<Vec<u8>, Refusal>) -> Result<(), Failure> {
+    let text = read(&files.input)?;
+    let said = say(&text).map_err(|r| Failure::Refused(words::refused(&r, &text)))?;
+    write(&files.output, &said)
 }
 
 fn measured(text: &[u8]) -> Result<Vec<u8>, Refusal> {
@@ -109,16 +126,41 @@ fn measured(text: &[u8]) -> Result<Vec<u8>, Refusal> {
     Ok(words::figures(&sizes).into_bytes())
 }
 
-fn lifted(text: &[u8], format: Format) -> Result<Vec<u8>, Refusal> {
+fn form(text: &[u8]) -> Result<PrenexForm, Refusal> {
     let table = read_qcir(text)?;
-    format(&prenex_form(&table.words, &table.list)?)
+    prenex_form(&table.words, &table.list)
+}
+
+/// Prints whether two files have the same prenex form, and gives the status that
+/// says so too.
+fn compare([one, other]: &[OsString; 2]) -> Result<ExitCode, Failure> {
+    let texts = [read(one)?, read(other)?];
+    let form_of = |name: &OsStr, text: &[u8]| {
+        let refused = |r| format!("{}: {}", shown_input(name), words::refused(&r, text));
+        form(text).map_err(refused)
+    };
+    match [form_of(one, &texts[0]), form_of(other, &texts[1])] {
+        [Ok(one), Ok(other)] => {
+            let (word, status) = if one == other {
+                ("same\n", 0)
+            } else {
+                ("different\n", 1)
+            };
+            print(word.as_bytes())?;
+            Ok(ExitCode::from(status))
+        }
+        forms => {
+            let refusals = forms.into_iter().filter_map(Result::err);
+            Err(Failure::Refused(refusals.collect::<Vec<_>>().join("\n")))
+        }
+    }
 }
 
 fn parse(mut arguments: impl Iterator<Item = OsString>) -> Result<Asked, Failure> {
     let wrong = |words: String| Err(Failure::Usage(words));
     let mut command = None;
     let mut format: Option<Format> = None;
-    let mut input = None;
+    let mut inputs = Vec::new();
     let mut output = None;
     let mut options = true;
     while let Some(argument) = arguments.next() {
@@ -144,49 +186,67 @@ fn parse(mut arguments: impl Iterator<Item = OsString>) -> Result<Asked, Failure
             },
             (_, true) => return wrong(format!("unknown option {shown}")),
             ("measure", _) if command.is_none() => command = Some(Command::Measure),
-            ("lift", _) if command.is_none() => command = Some(Command::Lift(qcir_text)),
-            _ if command.is_none() => return wrong(format!("unknown command {shown}")),
-            _ if input.is_some() => return wrong(format!("more than one file: {shown}")),
-            _ => input = Some(argument),
+            ("lift", _) if command.is_none() => command = Some(Command::Lift),
+            ("same", _) if command.is_none() => command = Some(Command::Same),
+            _ => match (command, inputs.len()) {
+                (None, _) => return wrong(format!("unknown command {shown}")),
+                (Some(Command::Same), 2) => return wrong(format!("more than two files: {shown}")),
+                (Some(Command::Measure | Command::Lift), 1) => {
+                    return wrong(format!("more than one file: {shown}"));
+                }
+                _ => inputs.push(argument),
+            },
         }
     }
-    let command = match (command, format) {
-        (None, _) => return wrong("no command".into()),
-        (Some(Command::Measure), Some(_)) => return wrong("--format without lift".into()),
-        (Some(_), Some(format)) => Command::Lift(format),
-        (Some(command), None) => command,
-    };
-    Ok(Asked::Run(Request {
-        command,
+    let files = |input: Option<OsString>, output: Option<OsString>| Files {
         input: input.unwrap_or_else(|| "-".into()),
         output: output.unwrap_or_else(|| "-".into()),
-    }))
+    };
+    match (command, format, output) {
+        (None, ..) => wrong("no command".into()),
+        (Some(Command::Lift), format, output) => Ok(Asked::Lift(
+            format.unwrap_or(qcir_text),
+            files(inputs.pop(), output),
+        )),
+        (Some(_), Some(_), _) => wrong("--format without lift".into()),
+        (Some(Command::Measure), None, output) => Ok(Asked::Measure(files(inputs.pop(), output))),
+        (Some(Command::Same), None, Some(_)) => wrong("-o with same".into()),
+        (Some(Command::Same), None, None) => match <[OsString; 2]>::try_from(inputs) {
+            Err(_) => wrong("same without two files".into()),
+            Ok(names) if names == ["-", "-"] => wrong("standard input twice".into()),
+            Ok(names) => Ok(Asked::Same(names)),
+        },
+    }
 }
 
 /// Reads a file, or of one that is too long a byte more than it may have.
 fn read(name: &OsStr) -> Result<Vec<u8>, Failure> {
     let most = LONGEST as u64 + 1;
     let mut text = Vec::new();
-    if name == "-" {
-        let input = io::stdin().lock().take(most).read_to_end(&mut text);
-        input.map_err(|e| Failure::File(words::failed(STANDARD_INPUT, &e)))?;
+    let input = if name == "-" {
+        io::stdin().lock().take(most).read_to_end(&mut text)
     } else {
-        let input = File::open(name).and_then(|file| file.take(most).read_to_end(&mut text));
-        input.map_err(|e| file_failure(Path::new(name), &e))?;
-    }
+        File::open(name).and_then(|file| file.take(most).read_to_end(&mut text))
+    };
+    input.map_err(|e| Failure::File(words::failed(&shown_input(name), &e)))?;
     Ok(text)
 }
 
-fn file_failure(path: &Path, error: &io::Error) -> Failure {
-    Failure::File(words::failed(&path.to_string_lossy(), error))
+/// What a file to read is called.
+fn shown_input(name: &OsStr) -> Cow<'_, str> {
+    if name == "-" {
+        STANDARD_INPUT.into()
+    } else {
+        name.to_string_lossy()
+    }
 }
 
 fn write(name: &OsStr, bytes: &[u8]) -> Result<(), Failure> {
     if name == "-" {
         return print(bytes);
     }
-    let path = Path::new(name);
-    write_file(path, bytes).map_err(|e| file_failure(path, &e))
+    let failed = |e| Failure::File(words::failed(&name.to_string_lossy(), &e));
+    write_file(Path::new(name), bytes).map_err(failed)
 }
 
 fn print(bytes: &[u8]) -> Result<(), Failure> {

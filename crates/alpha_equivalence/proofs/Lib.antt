@@ -1,0 +1,4 @@
+pub mod Congruence
+pub mod Theorem
+pub mod UnequalHighest
+pub mod Examples

@@ -1,0 +1,4 @@
+pub mod AlphaEquivalence
+pub mod Lifts
+pub mod Files
+pub mod Examples
