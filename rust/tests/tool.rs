@@ -21,9 +21,13 @@ fn tool() -> &'static Path {
     Path::new(env!("CARGO_BIN_EXE_wakubinryo"))
 }
 
-fn example() -> String {
-    let path = repository("examples/comparators.qcir");
+fn example_called(name: &str) -> String {
+    let path = repository("examples").join(name);
     path.to_str().expect("a path in UTF-8").into()
+}
+
+fn example() -> String {
+    example_called("comparators.qcir")
 }
 
 fn lifted_to(format: &str) -> String {
@@ -232,10 +236,14 @@ fn same_or_different() {
             }
         }
     }
-    assert_done(
-        run(tool(), &["same", &example(), &example()], b""),
-        "same\n",
-    );
+    for (name, word, status) in [
+        ("comparators.qcir", "same\n", 0),
+        ("comparators_renamed.qcir", "same\n", 0),
+        ("comparators_unfillable.qcir", "different\n", 1),
+    ] {
+        let left = run(tool(), &["same", &example(), &example_called(name)], b"");
+        assert_eq!((&*left.output, left.status), (word, Some(status)));
+    }
 
     // Forms are compared and not their texts, which have no double negation.
     let plain = "#QCIR-G14\nfree(1)\noutput(1)\n";
