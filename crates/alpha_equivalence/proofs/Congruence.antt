@@ -36,6 +36,10 @@ unseen h v b (negation a) = refl
 unseen h v b (operator f a c) = refl
 unseen h v b (block q xs a) = b q xs a
 
+pub count-unseen : (nd : Node) → length (bound (unnamed nd)) ≡ length (bound nd)
+unfolding unnamed bound
+count-unseen = unseen (λ nd. length (bound nd)) (λ x. refl) (λ q xs a. length-replicate {A = ℕ} _ _)
+
 -- A variable node's name and a block's definition variable, put into a node without its numbers.
 named : ℕ → ℕ → Node → Node
 named x d (constant b) = constant b
@@ -109,8 +113,8 @@ module _ (n : ℕ) (f g : ℕ → Node) (same : (i : ℕ) → unnamed (f i) ≡ 
   body-same = through bodyOf (λ x. refl) (λ q xs a. refl)
 
   count-same : (i : ℕ) → count (table n f) i ≡ count (table n g) i
-  unfolding unnamed count bound
-  count-same = through (λ nd. length (bound nd)) (λ x. refl) (λ q xs a. length-replicate {A = ℕ} _ _)
+  unfolding count
+  count-same i = sym (count-unseen (f i)) ∙ ap (λ nd. length (bound nd)) (same i) ∙ count-unseen (g i)
 
   parent-same : (i : ℕ) → parent (table n f) i ≡ parent (table n g) i
   unfolding parent

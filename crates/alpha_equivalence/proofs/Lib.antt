@@ -1,4 +1,6 @@
 pub mod Congruence
 pub mod Theorem
-pub mod UnequalHighest
+pub mod Decoding
+pub mod UniqueHighest
+pub mod Unique
 pub mod Examples

@@ -30,7 +30,7 @@ use Rattle.file_to_file.specs.FileToClauses.{liftedClauses}
 use Rattle.alpha_equivalence.specs.AlphaEquivalence.{unnamed, isBoundAt, SameVariable, Interchangeable}
 use Rattle.file_to_file.proofs.Theorem.{was-read}
 use Rattle.alpha_equivalence.specs.Files.{EqualFiles}
-use Rattle.alpha_equivalence.specs.Lifts.{SameLengths, LiftedAlike, AlphaEquivalentLifts, EqualForms}
+use Rattle.alpha_equivalence.specs.Lifts.{SameLengths, SameMeaning, LiftedAlike, AlphaEquivalentLifts}
 use Rattle.alpha_equivalence.proofs.Congruence.{table, firstName-same, form-same, sizes-same}
 
 -- Two tables of one size whose nodes differ in variable numbers alone, also past their last.
@@ -91,7 +91,10 @@ of-sizes : (n m : ℕ) (f g : ℕ → Node) → n ≡ m → ((i : ℕ) → n ≤
 of-sizes n m f g e past =
     subst (λ k. Interchangeable (table n f) (table k g) → WrittenAlike (table n f) (table k g)) e (of-one-size n f g past)
 
-pub equal-forms : EqualForms
+-- equal forms have one truth value and one list of free variables, and the tables have theirs
+equal-forms : (ws ls ws' ls' : List ℕ) → verdict ws ls ≡ accepted → verdict ws' ls' ≡ accepted
+    → writtenForm (tableOf ws ls) ≡ writtenForm (tableOf ws' ls')
+    → SameMeaning (tableOf ws ls) (tableOf ws' ls')
 equal-forms ws ls ws' ls' h h' e =
     let p = prenex ws ls h in
     let p' = prenex ws' ls' h' in

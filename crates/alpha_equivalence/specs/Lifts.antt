@@ -11,12 +11,10 @@ use Rattle.formula.specs.Truth.{truth}
 use Rattle.formula.specs.FreeVariables.{freeVariables}
 use Rattle.refusals.specs.Verdict.{accepted}
 use Rattle.acceptance.specs.Verdict.{verdict}
-use Rattle.prenex_form.specs.Names.{highestNumber}
-use Rattle.prenex_form.specs.Prefix.{writtenVariables}
 use Rattle.prenex.specs.Outcome.{measured, FormBuffers, writtenForm, lifted, formLeft}
 use Rattle.file_to_file.specs.FileToFile.{liftedText}
 use Rattle.file_to_file.specs.FileToClauses.{liftedClauses}
-use Rattle.alpha_equivalence.specs.AlphaEquivalence.{AlphaEquivalent, Interchangeable}
+use Rattle.alpha_equivalence.specs.AlphaEquivalence.{Interchangeable}
 
 -- Buffers of the same lengths, whatever they hold.
 pub record SameLengths (before before' : FormBuffers) : Type 0 where
@@ -53,19 +51,10 @@ AlphaEquivalentLifts =
     → Interchangeable (tableOf ws ls) (tableOf ws' ls')
     → LiftedAlike ws ls ws' ls'
 
--- "With unequal ones this fails", of any two tables of which all else is asked: the lists that lifting writes differ. The theorem
--- `highest-needed` (proofs/UnequalHighest.antt).
-abbrev pub HighestNeeded : Type 0
-HighestNeeded =
-    (ws ls ws' ls' : List ℕ) → verdict ws ls ≡ accepted → verdict ws' ls' ≡ accepted
-    → AlphaEquivalent (tableOf ws ls) (tableOf ws' ls')
-    → (highestNumber (tableOf ws ls) ≡ highestNumber (tableOf ws' ls') → ⊥)
-    → writtenVariables (tableOf ws ls) ≡ writtenVariables (tableOf ws' ls') → ⊥
-
--- Whatever two tables are, with equal forms they mean the same, so that one form may stand for both. The theorem `equal-forms`
--- (proofs/Theorem.antt).
-abbrev pub EqualForms : Type 0
-EqualForms =
+-- Equal forms come of such tables alone: "With unequal ones this fails", as it does where any other condition fails. The theorem
+-- `only-interchangeable` (proofs/Unique.antt).
+abbrev pub OnlyInterchangeable : Type 0
+OnlyInterchangeable =
     (ws ls ws' ls' : List ℕ) → verdict ws ls ≡ accepted → verdict ws' ls' ≡ accepted
     → writtenForm (tableOf ws ls) ≡ writtenForm (tableOf ws' ls')
-    → SameMeaning (tableOf ws ls) (tableOf ws' ls')
+    → Interchangeable (tableOf ws ls) (tableOf ws' ls')

@@ -66,7 +66,7 @@ module _ (t : Table) (tree : Tree t) where
       ∙ blocks-from g next k v
 
   -- below the deepest level there is nothing to bind
-  none-deeper : blocksAt t (suc (levels t)) ≡ []
+  pub none-deeper : blocksAt t (suc (levels t)) ≡ []
   none-deeper =
       empty (blocksAt t (suc (levels t)))
       (λ i m. omega (arith, blocksAt-level t tree (suc (levels t)) i m, level-le-levels t tree i (blocksAt-lt t tree (suc (levels t)) i m)))
@@ -98,12 +98,12 @@ module _ (t : Table) (tree : Tree t) where
       ∙ ap (λ n. valueAt t 0 (n - 1) v) (root-other b)
 
   -- without blocks
-  no-block : blockCount t ≡ 0 → (i : ℕ) → i < t .size → isBlock (t .node i) ≡ false
+  pub no-block : blockCount t ≡ 0 → (i : ℕ) → i < t .size → isBlock (t .node i) ≡ false
   unfolding blockCount
   no-block e i h =
       absent _ (λ b. omega (arith, term-le (λ j. pick (isBlock (t .node j)) 1 0) (t .size) i h, pick-yes {A = ℕ} (isBlock (t .node i)) 1 0 b))
 
-  no-level : blockCount t ≡ 0 → Is (ltb 0 (levels t)) → levels t ≡ 0
+  pub no-level : blockCount t ≡ 0 → Is (ltb 0 (levels t)) → levels t ≡ 0
   unfolding inner
   no-level e (is-true p) =
       let r = level-nonempty t tree (levels t) (ltb-true _ _ p) (omega arith) in

@@ -19,7 +19,7 @@ use Rattle.formula.specs.Form.{Block, blockAt, blocksFrom, blocksOf, quantify, 
 use Rattle.formula.proofs.Quantify.{decides, quant-reach, quant-attain}
 use Rattle.acceptance.proofs.Accepted.{accepted-holds}
 use Rattle.prenex_form.specs.Names.{copies}
-use Rattle.prenex_form.specs.Levels.{blocksAt, levels, quantifierAt, levelQuantifier}
+use Rattle.prenex_form.specs.Levels.{levels, quantifierAt, levelQuantifier}
 use Rattle.prenex_form.specs.Matrix.{kept, bodyOf, writtenNodes}
 use Rattle.prenex_form.specs.Prefix.{leading, prefixBlock, prefixBlocks, writtenPrefix, writtenVariables}
 use Rattle.prenex_form.proofs.Cut.{valueAt, matrixAt}

@@ -1,4 +1,4 @@
--- Tables that differ in the numbers of bound variables alone, and in their highest number, are written differently (request S-12).
+-- The list of a form tells its table's highest number (request S-12).
 -- Assumes nothing.
 use mathlib.Core.Path.{_≡_, refl, sym, _∙_, ap}
 use mathlib.Core.Bool.{false}
@@ -12,16 +12,13 @@ use Rattle.lists.specs.Parts.{numbers, highest}
 use Rattle.lists.proofs.Parts.{length-numbers, mem-numbers, highest-cong, term-le}
 use Rattle.lists.proofs.Sums.{distinct-few}
 use Rattle.formula.specs.Node.{Node, constant, variable, negation, operator, block, Table, isBlock}
-use Rattle.formula.specs.Words.{tableOf}
 use Rattle.formula.specs.Tree.{Tree, NoEmptyBlocks, count, boundBelow}
-use Rattle.acceptance.proofs.Accepted.{accepted-holds}
 use Rattle.prenex_form.specs.Scope.{binder}
 use Rattle.prenex_form.specs.Names.{highestAt, highestNumber, boundCount}
 use Rattle.prenex_form.specs.Prefix.{writtenVariables}
 use Rattle.prenex_form.proofs.Paths.{binder-block}
 use Rattle.prenex_form.proofs.PrefixNames.{prefix-distinct, prefix-new, prefix-le, prefix-entries}
 use Rattle.alpha_equivalence.specs.AlphaEquivalence.{unnamed, isBoundAt, AlphaEquivalent}
-use Rattle.alpha_equivalence.specs.Lifts.{HighestNeeded}
 use Rattle.alpha_equivalence.proofs.Congruence.{unseen, isVariable, variable-unseen, variable-is}
 
 -- The list of a form holds each of the numbers that follow the highest once, so equal lists follow equal numbers: between two that
@@ -37,6 +34,11 @@ not-above t u tree tree' e some =
     let high : x ≤ highestNumber t + length xs = omega (arith, prefix-le t tree x m, prefix-entries t tree) in
     mem-numbers (highestNumber u + 1) room x (omega arith) (omega arith)) in
     omega (arith, length-numbers (highestNumber u + 1) room)
+
+pub listed-highest : (t u : Table) → Tree t → Tree u → writtenVariables t ≡ writtenVariables u → 0 < length (writtenVariables t)
+    → highestNumber t ≡ highestNumber u
+listed-highest t u tree tree' e some =
+    omega (arith, not-above t u tree tree' e some, not-above u t tree' tree (sym e) (rw e at some))
 
 -- a node that is neither a variable node nor a block
 plain-highest : (nd : Node) → isVariable nd ≡ false → isBlock nd ≡ false → highestAt (unnamed nd) ≡ highestAt nd
@@ -92,21 +94,13 @@ module _ (t u : Table) (tree : Tree t) (tree' : Tree u) (filled : NoEmptyBlocks 
       highest-cong (λ i. highestAt (t .node i)) (λ i. highestAt (u .node i)) (t .size) (λ i h. highest-at i h (look (isVariable (t .node i))))
       ∙ ap (highest (λ i. highestAt (u .node i))) (alike .same-size)
 
-pub highest-needed : HighestNeeded
-highest-needed ws ls ws' ls' h h' alike unequal e = unequal (go (look (ltb 0 (length (writtenVariables (tableOf ws ls))))))
+-- with names in the list or without
+pub same-highest-of : (t u : Table) → Tree t → Tree u → NoEmptyBlocks t → AlphaEquivalent t u → writtenVariables t ≡ writtenVariables u
+    → highestNumber t ≡ highestNumber u
+same-highest-of t u tree tree' filled alike e = go (look (ltb 0 (length (writtenVariables t))))
   where
-    go : Is (ltb 0 (length (writtenVariables (tableOf ws ls)))) → highestNumber (tableOf ws ls) ≡ highestNumber (tableOf ws' ls')
-    go (is-true s) =
-        let a = accepted-holds ws ls h .proper .tree in
-        let b = accepted-holds ws' ls' h' .proper .tree in
-        let some : 0 < length (writtenVariables (tableOf ws ls)) = ltb-true 0 _ s in
-        omega (
-          arith,
-          not-above (tableOf ws ls) (tableOf ws' ls') a b e some,
-          not-above (tableOf ws' ls') (tableOf ws ls) b a (sym e) (rw e at some),
-        )
+    go : Is (ltb 0 (length (writtenVariables t))) → highestNumber t ≡ highestNumber u
+    go (is-true s) = listed-highest t u tree tree' e (ltb-true 0 _ s)
     go (is-false s) =
-        let a = accepted-holds ws ls h in
-        let few : length (writtenVariables (tableOf ws ls)) ≤ 0 = ltb-false 0 _ s in
-        free-highest (tableOf ws ls) (tableOf ws' ls') (a .proper .tree) (accepted-holds ws' ls' h' .proper .tree) (a .filled refl) alike
-        (omega (arith, prefix-entries (tableOf ws ls) (a .proper .tree)))
+        let few : length (writtenVariables t) ≤ 0 = ltb-false 0 _ s in
+        free-highest t u tree tree' filled alike (omega (arith, prefix-entries t tree))
