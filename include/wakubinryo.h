@@ -285,7 +285,11 @@ void wakubinryo_measure(const uint32_t *words, size_t words_len,
  *   2 q + b        prefix variables,
  *   d + 1          prefix blocks, and none if the table has no blocks.
  *
- * A table always gives the same form, whatever the buffers held.
+ * A table always gives the same form, whatever the buffers held. Two tables
+ * give equal forms exactly if they agree node for node but for the numbers of
+ * bound variables and where ranges begin, each bound variable node belonging to
+ * the same block and the same position in its range, and the highest numbers at
+ * their variable nodes and in their ranges are equal.
  */
 void wakubinryo_lift(const uint32_t *words, size_t words_len,
                      const uint32_t *list, size_t list_len,

@@ -128,7 +128,7 @@ module _ (ws ls ls' : List ℕ) (s : SameRanges ws ls ls') where
   outcomes =
       record {
         same-verdict = verdict-same;
-        same-nodes = λ i h. node-same ws ls ls' i (s .same-range i h);
+        same-nodes = λ i h. node-same ws ls ls' i (λ b. cc (s .same-range i h b));
         same-measured = call-same tableLimits (λ t. done (sizes t)) (λ v. refused v noSizes);
         same-lifted = λ before. call-same tableLimits
             (λ t. unlessShort (tooShort t before) noSizes before (record { answer = done (sizes t); buffers = written t before }))
@@ -162,6 +162,6 @@ covered-alone ws ls ls' e same =
     record {
       same-length = cc e;
       same-range = λ i h b.
-          range-same ls ls' _ _ e
-          (λ k l m. same i k h (and-both _ _ (and-both _ _ b (le-leb _ k l)) (lt-ltb k _ m)));
+          cc (range-same ls ls' (field ws i 1) (field ws i 2) e
+          (λ k l m. same i k h (and-both _ _ (and-both _ _ b (le-leb _ k l)) (lt-ltb k _ m))));
     }

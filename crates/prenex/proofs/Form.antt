@@ -55,7 +55,7 @@ module _ (ws ls : List ℕ) where
 
   module _ (before : FormBuffers) (o : Outcome Sizes FormBuffers) (e : o ≡ lifted ws ls before) (z : o .answer .verdict .number ≡ 0) where
     -- a lift that is done
-    pub lifted-is : (verdict ws ls ≡ accepted) × (o ≡ record { answer = done (sizes (tableOf ws ls)); buffers = written (tableOf ws ls) before })
+    lifted-is : (verdict ws ls ≡ accepted) × (o ≡ record { answer = done (sizes (tableOf ws ls)); buffers = written (tableOf ws ls) before })
     unfolding lifted refused refusal
     lifted-is = by-verdict (look (eqb (verdict ws ls .number) 0))
       where
