@@ -53,18 +53,18 @@ guard-tells exists for-all e = absurd (omega arith)
 guard-tells for-all exists e = absurd (omega arith)
 guard-tells for-all for-all e = refl
 
--- what stands at an index that a variable node has in the form
-data Named (t : Table) (i x : ℕ) (nd : Node) : Type 0 where
-  replaced : isBlock nd ≡ true → definitionVariable t i ≡ x → Named t i x nd
-  renumbered : (y : ℕ) → nd ≡ variable y → newName t i y ≡ x → Named t i x nd
+-- what the table has where the form has a variable node
+data Stood (t : Table) (i x : ℕ) (nd : Node) : Type 0 where
+  block-stood : isBlock nd ≡ true → definitionVariable t i ≡ x → Stood t i x nd
+  variable-stood : (y : ℕ) → nd ≡ variable y → newName t i y ≡ x → Stood t i x nd
 
-named : (t : Table) (i x : ℕ) (nd : Node) → renamed t i nd ≡ variable x → Named t i x nd
+stood : (t : Table) (i x : ℕ) (nd : Node) → renamed t i nd ≡ variable x → Stood t i x nd
 unfolding renamed isBlock
-named t i x (constant b) e = let z : _≡_ {A = ℕ} 0 1 = cc in absurd (omega arith)
-named t i x (variable y) e = renumbered y refl cc
-named t i x (negation a) e = let z : _≡_ {A = ℕ} 0 1 = cc in absurd (omega arith)
-named t i x (operator f a b) e = let z : _≡_ {A = ℕ} 0 1 = cc in absurd (omega arith)
-named t i x (block q xs a) e = replaced refl cc
+stood t i x (constant b) e = let z : _≡_ {A = ℕ} 0 1 = cc in absurd (omega arith)
+stood t i x (variable y) e = variable-stood y refl cc
+stood t i x (negation a) e = let z : _≡_ {A = ℕ} 0 1 = cc in absurd (omega arith)
+stood t i x (operator f a b) e = let z : _≡_ {A = ℕ} 0 1 = cc in absurd (omega arith)
+stood t i x (block q xs a) e = block-stood refl cc
 
 renamed-block : (t : Table) (i : ℕ) (nd : Node) → isBlock nd ≡ true → renamed t i nd ≡ variable (definitionVariable t i)
 unfolding renamed isBlock
@@ -195,11 +195,11 @@ module _ (t u : Table) (tree : Tree t) (tree' : Tree u) (nodes : prenexNodes t �
   mark-same i i' h n n' e =
       let low : i < kept t = omega (arith, inner-lt t tree i h n, kept-ge t) in
       let low' : i < kept u = omega (arith, kept-same) in
-      go low' (named u i (definitionVariable u i') (u .node i) (sym (renamed-same i low) ∙ renamed-block t i (t .node i) (inner-block t i n) ∙ ap variable e))
+      go low' (stood u i (definitionVariable u i') (u .node i) (sym (renamed-same i low) ∙ renamed-block t i (t .node i) (inner-block t i n) ∙ ap variable e))
     where
-      go : i < kept u → Named u i (definitionVariable u i') (u .node i) → i ≡ i'
-      go l (replaced b d) = definition-apart u i i' (kept-inner u i l b) n' d
-      go l (renumbered y v d) =
+      go : i < kept u → Stood u i (definitionVariable u i') (u .node i) → i ≡ i'
+      go l (block-stood b d) = definition-apart u i i' (kept-inner u i l b) n' d
+      go l (variable-stood y v d) =
           absurd (omega (arith, new-name-le u tree' i y (omega (arith, kept-le u)) v, definition-above u i'))
 
 -- What a constraint tells of its block.

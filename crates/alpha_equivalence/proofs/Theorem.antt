@@ -27,10 +27,10 @@ use Rattle.prenex.specs.Outcome.{noSizes, measured, FormBuffers, writtenForm, t
 use Rattle.prenex.proofs.Form.{lifted-left}
 use Rattle.file_to_file.specs.FileToFile.{liftedText}
 use Rattle.file_to_file.specs.FileToClauses.{liftedClauses}
-use Rattle.alpha_equivalence.specs.AlphaEquivalence.{unnamed, isBoundAt, SameVariable, Interchangeable}
 use Rattle.file_to_file.proofs.Theorem.{was-read}
-use Rattle.alpha_equivalence.specs.Files.{EqualFiles}
+use Rattle.alpha_equivalence.specs.AlphaEquivalence.{unnamed, isBoundAt, SameVariable, Interchangeable}
 use Rattle.alpha_equivalence.specs.Lifts.{SameLengths, SameMeaning, LiftedAlike, AlphaEquivalentLifts}
+use Rattle.alpha_equivalence.specs.Files.{EqualFiles}
 use Rattle.alpha_equivalence.proofs.Congruence.{table, firstName-same, form-same, sizes-same}
 
 -- Two tables of one size whose nodes differ in variable numbers alone, also past their last.
