@@ -41,8 +41,8 @@ Reads a QCIR file and moves all its quantifiers into a prefix.
   --help     print this text
   --version  print the version
 
-Files that are the same have the same truth value, so a store need keep only
-one of them. Two files of one design that differ in the numbers of bound
+Files that are the same are one design, with the same truth value, so a store
+need keep only one of them. Two files that differ in the numbers of bound
 variables and of gates alone are the same if the highest variable numbers that
 they use or bind are equal, and different if not.
 
