@@ -1,6 +1,7 @@
 /*
- * wakubinryo: QCIR files to formula tables, these to prenex form, and prenex
- * forms to QCIR and QDIMACS files.
+ * wakubinryo: QCIR files to prenex QCIR and QDIMACS files, in one call
+ * (wakubinryo_lift_text) or step by step: files to formula tables, these to
+ * prenex forms, and forms to files.
  *
  * FORMULA TABLES
  *
@@ -157,16 +158,37 @@
  * opposite isn't written; equal clauses stay. Last comes the clause of the
  * root's gate alone.
  *
+ * FROM TEXT TO TEXT
+ *
+ * The calls from a text to a text begin with a QCIR text. Their refusals are
+ * those of reading, as if there were room for every table (10, 11, 13, 12, 2
+ * and 6, with the positions above), then 9, and these:
+ *
+ *   number  given when                                                position
+ *   23      the format is neither WAKUBINRYO_QCIR nor                 0
+ *           WAKUBINRYO_QDIMACS: nothing else is looked at
+ *   24      memory lent for the nodes of the prenex form is shorter   0
+ *           than these
+ *
+ * Order: 23, 10, 11, 13, 12, 2, 6, 24, 9.
+ *
  * MEMORY
  *
  * All lengths count elements: 32-bit words, or bytes of a text. A call reads
  * what is lent to it as const, writes the answer and the buffers lent to it,
- * and touches nothing else: it allocates nothing and keeps nothing. It uses
- * less than 256 KiB of stack, reading or writing a text less than 1 MiB;
- * this is measured, not proved. On refusal no buffer has changed, whatever the
- * buffers held. If done, a buffer's words after the last one written keep
- * their content. Pointers are aligned and not null, even where the length is
- * 0, and what is written must not overlap anything else lent.
+ * and touches nothing else: it allocates nothing and keeps nothing. On refusal
+ * no buffer has changed, whatever the buffers held. If done, a buffer's words
+ * after the last one written keep their content. Pointers are aligned and not
+ * null, even where the length is 0, and what is written must not overlap
+ * anything else lent.
+ *
+ * The stack of a thread that calls must have room for this; it is measured, not
+ * proved:
+ *
+ *   wakubinryo_lift_text                                @LIFT@ KiB
+ *   wakubinryo_lift_text_in, wakubinryo_measure_text,   @IN@ KiB
+ *     reading and writing texts
+ *   calls about tables                                  256 KiB
  */
 #ifndef WAKUBINRYO_H
 #define WAKUBINRYO_H
@@ -239,6 +261,28 @@ enum {
     WAKUBINRYO_WRITE_ANSWER = 3
 };
 
+/* The formats of a text that is written. */
+enum {
+    WAKUBINRYO_QCIR = 1,
+    WAKUBINRYO_QDIMACS = 2
+};
+
+/*
+ * The answer of lifting a text, of 64-bit words: number, position,
+ * WAKUBINRYO_BYTES_WRITTEN, and then the sizes of the table that was read and
+ * of its prenex form, n, b, q, d, nodes, blocks and variables.
+ */
+enum {
+    WAKUBINRYO_LIFT_TEXT_SIZES = 3, /* the first of the seven sizes */
+    WAKUBINRYO_LIFT_TEXT_ANSWER = 10
+};
+
+/* The answer of measuring a text: number, position and the same sizes. */
+enum {
+    WAKUBINRYO_MEASURE_TEXT_SIZES = 2,
+    WAKUBINRYO_MEASURE_TEXT_ANSWER = 9
+};
+
 /*
  * Bytes that are always enough for the QCIR text of a form with so many nodes,
  * prefix blocks and list entries.
@@ -249,6 +293,63 @@ enum {
 /* The same for the QDIMACS text. */
 #define WAKUBINRYO_CLAUSES_ROOM(nodes, blocks, entries) \
     (64 * ((size_t)(nodes) + 1) + 4 * (size_t)(blocks) + 6 * (size_t)(entries))
+
+/*
+ * Bytes that are always enough for the text that wakubinryo_lift_text writes,
+ * by format: a prenex form has at most 40,960 nodes, 4,097 prefix blocks and
+ * 12,288 prefix variables. And 32-bit words that are always enough for its
+ * nodes.
+ */
+#define WAKUBINRYO_QCIR_ROOM WAKUBINRYO_TEXT_ROOM(40960, 4097, 12288)
+#define WAKUBINRYO_QDIMACS_ROOM WAKUBINRYO_CLAUSES_ROOM(40960, 4097, 12288)
+#define WAKUBINRYO_NODES_ROOM (WAKUBINRYO_NODE_WORDS * (size_t)40960)
+
+/*
+ * Lifts a QCIR text: reads it, lifts its table and writes the prenex form as a
+ * text in a format, WAKUBINRYO_QCIR or WAKUBINRYO_QDIMACS.
+ *
+ * Numbers 0, 2, 6, 9 to 13 and 23. If done, out holds the bytes of the text,
+ * bytes after the last one keep their content, and the sizes are those of
+ * wakubinryo_measure_text. It gives 9 exactly if no other refusal applies and
+ * out is shorter than the text; WAKUBINRYO_QCIR_ROOM or WAKUBINRYO_QDIMACS_ROOM
+ * bytes are always enough.
+ *
+ * From bytes to bytes: a QCIR text that is written spells exactly one file, and
+ * this has the truth value of the file in text under every valuation. A QDIMACS
+ * text says exactly one problem, and this is true exactly if some valuation of
+ * the free variables of the file in text makes that file true. The prenex form
+ * has at most n + 5 b + 4 q nodes, 2 q + b prefix variables and d + 1 prefix
+ * blocks, and its text at most WAKUBINRYO_TEXT_ROOM or WAKUBINRYO_CLAUSES_ROOM
+ * of its own sizes. Every text has one answer, and with it one content of out.
+ */
+void wakubinryo_lift_text(const uint8_t *text, size_t text_len,
+                          uint32_t format,
+                          uint8_t *out, size_t out_len,
+                          uint64_t answer[WAKUBINRYO_LIFT_TEXT_ANSWER]);
+
+/*
+ * The same with memory lent for the nodes of the prenex form, for threads with
+ * a small stack. It gives 24 exactly if no refusal of reading applies and nodes
+ * is shorter than WAKUBINRYO_NODE_WORDS words for each node of the form;
+ * WAKUBINRYO_NODES_ROOM words are always enough. Else answer and out are those
+ * of wakubinryo_lift_text. If it gives 0 or 9, the form's nodes stand at the
+ * start of nodes; if it gives another number, nodes is as it was.
+ */
+void wakubinryo_lift_text_in(const uint8_t *text, size_t text_len,
+                             uint32_t format,
+                             uint32_t *nodes, size_t nodes_len,
+                             uint8_t *out, size_t out_len,
+                             uint64_t answer[WAKUBINRYO_LIFT_TEXT_ANSWER]);
+
+/*
+ * Measures a QCIR text: reads it and measures its table.
+ *
+ * Numbers 0, 2, 6 and 10 to 13. If done, the sizes are those that
+ * wakubinryo_measure gives of the table, and those that wakubinryo_lift_text
+ * answers in either format.
+ */
+void wakubinryo_measure_text(const uint8_t *text, size_t text_len,
+                             uint32_t answer[WAKUBINRYO_MEASURE_TEXT_ANSWER]);
 
 /*
  * Measures a table.

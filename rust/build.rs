@@ -1,11 +1,11 @@
-//! Links libwakubinryo_tables.a and libwakubinryo_qcir.a from
-//! ../target/staticlib, or from the folder named by the environment variable
+//! Links libwakubinryo_tables.a, libwakubinryo_qcir.a and libwakubinryo_texts.a
+//! from ../target/staticlib, or from the folder named by the environment variable
 //! WAKUBINRYO_LIB_DIR.
 
 use std::env;
 use std::path::PathBuf;
 
-const LIBRARIES: [&str; 2] = ["wakubinryo_tables", "wakubinryo_qcir"];
+const LIBRARIES: [&str; 3] = ["wakubinryo_tables", "wakubinryo_qcir", "wakubinryo_texts"];
 
 fn main() {
     println!("cargo:rerun-if-env-changed=WAKUBINRYO_LIB_DIR");
@@ -28,6 +28,6 @@ fn main() {
         }
         println!("cargo:rustc-link-lib=static={name}");
     }
-    // For the test that links the C example.
+    // For the test that links the C examples.
     println!("cargo:rustc-env=WAKUBINRYO_LIB_DIR={}", folder.display());
 }

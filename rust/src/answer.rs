@@ -45,10 +45,12 @@ pub enum Reason {
     MalformedPrefix = 15,
     /// A block's count is 0.
     EmptyBlock = 16,
+    /// The number given for the format to write is no format's.
+    UnknownFormat = 23,
 }
 
 impl Reason {
-    pub const ALL: [Reason; 16] = [
+    pub const ALL: [Reason; 17] = [
         Reason::PartialNode,
         Reason::TooLarge,
         Reason::MalformedNode,
@@ -65,6 +67,7 @@ impl Reason {
         Reason::MalformedMatrix,
         Reason::MalformedPrefix,
         Reason::EmptyBlock,
+        Reason::UnknownFormat,
     ];
 
     /// Why a table is refused, in the order of the tests.
@@ -118,6 +121,7 @@ impl Display for Reason {
             Reason::MalformedMatrix => "malformed matrix",
             Reason::MalformedPrefix => "malformed prefix",
             Reason::EmptyBlock => "empty block",
+            Reason::UnknownFormat => "unknown format",
         })
     }
 }
@@ -211,6 +215,19 @@ impl Sizes {
             entries,
         }
     }
+
+    /// The words of the sizes, in the same order.
+    pub fn words(self) -> [u32; 7] {
+        [
+            self.n,
+            self.b,
+            self.q,
+            self.depth,
+            self.nodes,
+            self.blocks,
+            self.entries,
+        ]
+    }
 }
 
 /// How much reading a QCIR file writes.
@@ -220,6 +237,15 @@ pub struct Written {
     pub words: u32,
     /// List entries.
     pub entries: u32,
+}
+
+/// What lifting a text says of the text that it writes.
+#[derive(Clone, Copy, Debug, PartialEq, Eq)]
+pub struct WrittenText {
+    /// Its bytes.
+    pub bytes: usize,
+    /// The sizes of the table that was read and of its prenex form.
+    pub sizes: Sizes,
 }
 
 /// Answers of measuring and lifting as the C interface gives them.
@@ -236,17 +262,22 @@ pub type WrittenAnswer = [u32; 4];
 /// bytes.
 pub type TextAnswer = [u64; 3];
 
+/// Answers of lifting a text as the C interface gives them: number, position,
+/// bytes, sizes.
+pub type LiftTextAnswer = [u64; 10];
+
+/// Answers of measuring a text as the C interface gives them: number, position,
+/// sizes.
+pub type MeasureTextAnswer = [u32; 9];
+
 /// The words of an answer of measuring or lifting.
 pub fn size_words(answer: Result<Sizes, Refusal>) -> SizesAnswer {
+    let mut words = SizesAnswer::default();
     match answer {
-        Ok(s) => [
-            0, 0, 0, 0, s.n, s.b, s.q, s.depth, s.nodes, s.blocks, s.entries,
-        ],
-        Err(r) => {
-            let [number, position, first, second] = r.words();
-            [number, position, first, second, 0, 0, 0, 0, 0, 0, 0]
-        }
+        Ok(sizes) => words[4..].copy_from_slice(&sizes.words()),
+        Err(r) => words[..4].copy_from_slice(&r.words()),
     }
+    words
 }
 
 /// The words of an answer of listing free variables or removing empty blocks.
@@ -277,4 +308,24 @@ pub fn text_words(answer: Result<usize, Refusal>) -> TextAnswer {
         Ok(bytes) => [0, 0, bytes as u64],
         Err(r) => [r.reason.number().into(), r.position, 0],
     }
+}
+
+/// The words of an answer of lifting a text.
+pub fn lift_text_words(answer: Result<WrittenText, Refusal>) -> LiftTextAnswer {
+    let mut words = LiftTextAnswer::default();
+    words[..3].copy_from_slice(&text_words(answer.map(|written| written.bytes)));
+    if let Ok(WrittenText { sizes, .. }) = answer {
+        words[3..].copy_from_slice(&sizes.words().map(u64::from));
+    }
+    words
+}
+
+/// The words of an answer of measuring a text.
+pub fn measure_text_words(answer: Result<Sizes, Refusal>) -> MeasureTextAnswer {
+    let mut words = MeasureTextAnswer::default();
+    match answer {
+        Ok(sizes) => words[2..].copy_from_slice(&sizes.words()),
+        Err(r) => words[..2].copy_from_slice(&r.number_and_position()),
+    }
+    words
 }

@@ -674,7 +674,8 @@ fn damage(rng: &mut Rng, mut table: Table, reason: Reason) -> Option<(Table, Ref
         | Reason::UnboundVariable
         | Reason::GateNotUsedOnce
         | Reason::MalformedMatrix
-        | Reason::MalformedPrefix => return None,
+        | Reason::MalformedPrefix
+        | Reason::UnknownFormat => return None,
     };
     Some((table, reason.at(position).used_by(users)))
 }

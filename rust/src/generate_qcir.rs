@@ -4,6 +4,7 @@
 use crate::circuit::{Circuit, Gate, Literal, Operation, Quantifier};
 use crate::generate::{numbers, Rng};
 use crate::qcir::LONGEST;
+use crate::reference::LIMIT;
 use std::collections::BTreeSet;
 
 /// What a random circuit is made of.
@@ -673,6 +674,25 @@ fn long_prefix_line(bytes: usize) -> Vec<u8> {
         let names: Vec<String> = (0..=k).map(|name| (65_535 - name).to_string()).collect();
         format!("{HEADER}forall({})\noutput(-65535)\n", names.join(","))
     })
+}
+
+/// A variable under this many prefix lines. Each binds a name from 65,535 down,
+/// so that new names are the highest there are, and the last binds two. Exists
+/// lines after a forall line make the longest texts in either format.
+pub fn prefix_lines(lines: usize) -> Vec<u8> {
+    let names: Vec<String> = (0..=lines).map(|k| (65_535 - k).to_string()).collect();
+    let mut text = format!("{HEADER}forall({})\n", names[0]);
+    for name in &names[1..lines - 1] {
+        text += &format!("exists({name})\n");
+    }
+    text += &format!("exists({})\n", names[lines - 1..].join(","));
+    (text + "output(65535)\n").into_bytes()
+}
+
+/// The file with the largest form there is but for a few nodes: a leaf and
+/// 4,095 blocks, each in the next, with 4,096 variables.
+pub fn largest_lift() -> Vec<u8> {
+    prefix_lines(LIMIT - 1)
 }
 
 /// Seven bytes in eight are comments.

@@ -1,5 +1,5 @@
-//! A safe wrapper over the static libraries wakubinryo_tables and
-//! wakubinryo_qcir, and what its tests and its benchmarks need: an
+//! A safe wrapper over the static libraries wakubinryo_tables, wakubinryo_qcir
+//! and wakubinryo_texts, and what its tests and its benchmarks need: an
 //! implementation in plain Rust ([`reference`] and, for files, [`qcir`],
 //! [`write_qcir`](mod@write_qcir) and [`write_qdimacs`](mod@write_qdimacs)),
 //! reading without limits ([`read_back`]), truth values by brute force
@@ -7,6 +7,9 @@
 //! ([`alpha`]) and tables, pairs of them, files and forms to try ([`generate`],
 //! [`generate_alpha`], [`generate_qcir`], [`generate_forms`]).
 //!
+//! [`lift_text`] goes from the bytes of a QCIR file to those of its prenex form
+//! in one call. Its steps, [`read_qcir`], [`prenex_form`] and [`qcir_text`] or
+//! [`qdimacs_text`], are calls too, for callers that want the table or the form.
 //! A formula table is a slice of words, four to a node, and a list of variable
 //! numbers. See `include/wakubinryo.h` for what each call promises.
 
@@ -30,6 +33,7 @@ pub mod write_qcir;
 pub mod write_qdimacs;
 
 pub use answer::{CountAnswer, Reason, Refusal, Sizes, SizesAnswer};
+pub use answer::{LiftTextAnswer, MeasureTextAnswer, WrittenText};
 pub use answer::{TextAnswer, Written, WrittenAnswer};
 pub use reference::{Node, WIDTH};
 
@@ -104,12 +108,22 @@ mod ffi {
             text_len: usize,
             answer: *mut u64,
         );
+        pub fn wakubinryo_lift_text(
+            text: *const u8,
+            text_len: usize,
+            format: u32,
+            out: *mut u8,
+            out_len: usize,
+            answer: *mut u64,
+        );
+        pub fn wakubinryo_measure_text(text: *const u8, text_len: usize, answer: *mut u32);
     }
 }
 
 /// The calls as they are, with their answers as words.
 pub mod raw {
-    use super::{ffi, CountAnswer, PrenexForm, SizesAnswer, TextAnswer, WrittenAnswer};
+    use super::{ffi, CountAnswer, LiftTextAnswer, MeasureTextAnswer, PrenexForm};
+    use super::{SizesAnswer, TextAnswer, WrittenAnswer};
 
     pub fn measure(words: &[u32], list: &[u32], answer: &mut SizesAnswer) {
         // SAFETY: the call reads the two slices and writes the answer, no more.
@@ -243,10 +257,30 @@ pub mod raw {
     pub fn write_qdimacs(form: &PrenexForm, text: &mut [u8], answer: &mut TextAnswer) {
         write_text(ffi::wakubinryo_write_qdimacs, form, text, answer)
     }
+
+    /// The format is given by its number; any number is taken.
+    pub fn lift_text(text: &[u8], format: u32, out: &mut [u8], answer: &mut LiftTextAnswer) {
+        // SAFETY: as above.
+        unsafe {
+            ffi::wakubinryo_lift_text(
+                text.as_ptr(),
+                text.len(),
+                format,
+                out.as_mut_ptr(),
+                out.len(),
+                answer.as_mut_ptr(),
+            )
+        }
+    }
+
+    pub fn measure_text(text: &[u8], answer: &mut MeasureTextAnswer) {
+        // SAFETY: as above.
+        unsafe { ffi::wakubinryo_measure_text(text.as_ptr(), text.len(), answer.as_mut_ptr()) }
+    }
 }
 
 fn refusal(number: u32, position: u64, users: [u32; 2]) -> Refusal {
-    let reason = Reason::from_number(number).expect("the library answers 0 to 16");
+    let reason = Reason::from_number(number).expect("the library answers 0 to 16 or 23");
     let users = (users != [0, 0]).then_some(users);
     Refusal {
         reason,
@@ -443,4 +477,79 @@ pub fn qcir_text(form: &PrenexForm) -> Result<Vec<u8>, Refusal> {
 /// some valuation of the form's free variables makes the form true.
 pub fn qdimacs_text(form: &PrenexForm) -> Result<Vec<u8>, Refusal> {
     text_of(form, qdimacs_room, write_qdimacs)
+}
+
+/// The format of a text that lifting writes.
+#[derive(Clone, Copy, Debug, PartialEq, Eq, Hash)]
+pub enum Format {
+    Qcir,
+    Qdimacs,
+}
+
+impl Format {
+    pub const ALL: [Format; 2] = [Format::Qcir, Format::Qdimacs];
+
+    /// Its number in the C interface.
+    pub const fn number(self) -> u32 {
+        match self {
+            Format::Qcir => 1,
+            Format::Qdimacs => 2,
+        }
+    }
+
+    /// Bytes enough for what lifting any text writes in this format.
+    pub const fn room(self) -> usize {
+        // No table's form has more nodes, prefix blocks or variables.
+        let (nodes, blocks, entries) = (40_960, 4_097, 12_288);
+        match self {
+            Format::Qcir => qcir_room(nodes, blocks, entries),
+            Format::Qdimacs => qdimacs_room(nodes, blocks, entries),
+        }
+    }
+}
+
+/// The text that lifting writes.
+#[derive(Clone, Debug, PartialEq, Eq)]
+pub struct LiftedText {
+    pub text: Vec<u8>,
+    /// The sizes of the table that was read and of its prenex form.
+    pub sizes: Sizes,
+}
+
+/// Reads a QCIR file, lifts it and writes its prenex form as a text into a
+/// buffer: one call from bytes to bytes, proved as a whole. A QCIR text has the
+/// file's truth value under every valuation; a QDIMACS text is true exactly if
+/// some valuation of the file's free variables makes the file true.
+///
+/// A file is refused as [`read_qcir`] refuses it, and any other by 9 exactly if
+/// the buffer is shorter than the text; [`Format::room`] is always enough. On
+/// refusal the buffer is as it was; if done, so is what stands after the text.
+pub fn lift_text_into(text: &[u8], format: Format, out: &mut [u8]) -> Result<WrittenText, Refusal> {
+    let mut answer = LiftTextAnswer::default();
+    raw::lift_text(text, format.number(), out, &mut answer);
+    let [number, position, bytes, sizes @ ..] = answer;
+    let bytes = written([number, position, bytes])?;
+    let sizes = Sizes::from_words(sizes.map(|size| size as u32));
+    Ok(WrittenText { bytes, sizes })
+}
+
+/// Allocates room and does what [`lift_text_into`] does. It is never refused
+/// by 9.
+pub fn lift_text(text: &[u8], format: Format) -> Result<LiftedText, Refusal> {
+    let mut out = vec![0; format.room()];
+    let WrittenText { bytes, sizes } = lift_text_into(text, format, &mut out)?;
+    out.truncate(bytes);
+    out.shrink_to_fit();
+    Ok(LiftedText { text: out, sizes })
+}
+
+/// Reads a QCIR file and measures its table: the sizes of the table and of the
+/// prenex form that [`lift_text`] writes. Refused as [`read_qcir`] refuses.
+pub fn measure_text(text: &[u8]) -> Result<Sizes, Refusal> {
+    let mut answer = MeasureTextAnswer::default();
+    raw::measure_text(text, &mut answer);
+    match answer {
+        [0, _, sizes @ ..] => Ok(Sizes::from_words(sizes)),
+        [number, position, ..] => Err(refusal(number, position.into(), [0, 0])),
+    }
 }

@@ -14,9 +14,11 @@ use std::process::{Command, Stdio};
 use std::sync::OnceLock;
 use std::thread::sleep;
 use std::time::{Duration, Instant};
+use wakubinryo::brute;
 use wakubinryo::generate::{accepted, Profile as TableProfile, Rng};
 use wakubinryo::generate_forms::{good_form, Profile};
-use wakubinryo::{prenex_form, qdimacs_text, read_qcir, PrenexForm, Table};
+use wakubinryo::generate_qcir::{circuit, Profile as FileProfile};
+use wakubinryo::{lift_text, prenex_form, qdimacs_text, read_qcir, Format};
 
 /// Longer than any answer here takes: most take some milliseconds.
 const LIMIT: Duration = Duration::from_secs(30);
@@ -40,13 +42,12 @@ fn is_here() -> bool {
     })
 }
 
-/// Whether DepQBF says that a form's file is true.
-fn answer(form: &PrenexForm) -> bool {
-    let text = qdimacs_text(form).expect("written");
+/// Whether DepQBF says that a file is true.
+fn answer(text: &[u8]) -> bool {
     let child = depqbf().stdin(Stdio::piped()).spawn();
     let mut child = child.expect("depqbf can be run");
     let mut input = child.stdin.take().expect("a pipe");
-    input.write_all(&text).expect("depqbf reads");
+    input.write_all(text).expect("depqbf reads");
     drop(input);
     let start = Instant::now();
     let status = loop {
@@ -56,33 +57,34 @@ fn answer(form: &PrenexForm) -> bool {
         if start.elapsed() > LIMIT {
             child.kill().expect("a child");
             child.wait().expect("a child");
-            panic!("no answer in {LIMIT:?}: {}", String::from_utf8_lossy(&text));
+            panic!("no answer in {LIMIT:?}: {}", String::from_utf8_lossy(text));
         }
         sleep(Duration::from_micros(500));
     };
     match status.code() {
         Some(10) => true,
         Some(20) => false,
-        _ => panic!("{status}: {}", String::from_utf8_lossy(&text)),
+        _ => panic!("{status}: {}", String::from_utf8_lossy(text)),
     }
 }
 
-fn lifted(table: &Table) -> PrenexForm {
-    prenex_form(&table.words, &table.list).expect("accepted")
-}
-
-/// Sends so many forms through DepQBF, each given with its file's truth value.
-fn assert_answers(name: &str, forms: u64, one: impl Fn(&mut Rng) -> (PrenexForm, bool)) {
+/// Sends so many files through DepQBF, each given with its truth value.
+fn assert_answers(name: &str, files: u64, one: impl Fn(&mut Rng) -> (Vec<u8>, bool)) {
     if !is_here() {
         return;
     }
     let mut counts = [0; 2];
-    each(name, forms, |rng, _| {
-        let (form, expected) = one(rng);
-        assert_eq!(answer(&form), expected, "{form:?}");
+    each(name, files, |rng, _| {
+        let (text, expected) = one(rng);
+        assert_eq!(
+            answer(&text),
+            expected,
+            "{}",
+            String::from_utf8_lossy(&text)
+        );
         counts[usize::from(expected)] += 1;
     });
-    assert!(counts.iter().all(|&c| c > forms / 5), "{counts:?}");
+    assert!(counts.iter().all(|&c| c > files / 5), "{counts:?}");
 }
 
 #[test]
@@ -91,7 +93,7 @@ fn random_forms() {
         let profile = Profile::tiny(rng);
         let form = good_form(rng, &profile);
         let expected = form_is_satisfiable(&form).expect("few variables");
-        (form, expected)
+        (qdimacs_text(&form).expect("written"), expected)
     });
 }
 
@@ -102,8 +104,31 @@ fn lifts_of_random_tables() {
     assert_answers("tables for DepQBF", 200, |rng| {
         let profile = TableProfile::tiny(rng);
         let table = accepted(rng, &profile);
-        (lifted(&table), table_is_satisfiable(&table))
+        let form = prenex_form(&table.words, &table.list).expect("accepted");
+        let text = qdimacs_text(&form).expect("written");
+        (text, table_is_satisfiable(&table))
     });
+}
+
+/// Random QCIR files, lifted in one call. Few of their variables are bound.
+#[test]
+fn lifts_of_random_files() {
+    assert_answers("files for DepQBF", 100, |rng| loop {
+        let profile = FileProfile::tiny(rng);
+        let circuit = circuit(rng, &profile);
+        if circuit.bound_count() > 6 {
+            continue;
+        }
+        let mut valuations = brute::valuations(&circuit.free);
+        let satisfiable = valuations.any(|mut valuation| circuit.value(&mut valuation));
+        return (lifted(&circuit.text()), satisfiable);
+    });
+}
+
+/// The clauses of a QCIR file, by the call from text to text.
+fn lifted(text: &[u8]) -> Vec<u8> {
+    let lifted = lift_text(text, Format::Qdimacs);
+    lifted.expect("accepted").text
 }
 
 /// The boxes of two examples can be filled, those of the third can't.
@@ -119,7 +144,7 @@ fn lifts_of_the_examples() {
         let table = read_qcir(&text).expect("accepted");
         assert_eq!(table_is_satisfiable(&table), expected);
         if is_here() {
-            assert_eq!(answer(&lifted(&table)), expected);
+            assert_eq!(answer(&lifted(&text)), expected);
         }
     }
 }

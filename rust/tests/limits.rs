@@ -1,18 +1,24 @@
-//! What is largest: the form, a block, the free variables, the stack of a call.
+//! What is largest: the form, a block, the free variables, the texts of a form, the
+//! stack of a call.
 
 mod common;
 
 use common::forms::FORMATS;
+use common::texts::{assert_library, assert_same_lifting, library_measure_text};
+use common::texts::{reference_lift_text, sizes_of, LIBRARY_LIFT_TEXT};
 use common::{assert_free_variables, assert_same, each, library_measure, some_nodes, Case};
 use common::{reference_form, reference_free_variables, reference_left, Prefill, TOO_SHORT};
 use common::{LIBRARY_FREE_VARIABLES, LIBRARY_LIFT, LIBRARY_REMOVE};
 use std::thread;
-use wakubinryo::answer::{count_words, size_words, text_words};
+use wakubinryo::answer::{count_words, lift_text_words, size_words, text_words};
+use wakubinryo::answer::{measure_text_words, WrittenText};
 use wakubinryo::form_check::MOST_NODES;
 use wakubinryo::generate::{accepted, empty_nest, largest_form, most_free_variables};
-use wakubinryo::generate::{every_fourth_empty, parity_chain, Profile, Table};
+use wakubinryo::generate::{every_fourth_empty, parity_chain, Profile, Rng, Table};
 use wakubinryo::generate_forms::FAMILIES;
-use wakubinryo::{PrenexForm, Sizes, WIDTH};
+use wakubinryo::generate_qcir::{self, largest_lift, with_length};
+use wakubinryo::qcir::LONGEST;
+use wakubinryo::{Format, PrenexForm, Sizes, WIDTH};
 
 #[test]
 fn the_largest_form() {
@@ -80,10 +86,33 @@ fn one_free_variable_in_two_nodes() {
     assert!(full > 300, "only {full} with as many as there may be");
 }
 
+/// The texts of the largest form of a text, as it is and with 65,536 bytes, into
+/// buffers of every sort and into the room that is always enough.
+#[test]
+fn the_largest_texts() {
+    let text = largest_lift();
+    let longest = with_length(&mut Rng::new(1), &text, LONGEST).expect("shorter");
+    for (text, prefill) in [(text, Prefill::Counting), (longest, Prefill::Pattern)] {
+        let lifted = assert_same_lifting(&text, prefill, 9);
+        for format in Format::ALL {
+            assert_library(&text, format, format.room(), prefill, &lifted);
+        }
+        let lifted = lifted.expect("accepted");
+        // 4,095 + 5 * 4,094 + 4 * 4,095 nodes and 1 + 2 * 4,095 + 4,094
+        // variables: the root block adds none but its own variable.
+        let expected = [4096, 4095, 4096, 4095, 40_945, 4095, 12_285];
+        assert_eq!(lifted.sizes, Sizes::from_words(expected));
+        let bytes = Format::ALL.map(|format| lifted.text(format).len());
+        assert_eq!(bytes, [663_335, 1_973_545]);
+    }
+}
+
 /// The stack that include/wakubinryo.h says is enough for a call, and, with what
-/// its thread needs besides, for a call that writes a text.
+/// its thread needs besides, for a call that writes a text and for one from text
+/// to text.
 const STACK: usize = 256 * 1024;
 const STACK_OF_WRITING: usize = 1024 * 1024 + 64 * 1024;
+const STACK_OF_LIFTING_A_TEXT: usize = 1_536 * 1024;
 
 /// Makes calls in a thread with no more stack than this.
 fn with_stack<T: Send + 'static>(stack: usize, calls: impl FnOnce() -> T + Send + 'static) -> T {
@@ -147,5 +176,28 @@ fn stack_of_writing() {
             });
             assert!(given == (text_words(Ok(expected.len())), expected));
         }
+    }
+}
+
+#[test]
+fn stack_of_lifting_a_text() {
+    let mut texts = vec![largest_lift()];
+    texts.extend(generate_qcir::FAMILIES.map(|(_, family)| family(LONGEST)));
+    for text in texts {
+        let lifted = reference_lift_text(&text);
+        let sizes = sizes_of(&lifted);
+        for format in Format::ALL {
+            let expected = lifted.as_ref().map_or(vec![], |l| l.text(format).to_vec());
+            let bytes = expected.len();
+            let answer = lift_text_words(sizes.map(|sizes| WrittenText { bytes, sizes }));
+            let (text, mut out) = (text.clone(), vec![0; bytes]);
+            let given = with_stack(STACK_OF_LIFTING_A_TEXT, move || {
+                let answer = LIBRARY_LIFT_TEXT(&text, format.number(), &mut out);
+                (answer, out)
+            });
+            assert!(given == (answer, expected), "{format:?}");
+        }
+        let measured = with_stack(STACK_OF_LIFTING_A_TEXT, move || library_measure_text(&text));
+        assert_eq!(measured, measure_text_words(sizes));
     }
 }

@@ -3,125 +3,49 @@
 
 mod common;
 
-use common::{assert_reading, assert_same_reading, each, reference_table, Case, Prefill};
+use common::files;
+use common::forms::prefill;
+use common::vectors::each_read_vector;
+use common::{assert_reading, assert_same_reading, each, reference_table, Prefill};
 use common::{LIBRARY_READ, TOO_SHORT};
 use std::thread;
 use wakubinryo::answer::written_words;
 use wakubinryo::brute;
 use wakubinryo::circuit::Circuit;
-use wakubinryo::generate::Rng;
-use wakubinryo::generate_qcir::{circuit, damage_once, exchange_names, good_file, spelled};
-use wakubinryo::generate_qcir::{with_bound, with_length, with_nodes, Layout, Profile, FAMILIES};
-use wakubinryo::reference::LIMIT;
+use wakubinryo::generate_qcir::{circuit, damage_once, good_file, spelled};
+use wakubinryo::generate_qcir::{with_length, Layout, Profile, FAMILIES};
 use wakubinryo::Reason::*;
 use wakubinryo::{measure, qcir, read_qcir, Node, Reason, Table, WIDTH};
 
-/// A case of the vectors.
-#[derive(Default)]
-struct Vector {
-    case: u64,
-    text: Vec<u8>,
-    /// Number, position, words and entries.
-    read: Vec<u32>,
-    table: Table,
-    over: Option<Vec<u32>>,
-    truth: Vec<u32>,
-}
-
-/// The bytes between quotes, with \n, \t, \\, \" and \xNN.
-fn unescape(quoted: &str) -> Vec<u8> {
-    let inner = quoted
-        .strip_prefix('"')
-        .and_then(|rest| rest.strip_suffix('"'))
-        .expect("quotes");
-    let mut bytes = inner.bytes();
-    let mut text = Vec::new();
-    while let Some(byte) = bytes.next() {
-        if byte != b'\\' {
-            text.push(byte);
-            continue;
-        }
-        let digits = |bytes: &mut std::str::Bytes| {
-            let pair = [bytes.next(), bytes.next()].map(|digit| digit.expect("two digits"));
-            let pair = std::str::from_utf8(&pair).expect("hexadecimal").to_string();
-            u8::from_str_radix(&pair, 16).expect("hexadecimal")
-        };
-        text.push(match bytes.next() {
-            Some(b'n') => b'\n',
-            Some(b't') => b'\t',
-            Some(b'x') => digits(&mut bytes),
-            Some(byte @ (b'\\' | b'"')) => byte,
-            other => panic!("escape {other:?}"),
-        });
-    }
-    text
-}
-
-fn vectors() -> Vec<Vector> {
-    let mut vectors: Vec<Vector> = Vec::new();
-    for line in include_str!("../vectors/qcir-read.txt").lines() {
-        if line.is_empty() || line.starts_with('#') {
-            continue;
-        }
-        let (key, rest) = line.split_once(' ').unwrap_or((line, ""));
-        if key == "case" {
-            vectors.push(Vector {
-                case: rest.parse().expect("a number"),
-                ..Vector::default()
-            });
-            continue;
-        }
-        let vector = vectors.last_mut().expect("a case");
-        if key == "text" {
-            vector.text = unescape(rest);
-            continue;
-        }
-        let numbers = rest.split_ascii_whitespace();
-        let numbers: Vec<u32> = numbers.map(|n| n.parse().expect("a number")).collect();
-        match key {
-            "read" => vector.read = numbers,
-            "nodes" => vector.table.words = numbers,
-            "list" => vector.table.list = numbers,
-            "over" => vector.over = Some(numbers),
-            "truth" => vector.truth = numbers,
-            _ => panic!("line {line}"),
-        }
-    }
-    assert_eq!(vectors.len(), 420);
-    vectors
-}
-
 #[test]
 fn reference_and_library_give_every_vector() {
-    for vector in vectors() {
-        let _case = Case("vectors", vector.case);
+    each_read_vector(|vector| {
         let (answer, table) = reference_table(&vector.text);
         assert_eq!(written_words(answer), *vector.read);
         assert_eq!(table, vector.table);
         for prefill in Prefill::ALL {
             assert_reading(&vector.text, answer, &vector.table, prefill, 7);
         }
-    }
+    });
 }
 
 #[test]
 fn tables_have_the_truth_given() {
     let mut checked = 0;
-    for vector in vectors() {
-        let _case = Case("vectors", vector.case);
-        let Some(over) = vector.over else {
-            continue;
+    each_read_vector(|vector| {
+        let Some(over) = &vector.over else {
+            return;
         };
         let table = read_qcir(&vector.text).expect("a file");
         let free = brute::free_occurrences(&table.words, &table.list);
         assert!(over.iter().eq(&free), "free variables");
         assert_eq!(vector.truth.len(), 1 << over.len());
-        for (mut valuation, &value) in brute::valuations(&over).zip(&vector.truth) {
+        for (mut valuation, &value) in brute::valuations(over).zip(&vector.truth) {
             let of_table = brute::table_value(&table.words, &table.list, &mut valuation);
             assert_eq!(u32::from(of_table), value, "under {valuation:?}");
             checked += 1;
         }
-    }
+    });
     assert!(checked > 300, "only {checked} values compared");
 }
 
@@ -484,104 +408,26 @@ fn assert_spells(circuit: &Circuit, text: &[u8], prefill: Prefill, spare: usize)
     table
 }
 
-fn prefill(number: u64) -> Prefill {
-    Prefill::ALL[number as usize % 4]
-}
-
 #[test]
 fn good_files() {
-    each("good files", 12_000, |rng, number| {
-        let gates = match number % 200 {
-            0 => rng.between(300, 1500),
-            1..=19 => rng.between(20, 200),
-            _ => rng.between(0, 20),
-        };
-        let (circuit, text) = good_file(rng, gates);
-        let spare = rng.between(1, 40);
-        assert_spells(&circuit, &text, prefill(number), spare);
+    files::good_files(12_000, |circuit, text, prefill, spare| {
+        assert_spells(circuit, text, prefill, spare);
     });
 }
 
 #[test]
 fn damaged_files() {
-    let mut counts = [0; 14];
-    each("damaged files", 40_000, |rng, number| {
-        let gates = match number % 400 {
-            0 => rng.between(300, 1500),
-            1..=19 => rng.between(20, 200),
-            _ => rng.between(0, 12),
-        };
-        let (_, mut text) = good_file(rng, gates);
-        for _ in 0..rng.pick(&[1, 1, 2, 5]) {
-            damage_once(rng, &mut text);
-        }
-        let spare = rng.between(1, 40);
-        let answer = assert_same_reading(&text, prefill(number), spare);
-        counts[answer.map_or_else(|refusal| refusal.reason.number(), |_| 0) as usize] += 1;
-    });
-    for number in [0, 10, 11, 12, 13] {
-        assert!(counts[number] > 500, "answers by number: {counts:?}");
-    }
+    files::damaged_files(40_000, assert_same_reading);
 }
 
 #[test]
 fn files_with_names_exchanged() {
-    let mut counts = [0; 14];
-    each("names exchanged", 30_000, |rng, number| {
-        let gates = match number % 400 {
-            0 => rng.between(300, 1000),
-            1..=19 => rng.between(20, 200),
-            _ => rng.between(0, 12),
-        };
-        let (mut circuit, _) = good_file(rng, gates);
-        for _ in 0..rng.pick(&[1, 1, 2, 5]) {
-            exchange_names(rng, &mut circuit);
-        }
-        let layout = Layout::random(rng);
-        let text = spelled(rng, &circuit, layout);
-        let spare = rng.between(1, 40);
-        let answer = assert_same_reading(&text, prefill(number), spare);
-        counts[answer.map_or_else(|refusal| refusal.reason.number(), |_| 0) as usize] += 1;
-    });
-    for number in [0, 11, 12, 13] {
-        assert!(counts[number] > 700, "answers by number: {counts:?}");
-    }
+    files::files_with_names_exchanged(30_000, assert_same_reading);
 }
 
-/// Random files at the limit of nodes and of the sum of counts, and over it.
 #[test]
 fn files_at_the_limits_of_tables() {
-    let mut compared = [0; 3];
-    each("limits of tables", 160, |rng, number| {
-        let gates = rng.between(5, 700);
-        let small = loop {
-            let (circuit, text) = good_file(rng, gates);
-            if text.len() < 20_000 && circuit.node_count() > 5 {
-                break circuit;
-            }
-        };
-        let over = number as usize % 2;
-        // At the limit it is accepted, over it refused for this reason.
-        let compare = |circuit: Circuit, reason: Reason| {
-            let answer = assert_same_reading(&circuit.text(), prefill(number / 2), 3);
-            let expected = if over == 0 { None } else { Some(reason) };
-            assert_eq!(answer.err().map(|refusal| refusal.reason), expected);
-        };
-        if let Some(circuit) = with_bound(small.clone(), LIMIT + over) {
-            compare(circuit, TooManyVariables);
-            compared[0] += 1;
-        }
-        // A nest of negations, at the end, takes 18 bytes a node.
-        let room = (qcir::LONGEST - small.text().len()) / 19;
-        let nodes = LIMIT + over;
-        if small.node_count() + room > nodes {
-            if let Some(circuit) = with_nodes(small, nodes) {
-                compare(circuit, TooLarge);
-                compared[1 + over] += 1;
-            }
-        }
-    });
-    assert!(compared.iter().all(|&count| count > 10), "{compared:?}");
+    files::files_at_the_limits_of_tables(160, assert_same_reading);
 }
 
 #[test]
@@ -711,28 +557,9 @@ fn the_table_has_the_circuits_truth() {
     assert!(with_blocks > 3_000, "only {with_blocks} with blocks");
 }
 
-/// Files of every family, as they are, cut short and damaged.
 #[test]
 fn families() {
-    let mut counts = [0; 14];
-    for (name, family) in FAMILIES {
-        for bytes in [2_000, 16_384, 65_536] {
-            let _case = Case(name, bytes as u64);
-            let mut text = family(bytes);
-            assert_eq!(text.len(), bytes);
-            let answer = assert_same_reading(&text, Prefill::Counting, 3);
-            let number = answer.map_or_else(|refusal| refusal.reason.number(), |_| 0);
-            counts[number as usize] += 1;
-            let mut rng = Rng::new(bytes as u64);
-            for _ in 0..8 {
-                damage_once(&mut rng, &mut text);
-                let _ = assert_same_reading(&text, Prefill::Pattern, 3);
-            }
-        }
-    }
-    for number in [0, 2, 6, 12] {
-        assert!(counts[number] > 0, "answers by number: {counts:?}");
-    }
+    files::families(8, assert_same_reading);
 }
 
 /// The stack that is enough for a call, and what its thread needs besides.

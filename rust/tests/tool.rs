@@ -2,7 +2,7 @@
 
 mod programs;
 
-use programs::{folder, refused, repository, run, Left};
+use programs::{folder, refused, repository, run, tool, Left};
 use std::fs::{self, File};
 use std::path::Path;
 use std::process::{Command, Stdio};
@@ -16,10 +16,6 @@ lifted: nodes        71
 lifted: blocks        4
 lifted: variables    15
 ";
-
-fn tool() -> &'static Path {
-    Path::new(env!("CARGO_BIN_EXE_wakubinryo"))
-}
 
 fn example_called(name: &str) -> String {
     let path = repository("examples").join(name);

@@ -2,15 +2,15 @@
 //! says. They are in ../target/bin once `rt check measure_qcir lift_qcir
 //! lift_qdimacs` has been run.
 
+mod common;
 mod programs;
 
-use programs::{folder, refused, repository, run, Left};
+use common::files;
+use programs::{folder, refused, repository, run, tool, Left};
 use std::fs;
 use std::path::{Path, PathBuf};
-
-fn tool() -> &'static Path {
-    Path::new(env!("CARGO_BIN_EXE_wakubinryo"))
-}
+use wakubinryo::generate_qcir::largest_lift;
+use wakubinryo::measure_text;
 
 /// A Rattle program, and the tool's arguments before the file's name that ask for
 /// the same.
@@ -82,6 +82,44 @@ fn answers_agree() {
             assert_eq!(expected.status, Some(0));
             assert_eq!(said(run(&program.path, &[name], b"")), said(expected));
         }
+    }
+}
+
+#[test]
+fn answers_to_generated_files_agree() {
+    let folder = folder("answers_to_generated_files_agree");
+    let file = folder.join("in");
+    let name = file.to_str().expect("UTF-8");
+    let assert_agree = |text: &[u8]| {
+        fs::write(&file, text).expect("written");
+        for program in programs() {
+            let expected = said(program.tool_on(name));
+            assert_eq!(said(run(&program.path, &[name], b"")), expected);
+        }
+    };
+    files::good_files(40, |_, text, _, _| assert_agree(text));
+    files::damaged_files(80, |text, _, _| {
+        assert_agree(text);
+        measure_text(text)
+    });
+}
+
+/// The usual stack is enough for the largest form, in KiB.
+const STACK: usize = 8192;
+
+#[test]
+fn the_largest_form() {
+    let folder = folder("the_largest_form");
+    let file = folder.join("in");
+    fs::write(&file, largest_lift()).expect("written");
+    let name = file.to_str().expect("UTF-8");
+    for program in programs() {
+        let expected = program.tool_on(name);
+        assert_eq!(expected.status, Some(0));
+        let path = program.path.to_str().expect("UTF-8");
+        let command = format!("ulimit -s {STACK}; exec \"$0\" \"$1\"");
+        let left = run(Path::new("sh"), &["-c", &command, path, name], b"");
+        assert!(said(left) == said(expected), "{path}");
     }
 }
 

@@ -12,7 +12,8 @@ use Rattle.prenex.specs.Outcome.{writtenForm}
 use Rattle.qcir.specs.File.{File}
 use Rattle.qcir.specs.Spelling.{Spells}
 use Rattle.qcir.specs.Meaning.{fileTruth}
-use Rattle.qcir.specs.Reading.{limits, Written, Buffers, Reading}
+use Rattle.qcir.specs.FromText.{limits}
+use Rattle.qcir.specs.Reading.{Written, Buffers, Reading}
 
 -- The table that a reading leaves in the buffers.
 abbrev pub tableRead : Outcome Written Buffers → Table

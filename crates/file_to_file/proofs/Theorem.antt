@@ -16,7 +16,8 @@ use Rattle.prenex_form.proofs.Theorem.{prenex}
 use Rattle.qcir.specs.File.{File}
 use Rattle.qcir.specs.Spelling.{Spells}
 use Rattle.qcir.specs.Meaning.{fileTruth}
-use Rattle.qcir.specs.Reading.{limits, refusedWith, Written, Buffers, Reading, too-long, misspelled, spelled, TableOf, TableWritten}
+use Rattle.qcir.specs.FromText.{limits, refusedText, too-long, misspelled, spelled}
+use Rattle.qcir.specs.Reading.{Written, Buffers, Reading, TableOf, TableWritten}
 use Rattle.qcir_reader.proofs.Texts.{done-table}
 use Rattle.qcir_round_trip.proofs.Theorem.{text-written}
 use Rattle.qdimacs_form.proofs.Theorem.{clauses-written}
@@ -32,7 +33,7 @@ pub record Read (text ws ls : List ℕ) : Type 0 where
 
 pub was-read : (text : List ℕ) (before : Buffers) (o : Outcome Written Buffers) → Reading limits text before o → o .answer .verdict .number ≡ 0
     → Read text (take (o .answer .sizes .words) (o .buffers .words)) (take (o .answer .sizes .entries) (o .buffers .list))
-unfolding refusedWith refused refusal TableWritten limits
+unfolding refusedText refused refusal TableWritten limits
 was-read text before _ (too-long l) zero = absurd (omega (arith, zero))
 was-read text before _ (misspelled l p fault) zero = absurd (omega (arith, zero))
 was-read text before _ (spelled l f s) zero =
@@ -52,7 +53,7 @@ module _ (text ws ls : List ℕ) (r : Read text ws ls) where
   lifted-truth : (v : Valuation) → formTruth nodes prefix variables v ≡ fileTruth (r .file) v
   lifted-truth v = prenex ws ls (r .table .accepts) .same-truth v ∙ r .table .truth-kept (r .file) (r .spells) v
 
-  from-table : SameTruth text (liftedText ws ls)
+  pub from-table : SameTruth text (liftedText ws ls)
   unfolding liftedText
   from-table =
       let written = text-written nodes prefix variables (lift-passes (tableOf ws ls) _ _ _ (prenex ws ls (r .table .accepts))) in
@@ -65,7 +66,7 @@ module _ (text ws ls : List ℕ) (r : Read text ws ls) where
         same-truth = λ v. written .same-truth v ∙ lifted-truth v;
       }
 
-  clauses-from-table : SameAnswer text (liftedClauses ws ls)
+  pub clauses-from-table : SameAnswer text (liftedClauses ws ls)
   unfolding liftedClauses
   clauses-from-table =
       let written = clauses-written nodes prefix variables (lift-passes (tableOf ws ls) _ _ _ (prenex ws ls (r .table .accepts))) in

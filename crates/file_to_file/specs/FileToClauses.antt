@@ -12,7 +12,8 @@ use Rattle.prenex_form.specs.Prefix.{writtenPrefix, writtenVariables}
 use Rattle.qcir.specs.File.{File}
 use Rattle.qcir.specs.Spelling.{Spells}
 use Rattle.qcir.specs.Meaning.{fileTruth}
-use Rattle.qcir.specs.Reading.{limits, Written, Buffers, Reading}
+use Rattle.qcir.specs.FromText.{limits}
+use Rattle.qcir.specs.Reading.{Written, Buffers, Reading}
 use Rattle.qdimacs.specs.Problem.{Problem}
 use Rattle.qdimacs.specs.Spelling.{Says}
 use Rattle.qdimacs_form.specs.Clauses.{clausesText}

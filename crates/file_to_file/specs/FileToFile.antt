@@ -18,7 +18,8 @@ use Rattle.qcir.specs.File.{File}
 use Rattle.qcir.specs.Spelling.{Spells}
 use Rattle.qcir.specs.Unbounded.{SpellsUnbounded}
 use Rattle.qcir.specs.Meaning.{fileTruth}
-use Rattle.qcir.specs.Reading.{limits, Written, Buffers, Reading}
+use Rattle.qcir.specs.FromText.{limits}
+use Rattle.qcir.specs.Reading.{Written, Buffers, Reading}
 use Rattle.qcir_form.specs.File.{formText}
 
 -- Every prenex form that lifting may write passes the form check: neither 14 nor 15 refuses it (lift-passes).

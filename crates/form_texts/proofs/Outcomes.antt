@@ -9,7 +9,7 @@ use lib.ListN.{length, take}
 use borrow.Author.Tests.{eqb-true, eqb-false, ltb-true, ltb-false, lt-ltb, le-ltb}
 use Rattle.lists.specs.Choice.{Is, is-true, is-false, look}
 use Rattle.lists.specs.Parts.{overwrite}
-use Rattle.lists.proofs.Overwrite.{take-overwrite}
+use Rattle.lists.proofs.Overwrite.{start-of}
 use Rattle.refusals.specs.Verdict.{refusal, accepted}
 use Rattle.refusals.specs.Outcome.{Outcome, done, refused, unlessShort}
 use Rattle.refusals.specs.declared.Verdict.{Verdict}
@@ -104,11 +104,6 @@ module _ (ns ps xs text before : List ℕ) where
           let e = number-zero _ ns ps xs (eqb-true _ _ z) in
           done-way e (ltb-false _ _ s) (is-accepted e ∙ call-room 0 before written _ s)
 
-  start-written : length text ≤ length before → take (length text) (overwrite before 0 text) ≡ text
-  start-written h =
-      let e : length text ≡ 0 + length text = omega arith in
-      ap (λ (k : ℕ). take k (overwrite before 0 text)) e ∙ take-overwrite before 0 text (omega (arith, h))
-
   number : Outcome ℕ (List ℕ) → ℕ
   number o = o .answer .verdict .number
 
@@ -123,7 +118,7 @@ module _ (ns ps xs text before : List ℕ) where
         go (short-way a h e) z = absurd (omega (arith, sym (ap number e) ∙ z))
         go (done-way a h e) z =
             subst (λ (o : Outcome ℕ (List ℕ)). Owed (take (o .answer .sizes) (o .buffers))) (sym e)
-            (subst Owed (sym (start-written h)) (owed a))
+            (subst Owed (sym (start-of before text _ refl)) (owed a))
 
     outcome-room : Suffices room before outcome
     unfolding Suffices refused refusal done accepted written number

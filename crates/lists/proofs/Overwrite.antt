@@ -11,6 +11,11 @@ use lib.Seq.{length-take-le, take-at, drop-drop, drop-append-add, take-add, getD
 use Rattle.lists.specs.Parts.{upTo, overwrite}
 use Rattle.lists.proofs.Parts.{length-upTo, sum-grows}
 
+-- what is written over a buffer's start stands there
+pub start-of : (out ws : List ℕ) (n : ℕ) → length ws ≡ n → take n (overwrite out 0 ws) ≡ ws
+unfolding overwrite
+start-of out ws n e = take-at ws _ n e
+
 -- nothing written
 pub overwrite-nil : (out : List ℕ) (at : ℕ) → overwrite out at [] ≡ out
 unfolding overwrite

@@ -7,10 +7,9 @@ use Prim.Native.Nat.{ℕ, _*_}
 use native.Mathlib.Omega.{arith}
 use lib.Dec.{eqb}
 use lib.ListN.{length, take}
-use lib.Seq.{take-at}
 use borrow.Author.Tests.{eqb-true, eqb-false}
 use Rattle.lists.specs.Choice.{Is, is-true, is-false, look}
-use Rattle.lists.specs.Parts.{overwrite}
+use Rattle.lists.proofs.Overwrite.{start-of}
 use Rattle.formula.specs.Words.{width, tableOf}
 use Rattle.formula.specs.Form.{prefixWidth}
 use Rattle.refusals.specs.Verdict.{refusal, accepted}
@@ -25,11 +24,6 @@ use Rattle.prenex_form.specs.Sizes.{sizes}
 use Rattle.prenex_form.specs.Promise.{PrenexOf, SizesOf}
 use Rattle.prenex_form.proofs.Theorem.{prenex, sizes-written}
 use Rattle.prenex.specs.Outcome.{noSizes, measured, FormBuffers, writtenForm, tooShort, written, lifted, SizesWritten, formLeft, FormWritten}
-
--- what is written over a buffer's start stands there
-start-of : (out ws : List ℕ) (n : ℕ) → length ws ≡ n → take n (overwrite out 0 ws) ≡ ws
-unfolding overwrite
-start-of out ws n e = take-at ws _ n e
 
 -- the verdict's number in an answer
 abbrev number : AnswerWith Sizes → ℕ

@@ -62,7 +62,8 @@ pub fn measure(words: &[u32], list: &[u32]) -> Answer
     done(measure_accepted(words, list))
 }
 
-fn refused(verdict: Verdict) -> Answer
+// An answer that hands a refusal on, with sizes of 0.
+pub fn refused(verdict: Verdict) -> Answer
     ensures { λ r. ⌜ answerOf r ≡ refusedOf verdict noSizes ⌝ }
 {
     let sizes = Sizes {

@@ -5,5 +5,6 @@ pub mod Laws
 pub mod Meaning
 pub mod Refusals
 pub mod Table
+pub mod FromText
 pub mod Reading
 pub mod Positions

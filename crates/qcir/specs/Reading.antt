@@ -3,36 +3,20 @@
 use mathlib.Core.Bool.{_||_}
 use mathlib.Core.List.{List}
 use mathlib.Core.Path.{_≡_}
-use Prim.Native.Nat.{ℕ, _<_, _≤_}
-use lib.Dec.{eqb, ltb}
+use Prim.Native.Nat.{ℕ, _≤_}
+use lib.Dec.{ltb}
 use lib.ListN.{length, take}
-use Rattle.lists.specs.Choice.{pick}
-use Rattle.lists.specs.Search.{lowest}
 use Rattle.lists.specs.Parts.{overwrite}
-use Rattle.formula.specs.Words.{nodeCount, tableOf}
+use Rattle.formula.specs.Words.{tableOf}
 use Rattle.formula.specs.Valuation.{Valuation}
 use Rattle.formula.specs.Truth.{truth}
-use Rattle.refusals.specs.Verdict.{refusal, accepted}
-use Rattle.refusals.specs.Outcome.{Outcome, refused, done, unlessRefused, unlessShort}
-use Rattle.refusals.specs.declared.Verdict.{Verdict}
-use Rattle.acceptance.specs.Limits.{limit}
-use Rattle.acceptance.specs.Verdict.{tooManyVariables, verdict}
+use Rattle.refusals.specs.Verdict.{accepted}
+use Rattle.refusals.specs.Outcome.{Outcome, done, unlessShort}
+use Rattle.acceptance.specs.Verdict.{verdict}
 use Rattle.qcir.specs.File.{File}
-use Rattle.qcir.specs.Spelling.{Spells, SpellingFault}
+use Rattle.qcir.specs.Spelling.{Spells}
 use Rattle.qcir.specs.Meaning.{fileTruth}
-use Rattle.qcir.specs.Refusals.{least, misplaced, notUsedOnce, unbound}
-use Rattle.qcir.specs.Table.{tableWords, tableList}
-
--- The limits on a file's bytes, on names, and on the nodes and the sum of counts of its table.
-pub record Limits : Type 0 where
-  pub bytes : ℕ
-  pub names : ℕ
-  pub nodes : ℕ
-  pub variables : ℕ
-
--- "names are decimal 1 to 65,535 .., at most 65,536 bytes", and the table's limits.
-unfoldable pub limits : Limits
-limits = record { bytes = 65536; names = 65535; nodes = limit; variables = limit }
+use Rattle.qcir.specs.FromText.{Limits, ofTable, ofFile, FromText, OnlyFromText, OneOutcome}
 
 -- The sizes of an answer: "the words .. written, buffer by buffer".
 pub record Written : Type 0 where
@@ -47,12 +31,9 @@ pub record Buffers : Type 0 where
 abbrev pub buffers : List ℕ → List ℕ → Buffers
 buffers words list = record { words = words; list = list }
 
--- "On refusal all sizes .. are 0 .., and no buffer has changed."
+-- "On refusal all sizes .. are 0."
 unfoldable pub noneWritten : Written
 noneWritten = record { words = 0; entries = 0 }
-
-unfoldable pub refusedWith : Verdict → Buffers → Outcome Written Buffers
-refusedWith v before = record { answer = refused v noneWritten; buffers = before }
 
 -- The table's words at the buffers' starts; "words after the last one written keep their content".
 unfoldable pub doneWith : List ℕ → List ℕ → Buffers → Outcome Written Buffers
@@ -62,57 +43,30 @@ doneWith ws ls before =
       buffers = buffers (overwrite (before .words) 0 ws) (overwrite (before .list) 0 ls);
     }
 
--- The next verdict where no number is at fault; else this refusal, at the lowest.
-unfoldable pub unlessAny : List ℕ → ℕ → Verdict → Verdict
-unlessAny faults number next = pick (eqb (length faults) 0) next (refusal number (least faults))
+-- ".. and 9": what comes of the file's table.
+unfoldable pub stored : Buffers → List ℕ → List ℕ → Outcome Written Buffers
+stored before ws ls =
+    unlessShort (ltb (length (before .words)) (length ws) || ltb (length (before .list)) (length ls)) noneWritten before
+    (doneWith ws ls before)
 
--- "then 11 ..", at the lowest place; "Then 13 .., 12 .., the lowest such name being the place of each".
-unfoldable pub nameVerdict : File → Verdict
-nameVerdict f = unlessAny (misplaced f) 11 (unlessAny (notUsedOnce f) 13 (unlessAny (unbound f) 12 accepted))
+-- Of a file; and of its table, where 11, 13 and 12 do not apply.
+abbrev pub fileOutcome : Limits → File → Buffers → Outcome Written Buffers
+fileOutcome lim f before = ofFile lim noneWritten before (stored before) f
 
--- "then 2 for nodes only, 6 ..": of the file's table.
-unfoldable pub sizeVerdict : Limits → List ℕ → Verdict
-sizeVerdict lim ws =
-    let n = nodeCount ws in
-    let i = lowest (tooManyVariables (lim .variables) ws) n in
-    pick (ltb (lim .nodes) n) (refusal 2 0)
-    (pick (ltb i n) (refusal 6 i)
-    accepted)
-
--- ".. and 9": the outcome once 11, 13 and 12 do not apply.
-unfoldable pub stored : Limits → File → Buffers → Outcome Written Buffers
-stored lim f before =
-    let ws = tableWords f in
-    let ls = tableList f in
-    unlessRefused (sizeVerdict lim ws) noneWritten before
-    (unlessShort (ltb (length (before .words)) (length ws) || ltb (length (before .list)) (length ls)) noneWritten before
-    (doneWith ws ls before))
-
-unfoldable pub outcome : Limits → File → Buffers → Outcome Written Buffers
-outcome lim f before = unlessRefused (nameVerdict f) noneWritten before (stored lim f before)
+abbrev pub tableOutcome : Limits → File → Buffers → Outcome Written Buffers
+tableOutcome lim f before = ofTable lim noneWritten before (stored before) f
 
 -- What reading a text does.
-pub data Reading (lim : Limits) (text : List ℕ) (before : Buffers) : Outcome Written Buffers → Type 0 where
-  -- "10 length, at 0"
-  too-long : lim .bytes < length text → Reading lim text before (refusedWith (refusal 10 0) before)
-  -- "or spelling"
-  misspelled : length text ≤ lim .bytes → (p : ℕ) → SpellingFault (lim .names) text p → Reading lim text before (refusedWith (refusal 10 p) before)
-  spelled : length text ≤ lim .bytes → (f : File) → Spells (lim .names) text f → Reading lim text before (outcome lim f before)
+abbrev pub Reading : Limits → List ℕ → Buffers → Outcome Written Buffers → Type 0
+Reading lim text before o = FromText lim noneWritten before (stored before) text o
 
 -- The outcome is the only one that reading the text has.
 abbrev pub Only : Limits → List ℕ → Buffers → Outcome Written Buffers → Type 0
-Only lim text before o = (p : Outcome Written Buffers) → Reading lim text before p → p ≡ o
+Only lim text before o = OnlyFromText lim noneWritten before (stored before) text o
 
--- An outcome of reading the text, and no other.
-pub record OneReading (lim : Limits) (text : List ℕ) (before : Buffers) : Type 0 where
-  pub result : Outcome Written Buffers
-  pub reading : Reading lim text before result
-  pub only : Only lim text before result
-
--- Every text has one, within any limits that allow a name (`every-text-read`, qcir_reader's
--- proofs/Unique.antt).
+-- Every text is read, and in one way, within any limits that allow a name (`every-text-read`, qcir_reader's proofs/Unique.antt).
 abbrev pub EveryTextRead : Type 0
-EveryTextRead = (lim : Limits) (text : List ℕ) (before : Buffers) → 1 ≤ lim .names → OneReading lim text before
+EveryTextRead = (lim : Limits) (text : List ℕ) (before : Buffers) → 1 ≤ lim .names → OneOutcome lim noneWritten before (stored before) text
 
 -- What a table read from a text promises: the checker accepts it, and "The table has the file's truth value under every setting of
 -- its free variables".

@@ -22,7 +22,8 @@ use Rattle.acceptance.specs.Verdict.{tooManyVariables}
 use Rattle.qcir.specs.File.{File}
 use Rattle.qcir.specs.Refusals.{misplaced, notUsedOnce, unbound}
 use Rattle.qcir.specs.Table.{tableWords, tableList}
-use Rattle.qcir.specs.Reading.{limits, Written, Buffers, buffers, noneWritten, refusedWith, doneWith, unlessAny, nameVerdict, sizeVerdict, stored, outcome}
+use Rattle.qcir.specs.FromText.{limits, unlessAny, nameVerdict, sizeVerdict, refusedText, ofTable, ofFile}
+use Rattle.qcir.specs.Reading.{Written, Buffers, buffers, noneWritten, doneWith, stored, fileOutcome, tableOutcome}
 use Rattle.qcir.proofs.Theorem.{table-whole, table-few}
 use Rattle.qcir_tokens.specs.declared.Found.{Found}
 use Rattle.qcir_tokens.specs.Held.{foundOf}
@@ -74,8 +75,8 @@ pub refuses : (r : Answer) (v w : Verdict) → v ≡ w → Refuses r v → Refus
 refuses r v w e a = a ∙ ap (λ (u : Verdict). refused u noneWritten) e
 
 -- It leaves the buffers.
-pub refusal-after : (r : Answer) (v : Verdict) (words list : List ℕ) → Refuses r v → after r (buffers words list) ≡ refusedWith v (buffers words list)
-unfolding refusedWith
+pub refusal-after : (r : Answer) (v : Verdict) (words list : List ℕ) → Refuses r v → after r (buffers words list) ≡ refusedText noneWritten (buffers words list) v
+unfolding refusedText
 refusal-after r v words list e = ap (λ (a : AnswerWith Written). record { answer = a; buffers = buffers words list }) e
 
 module _ (f : File) (words list : List ℕ) where
@@ -83,26 +84,26 @@ module _ (f : File) (words list : List ℕ) where
   before = buffers words list
 
   -- The verdict on the names is handed on, ..
-  pub names-refuse : (r : Answer) (v : Verdict) → v ≡ nameVerdict f → 0 < v .number → Refuses r v → after r before ≡ outcome limits f before
-  unfolding outcome refusedWith
+  pub names-refuse : (r : Answer) (v : Verdict) → v ≡ nameVerdict f → 0 < v .number → Refuses r v → after r before ≡ fileOutcome limits f before
+  unfolding ofFile refusedText
   names-refuse r v e n a =
-      refusal-after r v words list a ∙ sym (rw (sym e) (call-refused noneWritten before (stored limits f before) v (λ z. omega (arith, n, z))))
+      refusal-after r v words list a ∙ sym (rw (sym e) (call-refused noneWritten before (tableOutcome limits f before) v (λ z. omega (arith, n, z))))
 
   -- .. or they pass.
-  pub names-pass : (v : Verdict) → v ≡ nameVerdict f → v .number ≤ 0 → stored limits f before ≡ outcome limits f before
-  unfolding outcome
-  names-pass v e n = sym (rw (sym e) (call-next noneWritten before (stored limits f before) v (omega (arith, n))))
+  pub names-pass : (v : Verdict) → v ≡ nameVerdict f → v .number ≤ 0 → tableOutcome limits f before ≡ fileOutcome limits f before
+  unfolding ofFile
+  names-pass v e n = sym (rw (sym e) (call-next noneWritten before (tableOutcome limits f before) v (omega (arith, n))))
 
-  size-refuses : (r : Answer) (number position : ℕ) → 0 < number → sizeVerdict limits (tableWords f) ≡ refusal number position → Refuses r (refusal number position) → after r before ≡ stored limits f before
-  unfolding stored refusedWith refusal
+  size-refuses : (r : Answer) (number position : ℕ) → 0 < number → sizeVerdict limits (tableWords f) ≡ refusal number position → Refuses r (refusal number position) → after r before ≡ tableOutcome limits f before
+  unfolding ofTable stored refusedText refusal
   size-refuses r number position n e a =
       refusal-after r (refusal number position) words list a ∙ sym (rw e (call-refused noneWritten before _ (refusal number position) (λ z. omega arith)))
 
-  pub many-nodes : (r : Answer) → limit < nodeCount (tableWords f) → Refuses r (refusal 2 0) → after r before ≡ stored limits f before
+  pub many-nodes : (r : Answer) → limit < nodeCount (tableWords f) → Refuses r (refusal 2 0) → after r before ≡ tableOutcome limits f before
   unfolding sizeVerdict limits
   many-nodes r h = size-refuses r 2 0 (omega arith) (pick-yes _ _ _ (lt-ltb _ _ h))
 
-  pub many-variables : (r : Answer) (i : ℕ) → nodeCount (tableWords f) ≤ limit → i ≡ lowest (tooManyVariables limit (tableWords f)) (nodeCount (tableWords f)) → i < nodeCount (tableWords f) → Refuses r (refusal 6 i) → after r before ≡ stored limits f before
+  pub many-variables : (r : Answer) (i : ℕ) → nodeCount (tableWords f) ≤ limit → i ≡ lowest (tooManyVariables limit (tableWords f)) (nodeCount (tableWords f)) → i < nodeCount (tableWords f) → Refuses r (refusal 6 i) → after r before ≡ tableOutcome limits f before
   unfolding sizeVerdict limits
   many-variables r i n e h =
       size-refuses r 6 i (omega arith)
@@ -122,20 +123,20 @@ module _ (f : File) (words list : List ℕ) where
   within-passes w =
       ap (λ (v : Verdict). v .number) (pick-no _ _ _ (le-ltb _ _ (w .nodes-within)) ∙ pick-no _ _ _ (le-ltb _ _ (w .none-exceeding)))
 
-  short-refuses : (r : Answer) → Within → (ltb (length words) (length (tableWords f)) || ltb (length list) (length (tableList f))) ≡ true → Refuses r (refusal 9 0) → after r before ≡ stored limits f before
-  unfolding stored refusedWith
+  short-refuses : (r : Answer) → Within → (ltb (length words) (length (tableWords f)) || ltb (length list) (length (tableList f))) ≡ true → Refuses r (refusal 9 0) → after r before ≡ tableOutcome limits f before
+  unfolding ofTable stored refusedText
   short-refuses r w h a =
       refusal-after r (refusal 9 0) words list a
       ∙ sym (call-next noneWritten before _ (sizeVerdict limits (tableWords f)) (within-passes w) ∙ call-short noneWritten before _ _ h)
 
-  pub short-words : (r : Answer) → Within → length words < length (tableWords f) → Refuses r (refusal 9 0) → after r before ≡ stored limits f before
+  pub short-words : (r : Answer) → Within → length words < length (tableWords f) → Refuses r (refusal 9 0) → after r before ≡ tableOutcome limits f before
   short-words r w h = short-refuses r w (or-left _ _ (lt-ltb _ _ h))
 
-  pub short-list : (r : Answer) → Within → length list < length (tableList f) → Refuses r (refusal 9 0) → after r before ≡ stored limits f before
+  pub short-list : (r : Answer) → Within → length list < length (tableList f) → Refuses r (refusal 9 0) → after r before ≡ tableOutcome limits f before
   short-list r w h = short-refuses r w (or-right (ltb (length words) (length (tableWords f))) _ (lt-ltb _ _ h))
 
-  pub stored-done : (v : Verdict) (n e : ℕ) (words′ list′ : List ℕ) → Within → length (tableWords f) ≤ length words → length (tableList f) ≤ length list → v ≡ accepted → n ≡ nodeCount (tableWords f) → e ≡ length (tableList f) → words′ ≡ overwrite words 0 (tableWords f) → list′ ≡ overwrite list 0 (tableList f) → after (record { verdict = v; words = width * n; entries = e }) (buffers words′ list′) ≡ stored limits f before
-  unfolding stored doneWith done
+  pub stored-done : (v : Verdict) (n e : ℕ) (words′ list′ : List ℕ) → Within → length (tableWords f) ≤ length words → length (tableList f) ≤ length list → v ≡ accepted → n ≡ nodeCount (tableWords f) → e ≡ length (tableList f) → words′ ≡ overwrite words 0 (tableWords f) → list′ ≡ overwrite list 0 (tableList f) → after (record { verdict = v; words = width * n; entries = e }) (buffers words′ list′) ≡ tableOutcome limits f before
+  unfolding ofTable stored doneWith done
   stored-done v n e words′ list′ w hw hl ev en ee ew el =
       (λ i. record {
         answer = record { verdict = ev i; sizes = record { words = (ap (λ (k : ℕ). width * k) en ∙ sym (table-whole f)) i; entries = ee i } };

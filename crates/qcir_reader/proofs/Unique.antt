@@ -1,4 +1,4 @@
--- A text is read in one way: `Reading` allows one outcome, and every text has it.
+-- One thing comes of a text: `FromText` allows one outcome, and every text has it.
 -- Assumes nothing.
 use mathlib.Core.List.{List, [], _++_, append-assoc, append-nil}
 use mathlib.Core.Path.{_≡_, refl, sym, _∙_, ap, subst}
@@ -13,7 +13,8 @@ use Rattle.refusals.specs.Verdict.{refusal}
 use Rattle.refusals.specs.Outcome.{Outcome}
 use Rattle.qcir.specs.File.{File}
 use Rattle.qcir.specs.Spelling.{Spells, Viable, SpellingFault, at-byte, at-end}
-use Rattle.qcir.specs.Reading.{Limits, Written, Buffers, outcome, refusedWith, Reading, too-long, misspelled, spelled, OneReading, EveryTextRead}
+use Rattle.qcir.specs.FromText.{Limits, refusedText, ofFile, FromText, too-long, misspelled, spelled, OnlyFromText, OneOutcome}
+use Rattle.qcir.specs.Reading.{noneWritten, stored, EveryTextRead}
 use Rattle.qcir_spelling.specs.Machine.{accepts, alive, start}
 use Rattle.qcir_spelling.proofs.Spelling.{sound, refused, unique}
 
@@ -57,33 +58,36 @@ spelled-faultless : (most : ℕ) (text : List ℕ) (p : ℕ) (f : File) → Spel
 spelled-faultless most text p f s (at-byte r h v dead) = dead (viable-whole most text (suc p) (omega (arith, h)) (viable-file most text f s))
 spelled-faultless most text p f s (at-end v none) = none f s
 
-pub reading-unique : (lim : Limits) (text : List ℕ) (before : Buffers) (a b : Outcome Written Buffers) → Reading lim text before a → Reading lim text before b → a ≡ b
-reading-unique lim text before a b (too-long h) (too-long k) = refl
-reading-unique lim text before a b (too-long h) (misspelled k p e) = absurd (omega (arith, h, k))
-reading-unique lim text before a b (too-long h) (spelled k f s) = absurd (omega (arith, h, k))
-reading-unique lim text before a b (misspelled h p e) (too-long k) = absurd (omega (arith, h, k))
-reading-unique lim text before a b (misspelled h p e) (misspelled k q g) = ap (λ (n : ℕ). refusedWith (refusal 10 n) before) (fault-unique (lim .names) text p q e g)
-reading-unique lim text before a b (misspelled h p e) (spelled k f s) = absurd (spelled-faultless (lim .names) text p f s e)
-reading-unique lim text before a b (spelled h f s) (too-long k) = absurd (omega (arith, h, k))
-reading-unique lim text before a b (spelled h f s) (misspelled k p e) = absurd (spelled-faultless (lim .names) text p f s e)
-reading-unique lim text before a b (spelled h f s) (spelled k g t) = ap (λ (z : File). outcome lim z before) (unique s t)
+module _ {Sizes Buffers : Type 0} (lim : Limits) (none : Sizes) (before : Buffers) (next : List ℕ → List ℕ → Outcome Sizes Buffers) (text : List ℕ) where
+  pub outcome-unique : (a b : Outcome Sizes Buffers) → FromText lim none before next text a → FromText lim none before next text b → a ≡ b
+  outcome-unique _ _ (too-long h) (too-long k) = refl
+  outcome-unique _ _ (too-long h) (misspelled k p e) = absurd (omega (arith, h, k))
+  outcome-unique _ _ (too-long h) (spelled k f s) = absurd (omega (arith, h, k))
+  outcome-unique _ _ (misspelled h p e) (too-long k) = absurd (omega (arith, h, k))
+  outcome-unique _ _ (misspelled h p e) (misspelled k q g) = ap (λ (n : ℕ). refusedText none before (refusal 10 n)) (fault-unique (lim .names) text p q e g)
+  outcome-unique _ _ (misspelled h p e) (spelled k f s) = absurd (spelled-faultless (lim .names) text p f s e)
+  outcome-unique _ _ (spelled h f s) (too-long k) = absurd (omega (arith, h, k))
+  outcome-unique _ _ (spelled h f s) (misspelled k p e) = absurd (spelled-faultless (lim .names) text p f s e)
+  outcome-unique _ _ (spelled h f s) (spelled k g t) = ap (ofFile lim none before next) (unique s t)
 
--- The outcome of a text.
-one : (lim : Limits) (text : List ℕ) (before : Buffers) (o : Outcome Written Buffers) → Reading lim text before o → OneReading lim text before
-one lim text before o h = record { result = o; reading = h; only = λ p k. reading-unique lim text before p o k h }
+  pub only-one : (o : Outcome Sizes Buffers) → FromText lim none before next text o → OnlyFromText lim none before next text o
+  only-one o h p k = outcome-unique p o k h
 
--- A text that is not too long is a file or has a fault in its spelling.
-short-read : (lim : Limits) (text : List ℕ) (before : Buffers) → 1 ≤ lim .names → length text ≤ lim .bytes → Is (accepts (lim .names) text) → OneReading lim text before
-short-read lim text before l h (is-true t) =
-    let f = sound (lim .names) text t in
-    one lim text before (outcome lim (f .file) before) (spelled h (f .file) (f .spells))
-short-read lim text before l h (is-false t) =
-    let p = alive (lim .names) start text in
-    one lim text before (refusedWith (refusal 10 p) before) (misspelled h p (refused (lim .names) text l t))
+  -- The outcome of a text.
+  one : (o : Outcome Sizes Buffers) → FromText lim none before next text o → OneOutcome lim none before next text
+  one o h = record { result = o; from-text = h; only = only-one o h }
+
+  -- A text that is not too long is a file or has a fault in its spelling.
+  short-text : 1 ≤ lim .names → length text ≤ lim .bytes → Is (accepts (lim .names) text) → OneOutcome lim none before next text
+  short-text l h (is-true t) = let f = sound (lim .names) text t in one _ (spelled h (f .file) (f .spells))
+  short-text l h (is-false t) = one _ (misspelled h (alive (lim .names) start text) (refused (lim .names) text l t))
+
+  pub every-text : 1 ≤ lim .names → OneOutcome lim none before next text
+  every-text l = go (look (ltb (lim .bytes) (length text)))
+    where
+      go : Is (ltb (lim .bytes) (length text)) → OneOutcome lim none before next text
+      go (is-true h) = one _ (too-long (ltb-true _ _ h))
+      go (is-false h) = short-text l (ltb-false _ _ h) (look (accepts (lim .names) text))
 
 pub every-text-read : EveryTextRead
-every-text-read lim text before l = go (look (ltb (lim .bytes) (length text)))
-  where
-    go : Is (ltb (lim .bytes) (length text)) → OneReading lim text before
-    go (is-true h) = one lim text before (refusedWith (refusal 10 0) before) (too-long (ltb-true _ _ h))
-    go (is-false h) = short-read lim text before l (ltb-false _ _ h) (look (accepts (lim .names) text))
+every-text-read lim text before l = every-text lim noneWritten before (stored before) text l

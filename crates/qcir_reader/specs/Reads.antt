@@ -3,7 +3,8 @@
 use mathlib.Core.List.{List}
 use Prim.Native.Nat.{ℕ}
 use Rattle.refusals.specs.Outcome.{AnswerWith, Outcome}
-use Rattle.qcir.specs.Reading.{limits, Written, Buffers, buffers, Reading, Only, TableWritten}
+use Rattle.qcir.specs.FromText.{limits}
+use Rattle.qcir.specs.Reading.{Written, Buffers, buffers, Reading, Only, TableWritten}
 use Rattle.qcir_reader.specs.declared.Answer.{Answer}
 
 abbrev pub answerOf : Answer → AnswerWith Written

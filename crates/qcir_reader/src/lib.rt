@@ -5,7 +5,16 @@ ghost use Prim.Native.Nat.{_≤_};
 ghost use lib.ListN.{length};
 ghost use Rattle.qcir.specs.File.{File};
 ghost use Rattle.qcir.specs.Refusals.{misplaced, notUsedOnce, unbound};
-ghost use Rattle.qcir.specs.Reading.{limits, buffers, noneWritten, nameVerdict, outcome, stored, Reading, Only, TableWritten};
+ghost use Rattle.qcir.specs.FromText.{limits, nameVerdict};
+ghost use Rattle.qcir.specs.Reading.{
+  buffers,
+  noneWritten,
+  fileOutcome,
+  tableOutcome,
+  Reading,
+  Only,
+  TableWritten,
+};
 ghost use Rattle.refusals.specs.Outcome.{refused as refusedOf};
 ghost use Rattle.qcir_tokens.specs.Held.{HoldsFile, HoldsNames, DefinitionsIn, foundOf};
 ghost use Rattle.qcir_header.specs.Header.{headerEnd};
@@ -146,7 +155,7 @@ fn read_tokens(
     requires { ⌜ ((f : File) × HoldsFile (now roles) (now numbers) (now positions) count f) ⌝ }
     ensures { λ r. ⌜ ((f : File) → HoldsFile (now (roles .entry)) (now (numbers .entry)) (now (positions .entry)) count f
         → after r (buffers (now (words .exit)) (now (list .exit)))
-        ≡ outcome limits f (buffers (now (words .entry)) (now (list .entry)))) ⌝ }
+        ≡ fileOutcome limits f (buffers (now (words .entry)) (now (list .entry)))) ⌝ }
 {
     let mut gates = [0u16; NUMBERS];
     qcir_gates::mark_gates(roles, numbers, count, &mut gates);
@@ -209,7 +218,7 @@ fn store_table(
     requires { ⌜ DefinitionsIn (now roles) (now numbers) count (now gates) ⌝ }
     ensures { λ r. ⌜ ((f : File) → HoldsNames (now (roles .entry)) (now (numbers .entry)) count f
         → after r (buffers (now (words .exit)) (now (list .exit)))
-        ≡ stored limits f (buffers (now (words .entry)) (now (list .entry)))) ⌝ }
+        ≡ tableOutcome limits f (buffers (now (words .entry)) (now (list .entry)))) ⌝ }
 {
     let sizes = qcir_table_sizes::table_sizes(roles, numbers, count, gates);
     let nodes = sizes.nodes;

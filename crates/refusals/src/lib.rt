@@ -47,6 +47,12 @@ pub const MALFORMED_MATRIX: u32 = 14;
 
 pub const MALFORMED_PREFIX: u32 = 15;
 
+// The refusals of calls from a text to a text: a format without a meaning, and memory lent to work in
+// that is too short. Request S-13's are the numbers up to 22.
+pub const UNKNOWN_FORMAT: u32 = 23;
+
+pub const MEMORY_TOO_SHORT: u32 = 24;
+
 // The two lowest nodes that name a node; a node that names it twice stands twice. 0 and 0 where there
 // is nothing to say.
 pub struct Users {

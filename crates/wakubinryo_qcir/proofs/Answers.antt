@@ -4,7 +4,8 @@ use mathlib.Core.Path.{_≡_, sym, subst}
 use mathlib.Core.List.{List}
 use Prim.Native.Nat.{ℕ}
 use Rattle.refusals.specs.Outcome.{AnswerWith, Outcome}
-use Rattle.qcir.specs.Reading.{limits, Written, Buffers, buffers, Reading, Only, TableWritten}
+use Rattle.qcir.specs.FromText.{limits}
+use Rattle.qcir.specs.Reading.{Written, Buffers, buffers, Reading, Only, TableWritten}
 use Rattle.form_texts.specs.declared.Answer.{Answer as TextAnswer}
 use Rattle.form_texts.specs.Writing.{answerOf as textAnswerOf, after as textAfter}
 use Rattle.qcir_reader.specs.declared.Answer.{Answer}

@@ -2,7 +2,8 @@
 // include/wakubinryo.h says the promises in words.
 ghost use mathlib.Core.Path.{_≡_};
 ghost use Rattle.refusals.specs.Verdict.{Plain};
-ghost use Rattle.qcir.specs.Reading.{limits, buffers, Reading, Only, TableWritten};
+ghost use Rattle.qcir.specs.FromText.{limits};
+ghost use Rattle.qcir.specs.Reading.{buffers, Reading, Only, TableWritten};
 ghost use Rattle.qcir_reader.specs.Reads.{answerOf};
 ghost use Rattle.form_texts.specs.Writing.{answerOf as writingOf};
 ghost use Rattle.qcir_writer.specs.Writing.{writeOutcome, TextWritten, RoomSuffices};

@@ -7,7 +7,8 @@ use std::hint::black_box;
 use std::time::{Duration, Instant};
 use wakubinryo::generate::{empty_nest, every_fourth_empty};
 use wakubinryo::generate::{Family, Table, FAMILIES, HIGH_LEAVES};
-use wakubinryo::timing::{growth, Times, ROUNDS, RUNS, WARM_UP};
+use wakubinryo::timing::{all_rounds, growth, warn_if_not_release};
+use wakubinryo::timing::{Times, ROUNDS, RUNS, WARM_UP};
 use wakubinryo::{reference, PrenexForm, Refusal, Sizes, WIDTH};
 
 const NODES: [usize; 3] = [1024, 2048, 4096];
@@ -185,11 +186,7 @@ fn print_times<T: Timed>(
     );
     for (name, family) in families {
         let mut benches = NODES.map(|nodes| Bench::<T>::new(table(family, nodes)));
-        // Rounds go through the sizes in turn, so that a slow spell of the
-        // machine falls on all of them.
-        for _ in 0..ROUNDS {
-            benches.iter_mut().for_each(Bench::round);
-        }
+        all_rounds(&mut benches, Bench::round);
         let mut before: Option<[f64; 2]> = None;
         for bench in &mut benches {
             let [library, plain] = bench.times.medians();
@@ -215,9 +212,7 @@ fn main() {
     );
     println!("{ROUNDS} rounds of {RUNS} after {WARM_UP} to warm up. Ratio is library over reference; growth is");
     println!("the time over that at half the nodes.");
-    if cfg!(debug_assertions) {
-        println!("NOT BUILT FOR RELEASE: these figures mean nothing.");
-    }
+    warn_if_not_release();
     let as_it_is = |family: Family, nodes: usize| family(nodes);
     print_times::<PrenexForm>(FAMILIES, as_it_is);
     println!();

@@ -6,7 +6,8 @@ use std::hint::black_box;
 use std::time::{Duration, Instant};
 use wakubinryo::generate_qcir::FAMILIES;
 use wakubinryo::reference::{LIMIT, WIDTH};
-use wakubinryo::timing::{growth, Times, ROUNDS, RUNS, WARM_UP};
+use wakubinryo::timing::{all_rounds, growth, warn_if_not_release};
+use wakubinryo::timing::{Times, ROUNDS, RUNS, WARM_UP};
 use wakubinryo::{qcir, read_qcir_into, Refusal, Table, Written};
 
 const BYTES: [usize; 3] = [16_384, 32_768, 65_536];
@@ -78,9 +79,7 @@ fn main() {
         "{RUNS} after {WARM_UP} to warm up. Number is the answer's, 0 for a file that is accepted;"
     );
     println!("ratio is library over reference; growth is the time over that at half the bytes.");
-    if cfg!(debug_assertions) {
-        println!("NOT BUILT FOR RELEASE: these figures mean nothing.");
-    }
+    warn_if_not_release();
     println!();
     println!(
         "                                              library  reference           growth of  growth of"
@@ -90,11 +89,7 @@ fn main() {
     );
     for (name, family) in FAMILIES {
         let mut benches = BYTES.map(|bytes| Bench::new(family(bytes)));
-        // Rounds go through the sizes in turn, so that a slow spell of the
-        // machine falls on all of them.
-        for _ in 0..ROUNDS {
-            benches.iter_mut().for_each(Bench::round);
-        }
+        all_rounds(&mut benches, Bench::round);
         let mut before: Option<[f64; 2]> = None;
         for bench in &mut benches {
             let [library, plain] = bench.times.medians();

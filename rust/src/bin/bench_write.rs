@@ -3,76 +3,48 @@
 //!
 //!     cargo run --release --bin bench_write [qcir | qdimacs]
 
-use std::env;
 use std::hint::black_box;
 use std::time::{Duration, Instant};
-use wakubinryo::form_check::Limits;
 use wakubinryo::generate_forms::FAMILIES;
-use wakubinryo::timing::{growth, Times, ROUNDS, RUNS, WARM_UP};
-use wakubinryo::{write_qcir, write_qdimacs, PrenexForm, Refusal, WIDTH};
+use wakubinryo::timing::{all_rounds, growth, warn_if_not_release, writers_asked_for};
+use wakubinryo::timing::{Times, Writer, ROUNDS, RUNS, WARM_UP};
+use wakubinryo::{PrenexForm, WIDTH};
 
 const SIZES: [usize; 3] = [10_240, 20_480, 40_960];
 
-/// A format, and what writes it: the library into a buffer, the reference after
-/// what a vector holds.
-#[derive(Clone, Copy)]
-struct Format {
-    argument: &'static str,
-    name: &'static str,
-    library: fn(&PrenexForm, &mut [u8]) -> Result<usize, Refusal>,
-    reference: fn(&PrenexForm, &mut Vec<u8>) -> Result<(), Refusal>,
+/// One writing by the library, into a buffer with room enough.
+fn run_library(writer: Writer, form: &PrenexForm, text: &mut [u8]) -> Duration {
+    let start = Instant::now();
+    let bytes = black_box((writer.library)(black_box(form), text));
+    let time = start.elapsed();
+    assert_eq!(bytes, Ok(text.len()));
+    time
 }
 
-const FORMATS: [Format; 2] = [
-    Format {
-        argument: "qcir",
-        name: "QCIR",
-        library: write_qcir,
-        reference: |form, text| write_qcir::append(form, Limits::LIBRARY, text),
-    },
-    Format {
-        argument: "qdimacs",
-        name: "QDIMACS",
-        library: write_qdimacs,
-        reference: write_qdimacs::append,
-    },
-];
-
-impl Format {
-    /// One writing by the library, into a buffer with room enough.
-    fn run_library(self, form: &PrenexForm, text: &mut [u8]) -> Duration {
-        let start = Instant::now();
-        let bytes = black_box((self.library)(black_box(form), text));
-        let time = start.elapsed();
-        assert_eq!(bytes, Ok(text.len()));
-        time
-    }
-
-    /// One writing by the reference, into a vector that has grown already.
-    fn run_reference(self, form: &PrenexForm, text: &mut Vec<u8>) -> Duration {
-        let start = Instant::now();
-        text.clear();
-        let answer = (self.reference)(black_box(form), black_box(text));
-        let time = start.elapsed();
-        assert_eq!(answer, Ok(()));
-        time
-    }
+/// One writing by the reference, into a vector that has grown already.
+fn run_reference(writer: Writer, form: &PrenexForm, text: &mut Vec<u8>) -> Duration {
+    let start = Instant::now();
+    text.clear();
+    let answer = (writer.reference)(black_box(form), black_box(text));
+    let time = start.elapsed();
+    assert_eq!(answer, Ok(()));
+    time
 }
 
 /// A form, and for library and reference the text that they write and times.
 struct Bench {
-    format: Format,
+    writer: Writer,
     form: PrenexForm,
     texts: [Vec<u8>; 2],
     times: Times,
 }
 
 impl Bench {
-    fn new(format: Format, form: PrenexForm) -> Bench {
+    fn new(writer: Writer, form: PrenexForm) -> Bench {
         let mut text = Vec::new();
-        (format.reference)(&form, &mut text).expect("written");
+        (writer.reference)(&form, &mut text).expect("written");
         Bench {
-            format,
+            writer,
             form,
             texts: [vec![0; text.len()], text],
             times: Times::default(),
@@ -83,8 +55,8 @@ impl Bench {
     fn round(&mut self) {
         let (form, texts) = (&self.form, &mut self.texts);
         self.times.round(|side| match side {
-            0 => self.format.run_library(form, &mut texts[0]),
-            _ => self.format.run_reference(form, &mut texts[1]),
+            0 => run_library(self.writer, form, &mut texts[0]),
+            _ => run_reference(self.writer, form, &mut texts[1]),
         });
         assert!(
             self.texts[0] == self.texts[1],
@@ -93,9 +65,9 @@ impl Bench {
     }
 }
 
-fn print_times(format: Format) {
+fn print_times(writer: Writer) {
     println!();
-    println!("{} files:", format.name);
+    println!("{} files:", writer.name);
     println!(
         "                                                         library  reference           growth of  growth of"
     );
@@ -103,12 +75,8 @@ fn print_times(format: Format) {
         "family                   nodes blocks  names    bytes         us         us   ratio     library  reference"
     );
     for (name, family) in FAMILIES {
-        let mut benches = SIZES.map(|size| Bench::new(format, family(size)));
-        // Rounds go through the sizes in turn, so that a slow spell of the
-        // machine falls on all of them.
-        for _ in 0..ROUNDS {
-            benches.iter_mut().for_each(Bench::round);
-        }
+        let mut benches = SIZES.map(|size| Bench::new(writer, family(size)));
+        all_rounds(&mut benches, Bench::round);
         let mut before: Option<[f64; 2]> = None;
         for bench in &mut benches {
             let [library, plain] = bench.times.medians();
@@ -128,10 +96,7 @@ fn print_times(format: Format) {
 }
 
 fn main() {
-    let argument = env::args().nth(1);
-    let is_asked = |format: &Format| argument.as_deref().is_none_or(|a| a == format.argument);
-    let asked: Vec<Format> = FORMATS.into_iter().filter(is_asked).collect();
-    assert!(!asked.is_empty(), "neither qcir nor qdimacs: {argument:?}");
+    let asked = writers_asked_for();
     println!("One writing of a prenex form as a file: the library beside the reference, an");
     println!("implementation in plain Rust. Same input, same process, run in turn; both built for");
     println!(
@@ -143,8 +108,6 @@ fn main() {
     );
     println!("{WARM_UP} to warm up. Ratio is library over reference; growth is the time over that at half");
     println!("the size.");
-    if cfg!(debug_assertions) {
-        println!("NOT BUILT FOR RELEASE: these figures mean nothing.");
-    }
+    warn_if_not_release();
     asked.into_iter().for_each(print_times);
 }

@@ -10,8 +10,8 @@ use std::path::{Path, PathBuf};
 use std::process::{self, ExitCode};
 use wakubinryo::qcir::LONGEST;
 use wakubinryo::words::{self, STANDARD_INPUT, STANDARD_OUTPUT};
-use wakubinryo::{measure, prenex_form, qcir_text, qdimacs_text, read_qcir};
-use wakubinryo::{PrenexForm, Refusal};
+use wakubinryo::{lift_text, measure_text, prenex_form, read_qcir};
+use wakubinryo::{Format, PrenexForm, Refusal};
 
 const USAGE: &str = "\
 usage: wakubinryo measure [FILE] [-o OUT]
@@ -66,9 +66,6 @@ enum Failure {
     Unread,
 }
 
-/// What writes a form in a format.
-type Format = fn(&PrenexForm) -> Result<Vec<u8>, Refusal>;
-
 #[derive(Clone, Copy)]
 enum Command {
     Measure,
@@ -106,7 +103,7 @@ fn main() -> ExitCode {
 fn run(arguments: impl Iterator<Item = OsString>) -> Result<ExitCode, Failure> {
     match parse(arguments)? {
         Asked::Measure(files) => answer(&files, measured)?,
-        Asked::Lift(format, files) => answer(&files, |text| format(&form(text)?))?,
+        Asked::Lift(format, files) => answer(&files, |text| Ok(lift_text(text, format)?.text))?,
         Asked::Same(names) => return compare(&names),
         Asked::Print(text) => print(text.as_bytes())?,
     }
@@ -121,9 +118,7 @@ fn answer(files: &Files, say: impl Fn(&[u8]) -> Result<Vec<u8>, Refusal>) -> Res
 }
 
 fn measured(text: &[u8]) -> Result<Vec<u8>, Refusal> {
-    let table = read_qcir(text)?;
-    let sizes = measure(&table.words, &table.list)?;
-    Ok(words::figures(&sizes).into_bytes())
+    Ok(words::figures(&measure_text(text)?).into_bytes())
 }
 
 fn form(text: &[u8]) -> Result<PrenexForm, Refusal> {
@@ -178,8 +173,8 @@ fn parse(mut arguments: impl Iterator<Item = OsString>) -> Result<Asked, Failure
             ("--format", true) => match arguments.next() {
                 None => return wrong("--format without a name".into()),
                 Some(_) if format.is_some() => return wrong("--format twice".into()),
-                Some(name) if name == "qcir" => format = Some(qcir_text),
-                Some(name) if name == "qdimacs" => format = Some(qdimacs_text),
+                Some(name) if name == "qcir" => format = Some(Format::Qcir),
+                Some(name) if name == "qdimacs" => format = Some(Format::Qdimacs),
                 Some(name) => {
                     return wrong(format!("unknown format {}", name.to_string_lossy()));
                 }
@@ -205,7 +200,7 @@ fn parse(mut arguments: impl Iterator<Item = OsString>) -> Result<Asked, Failure
     match (command, format, output) {
         (None, ..) => wrong("no command".into()),
         (Some(Command::Lift), format, output) => Ok(Asked::Lift(
-            format.unwrap_or(qcir_text),
+            format.unwrap_or(Format::Qcir),
             files(inputs.pop(), output),
         )),
         (Some(_), Some(_), _) => wrong("--format without lift".into()),

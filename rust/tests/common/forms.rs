@@ -1,7 +1,7 @@
 //! Writing prenex forms in either format: comparing the library with the
 //! reference, form by form.
 
-use super::{each, some_nodes, Case, Lent, Prefill, TOO_SHORT, UNANSWERED};
+use super::{each, some_nodes, Case, Lent, Prefill, TOO_SHORT, UNANSWERED_LONG};
 use wakubinryo::answer::text_words;
 use wakubinryo::brute;
 use wakubinryo::form_check::{Limits, MOST_NODES};
@@ -36,7 +36,7 @@ fn answer(
     form: &PrenexForm,
     text: &mut [u8],
 ) -> TextAnswer {
-    let mut answer = TextAnswer::default().map(|_| UNANSWERED.into());
+    let mut answer = TextAnswer::default().map(|_| UNANSWERED_LONG);
     call(form, text, &mut answer);
     answer
 }

@@ -1,9 +1,11 @@
 //! Comparing the library with the reference, table by table and file by file;
-//! form by form in [`forms`].
+//! form by form in [`forms`], and from text to text in [`texts`].
 
 #![allow(dead_code)]
 
+pub mod files;
 pub mod forms;
+pub mod texts;
 pub mod vectors;
 
 use std::fmt::Display;
@@ -110,8 +112,9 @@ impl<T: Item> Lent<T> {
     }
 }
 
-/// What an answer holds before a call.
+/// What an answer holds before a call, in words of 32 bits and of 64.
 const UNANSWERED: u32 = 0x5555_5555;
+const UNANSWERED_LONG: u64 = 0x5555_5555_5555_5555;
 
 pub fn library_measure(table: &Table) -> SizesAnswer {
     let mut answer = SizesAnswer::default().map(|_| UNANSWERED);

@@ -153,3 +153,86 @@ pub fn each_form_vector(text: &str, cases: usize, mut one: impl FnMut(&FormVecto
         one(&vector);
     }
 }
+
+/// A case over a QCIR text.
+#[derive(Default)]
+pub struct ReadVector {
+    case: u64,
+    pub text: Vec<u8>,
+    /// Number, position, words and entries.
+    pub read: Vec<u32>,
+    pub table: Table,
+    pub over: Option<Vec<u32>>,
+    pub truth: Vec<u32>,
+}
+
+/// The bytes between quotes, with \n, \t, \\, \" and \xNN.
+fn unescape(quoted: &str) -> Vec<u8> {
+    let inner = quoted
+        .strip_prefix('"')
+        .and_then(|rest| rest.strip_suffix('"'))
+        .expect("quotes");
+    let mut bytes = inner.bytes();
+    let mut text = Vec::new();
+    while let Some(byte) = bytes.next() {
+        if byte != b'\\' {
+            text.push(byte);
+            continue;
+        }
+        let digits = |bytes: &mut std::str::Bytes| {
+            let pair = [bytes.next(), bytes.next()].map(|digit| digit.expect("two digits"));
+            let pair = std::str::from_utf8(&pair).expect("hexadecimal").to_string();
+            u8::from_str_radix(&pair, 16).expect("hexadecimal")
+        };
+        text.push(match bytes.next() {
+            Some(b'n') => b'\n',
+            Some(b't') => b'\t',
+            Some(b'x') => digits(&mut bytes),
+            Some(byte @ (b'\\' | b'"')) => byte,
+            other => panic!("escape {other:?}"),
+        });
+    }
+    text
+}
+
+fn read_vectors() -> Vec<ReadVector> {
+    let mut vectors: Vec<ReadVector> = Vec::new();
+    for line in include_str!("../../vectors/qcir-read.txt").lines() {
+        if line.is_empty() || line.starts_with('#') {
+            continue;
+        }
+        let (key, rest) = line.split_once(' ').unwrap_or((line, ""));
+        if key == "case" {
+            vectors.push(ReadVector {
+                case: rest.parse().expect("a number"),
+                ..ReadVector::default()
+            });
+            continue;
+        }
+        let vector = vectors.last_mut().expect("a case");
+        if key == "text" {
+            vector.text = unescape(rest);
+            continue;
+        }
+        let numbers = rest.split_ascii_whitespace();
+        let numbers: Vec<u32> = numbers.map(|n| n.parse().expect("a number")).collect();
+        match key {
+            "read" => vector.read = numbers,
+            "nodes" => vector.table.words = numbers,
+            "list" => vector.table.list = numbers,
+            "over" => vector.over = Some(numbers),
+            "truth" => vector.truth = numbers,
+            _ => panic!("line {line}"),
+        }
+    }
+    assert_eq!(vectors.len(), 420);
+    vectors
+}
+
+/// Runs `one` for each vector over QCIR texts.
+pub fn each_read_vector(mut one: impl FnMut(&ReadVector)) {
+    for vector in read_vectors() {
+        let _case = Case("vectors", vector.case);
+        one(&vector);
+    }
+}

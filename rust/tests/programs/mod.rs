@@ -16,6 +16,16 @@ pub struct Left {
     pub error: String,
 }
 
+impl Left {
+    pub fn new(status: i32, output: &str, error: &str) -> Left {
+        Left {
+            status: Some(status),
+            output: output.into(),
+            error: error.into(),
+        }
+    }
+}
+
 /// Runs a program with these arguments and this standard input.
 pub fn run<S: AsRef<OsStr>>(program: &Path, arguments: &[S], input: &[u8]) -> Left {
     let mut child = Command::new(program)
@@ -36,6 +46,11 @@ pub fn run<S: AsRef<OsStr>>(program: &Path, arguments: &[S], input: &[u8]) -> Le
         output: String::from_utf8(left.stdout).expect("text"),
         error: String::from_utf8(left.stderr).expect("text"),
     }
+}
+
+/// The command-line tool.
+pub fn tool() -> &'static Path {
+    Path::new(env!("CARGO_BIN_EXE_wakubinryo"))
 }
 
 /// A file of the repository.

@@ -1,0 +1,4 @@
+pub mod Formats
+pub mod Lifting
+pub mod Memory
+pub mod Measuring

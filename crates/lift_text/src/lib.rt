@@ -1,0 +1,169 @@
+// From the bytes of a QCIR file to the bytes of its prenex form, QCIR or QDIMACS; and the sizes of both.
+ghost use mathlib.Core.Path.{_≡_};
+ghost use Rattle.refusals.specs.Verdict.{accepted};
+ghost use Rattle.refusals.specs.Outcome.{refused as refusedOf};
+ghost use Rattle.acceptance.specs.Verdict.{verdict};
+ghost use Rattle.form_check.specs.Verdict.{formVerdict};
+ghost use Rattle.form_texts.specs.Writing.{after as textAfter, textOutcome};
+ghost use Rattle.prenex.specs.Outcome.{answerOf as sizesOf};
+ghost use Rattle.lift_text.specs.Formats.{textAs};
+ghost use Rattle.lift_text.specs.Lifting.{noTextSizes, answerOf, after, LiftsText};
+ghost use Rattle.lift_text.specs.Memory.{lent, afterIn, writtenIn, LiftsTextIn};
+ghost use Rattle.lift_text.specs.Measuring.{MeasuresText};
+use acceptance::LIMIT;
+use form_texts::Answer as TextAnswer;
+use formula::WIDTH;
+use prefix_writer::PREFIX_WIDTH;
+use prenex::Answer as Measure;
+use prenex_form::Sizes;
+use refusals::ACCEPTED;
+use refusals::BUFFER_TOO_SHORT;
+use refusals::MEMORY_TOO_SHORT;
+use refusals::Verdict;
+
+// The most nodes, prefix blocks and prefix variables of a prenex form.
+const NODES: usize = 10 * LIMIT;
+
+const BLOCKS: usize = LIMIT + 1;
+
+const ENTRIES: usize = 3 * LIMIT;
+
+// Room for the text of every prenex form, in either format.
+pub const TEXT: usize = 64 * (NODES + 1) + 7 * BLOCKS + 8 * ENTRIES;
+
+// The verdict, the bytes written, and the sizes of the table that was read and of its prenex form.
+pub struct Answer {
+    pub verdict: Verdict,
+    pub bytes: usize,
+    pub sizes: Sizes,
+}
+
+// In which format a prenex form is written.
+pub enum Format {
+    Qcir,
+    Qdimacs,
+}
+
+// Reads a QCIR text, lifts its table and writes the prenex form as a text; or refuses the text as reading
+// does, or the buffer by 9.
+//
+// The contract rules out a call that takes the list of the table for its words, and one that writes
+// QDIMACS where QCIR is asked for.
+pub fn lift_text(text: &[u8], format: Format, out: &mut [u8]) -> Answer
+    ensures { λ r.
+        ⌜ LiftsText format (now (text .entry)) (now (out .entry)) (after r (now (out .exit))) ⌝ }
+{
+    let mut nodes = [0u32; WIDTH * NODES];
+    lift_text_in(text, format, &mut nodes, out)
+}
+
+// The same with lent memory for the form's nodes, so that a call needs less of the stack; 24 if that is
+// too short.
+//
+// The contract rules out a call that loses the position of a refusal, and one that answers a byte less
+// than it wrote.
+pub fn lift_text_in(text: &[u8], format: Format, nodes: &mut [u32], out: &mut [u8]) -> Answer
+    ensures { λ r.
+        ⌜ LiftsTextIn format (now (text .entry)) (lent (now (nodes .entry)) (now (out .entry)))
+        (afterIn r (lent (now (nodes .exit)) (now (out .exit)))) ⌝ }
+{
+    let mut words = [0u32; WIDTH * LIMIT];
+    let mut list = [0u32; LIMIT];
+    let read = qcir_reader::read(text, &mut words, &mut list);
+    let verdict = read.verdict;
+    if verdict.number != ACCEPTED {
+        return refused(verdict);
+    }
+    let n = read.words as usize;
+    let m = read.entries as usize;
+    lift_table(&words[..n], &list[..m], format, nodes, out)
+}
+
+// The same of a table that was read.
+fn lift_table(
+    words: &[u32],
+    list: &[u32],
+    format: Format,
+    nodes: &mut [u32],
+    out: &mut [u8],
+) -> Answer
+    requires { ⌜ verdict (now words) (now list) ≡ accepted ⌝ }
+    ensures { λ r.
+        ⌜ afterIn r (lent (now (nodes .exit)) (now (out .exit)))
+        ≡ writtenIn format (lent (now (nodes .entry)) (now (out .entry)))
+        (now (words .entry)) (now (list .entry)) ⌝ }
+{
+    let mut prefix = [0u32; PREFIX_WIDTH * BLOCKS];
+    let mut variables = [0u32; ENTRIES];
+    let lifted = prenex::lift(words, list, nodes, &mut prefix, &mut variables);
+    let verdict = lifted.verdict;
+    if verdict.number != ACCEPTED {
+        return refused(refusals::refusal(MEMORY_TOO_SHORT, 0));
+    }
+    let sizes = lifted.sizes;
+    let n = WIDTH * (sizes.nodes as usize);
+    let b = PREFIX_WIDTH * (sizes.blocks as usize);
+    let e = sizes.entries as usize;
+    let written = write_form(&nodes[..n], &prefix[..b], &variables[..e], format, out);
+    if written.number != ACCEPTED {
+        return refused(refusals::refusal(BUFFER_TOO_SHORT, 0));
+    }
+    let verdict = refusals::accepted();
+    Answer {
+        verdict,
+        bytes: written.bytes,
+        sizes,
+    }
+}
+
+// Writes a form in a format.
+fn write_form(
+    nodes: &[u32],
+    prefix: &[u32],
+    variables: &[u32],
+    format: Format,
+    out: &mut [u8],
+) -> TextAnswer
+    ensures { λ r.
+        ⌜ textAfter r (now (out .exit))
+        ≡ textOutcome (formVerdict (now (nodes .entry)) (now (prefix .entry)) (now (variables .entry)))
+        (textAs format (now (nodes .entry)) (now (prefix .entry)) (now (variables .entry)))
+        (now (out .entry)) ⌝ }
+{
+    match format {
+        Format::Qcir => qcir_writer::write(nodes, prefix, variables, out),
+        Format::Qdimacs => qdimacs_writer::write(nodes, prefix, variables, out),
+    }
+}
+
+// An answer that hands a refusal on, with sizes of 0.
+pub fn refused(verdict: Verdict) -> Answer
+    ensures { λ r. ⌜ answerOf r ≡ refusedOf verdict noTextSizes ⌝ }
+{
+    let measured = prenex::refused(verdict);
+    let sizes = measured.sizes;
+    Answer {
+        verdict,
+        bytes: 0,
+        sizes,
+    }
+}
+
+// Reads a QCIR text and measures its table; or refuses the text as reading does.
+//
+// The contract rules out a measure that gives sizes of a refused text, and one with the sizes of
+// another table.
+pub fn measure_text(text: &[u8]) -> Measure
+    ensures { λ r. ⌜ MeasuresText (now (text .entry)) (sizesOf r) ⌝ }
+{
+    let mut words = [0u32; WIDTH * LIMIT];
+    let mut list = [0u32; LIMIT];
+    let read = qcir_reader::read(text, &mut words, &mut list);
+    let verdict = read.verdict;
+    if verdict.number != ACCEPTED {
+        return prenex::refused(verdict);
+    }
+    let n = read.words as usize;
+    let m = read.entries as usize;
+    prenex::measure(&words[..n], &list[..m])
+}
