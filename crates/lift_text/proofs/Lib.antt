@@ -4,3 +4,4 @@ pub mod Promise
 pub mod Memory
 pub mod Measuring
 pub mod Calls
+pub mod Plain
