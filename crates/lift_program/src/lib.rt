@@ -1,13 +1,24 @@
 // What the programs that lift a file share: reading a QCIR text, from the file that the argument names or from
-// standard input, lifting it and printing its prenex form in a format; or saying on standard error why the text is
-// refused.
+// standard input, and printing what one call makes of it; or saying on standard error why the text is refused.
+use libc::STDERR_FILENO;
 use libc::STDOUT_FILENO;
 use lift_text::Format;
 use lift_text::TEXT;
 use refusals::ACCEPTED;
 
-// Lifts the file that the command line names.
+// The bytes of stack that a program needs, as measured: the text to be written takes most of them.
+const STACK: u64 = 4608 * 1024;
+
+// Lifts the file that the command line names, if there is stack enough to do it.
 pub fn run(usage: &[u8], format: Format) {
+    if stack_limit::stack_limit() < STACK {
+        io::write_all(STDERR_FILENO, b"lifting needs 4608 KiB of stack: ulimit -s 4608\n");
+        return;
+    }
+    lift_input(usage, format);
+}
+
+fn lift_input(usage: &[u8], format: Format) {
     let mut text = [0u8; command_line::ROOM];
     let input = command_line::read_input(usage, &mut text);
     let length = input.length;
@@ -23,8 +34,9 @@ fn lift_and_print(text: &[u8], format: Format) {
 
 fn lift_to(text: &[u8], format: Format, written: &mut [u8]) {
     let answer = lift_text::lift_text(text, format, written);
-    if answer.number != ACCEPTED {
-        command_line::refuse(text, answer.number, answer.position);
+    let verdict = answer.verdict;
+    if verdict.number != ACCEPTED {
+        command_line::refuse(text, verdict.number, verdict.position);
         return;
     }
     let n = answer.bytes;

@@ -36,11 +36,11 @@ use Rattle.lift_text.specs.declared.Answer.{Answer}
 use Rattle.lift_text.specs.declared.Format.{Format}
 use Rattle.lift_text.specs.declared.Format.the-variants.{Qcir, Qdimacs}
 use Rattle.lift_text.specs.Formats.{textAs, liftedAs}
-use Rattle.lift_text.specs.Lifting.{TextSizes, noTextSizes, answerOf, liftedSizes, writtenAs}
-use Rattle.lift_text.specs.Memory.{Lent, lent, afterIn, beside, writtenIn, LiftingIn, LiftsTextIn}
+use Rattle.lift_text.specs.Lifting.{TextSizes, noTextSizes, answerOf, after, writtenAs, Lifting, LiftsText}
+use Rattle.lift_text.specs.Memory.{Lent, lent, afterIn, textOf, beside, writtenIn, LiftingIn, LiftsTextIn}
 use Rattle.lift_text.specs.Measuring.{measuredTable, Measuring, MeasuresText}
-use Rattle.lift_text.proofs.Form.{Short, Lifts}
-use Rattle.lift_text.proofs.Promise.{is-short, is-done}
+use Rattle.lift_text.proofs.Form.{nodes-most, Short, Lifts}
+use Rattle.lift_text.proofs.Promise.{is-short, is-done, lifts-text}
 use Rattle.lift_text.proofs.Texts.{read-refused, read-done}
 use Rattle.lift_text.proofs.Memory.{no-memory, has-memory, lifts-in}
 use Rattle.lift_text.proofs.Measuring.{measures-text}
@@ -127,7 +127,29 @@ module _ (ws ls : List ℕ) (ok : verdict ws ls ≡ accepted) (format : Format) 
             })
             ∙ sym (has-memory format before ws ls (l .room) ∙ ap (beside _) (is-done format out ws ls h))
 
--- What `lift_text_in` and `measure_text` owe, where reading refused and where it is done.
+-- With memory for every form's nodes, of the text comes what comes without lent memory.
+pub text-alone : (ws ls : List ℕ) → verdict ws ls ≡ accepted → (format : Format) (nodes out : List ℕ) → length nodes ≡ 163840
+    → (o : Outcome TextSizes Lent) → o ≡ writtenIn format (lent nodes out) ws ls → textOf o ≡ writtenAs format out ws ls
+text-alone ws ls ok format nodes out many o e =
+    ap textOf (e ∙ has-memory format (lent nodes out) ws ls (omega (arith, nodes-most ws ls ok, many)))
+
+-- What `lift_text`, `lift_text_in` and `measure_text` owe, where reading refused and where it is done.
+module _ (format : Format) (text before words list : List ℕ) (wide : length words ≡ 16384) (long : length list ≡ 4096) where
+  pub refused-lift : (o : Outcome ReadSizes Buffers) → Reading limits text (buffers words list) o → (o .answer .verdict .number ≡ 0 → ⊥)
+      → (r : Answer) → answerOf r ≡ refused (o .answer .verdict) noTextSizes → LiftsText format text before (after r before)
+  unfolding refusedText
+  refused-lift o reading n r e =
+      lifts-text format text before _
+      (subst (λ (a : AnswerWith TextSizes). Lifting format text before (record { answer = a; buffers = before })) (sym e)
+      (read-refused words list wide long text noTextSizes before (writtenAs format before) o reading n))
+
+  pub done-lift : (o : Outcome ReadSizes Buffers) → Reading limits text (buffers words list) o → o .answer .verdict .number ≡ 0
+      → (p : Outcome TextSizes (List ℕ)) → p ≡ writtenAs format before (take (o .answer .sizes .words) (o .buffers .words)) (take (o .answer .sizes .entries) (o .buffers .list))
+      → LiftsText format text before p
+  done-lift o reading z p e =
+      lifts-text format text before p
+      (subst (Lifting format text before) (sym e) (read-done words list wide long text noTextSizes before (writtenAs format before) o reading z .goes-on))
+
 module _ (format : Format) (text : List ℕ) (before : Lent) (words list : List ℕ) (wide : length words ≡ 16384) (long : length list ≡ 4096) where
   pub refused-call : (o : Outcome ReadSizes Buffers) → Reading limits text (buffers words list) o → (o .answer .verdict .number ≡ 0 → ⊥)
       → (r : Answer) → answerOf r ≡ refused (o .answer .verdict) noTextSizes → LiftsTextIn format text before (afterIn r before)

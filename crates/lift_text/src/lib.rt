@@ -7,7 +7,7 @@ ghost use Rattle.form_check.specs.Verdict.{formVerdict};
 ghost use Rattle.form_texts.specs.Writing.{after as textAfter, textOutcome};
 ghost use Rattle.prenex.specs.Outcome.{answerOf as sizesOf};
 ghost use Rattle.lift_text.specs.Formats.{textAs};
-ghost use Rattle.lift_text.specs.Lifting.{noTextSizes, answerOf, after, LiftsText};
+ghost use Rattle.lift_text.specs.Lifting.{noTextSizes, answerOf, after, writtenAs, LiftsText};
 ghost use Rattle.lift_text.specs.Memory.{lent, afterIn, writtenIn, LiftsTextIn};
 ghost use Rattle.lift_text.specs.Measuring.{MeasuresText};
 use acceptance::LIMIT;
@@ -28,8 +28,8 @@ const BLOCKS: usize = LIMIT + 1;
 
 const ENTRIES: usize = 3 * LIMIT;
 
-// Room for the text of every prenex form, in either format.
-pub const TEXT: usize = 64 * (NODES + 1) + 7 * BLOCKS + 8 * ENTRIES;
+// Room for the text of every prenex form: as QDIMACS, which takes more than QCIR.
+pub const TEXT: usize = 64 * (NODES + 1) + 4 * BLOCKS + 6 * ENTRIES;
 
 // The verdict, the bytes written, and the sizes of the table that was read and of its prenex form.
 pub struct Answer {
@@ -53,12 +53,20 @@ pub fn lift_text(text: &[u8], format: Format, out: &mut [u8]) -> Answer
     ensures { λ r.
         ⌜ LiftsText format (now (text .entry)) (now (out .entry)) (after r (now (out .exit))) ⌝ }
 {
-    let mut nodes = [0u32; WIDTH * NODES];
-    lift_text_in(text, format, &mut nodes, out)
+    let mut words = [0u32; WIDTH * LIMIT];
+    let mut list = [0u32; LIMIT];
+    let read = qcir_reader::read(text, &mut words, &mut list);
+    let verdict = read.verdict;
+    if verdict.number != ACCEPTED {
+        return refused(verdict);
+    }
+    let n = read.words as usize;
+    let m = read.entries as usize;
+    lift_table(&words[..n], &list[..m], format, out)
 }
 
-// The same with lent memory for the form's nodes, so that a call needs less of the stack; 24 if that is
-// too short.
+// The same with lent memory for the form's nodes, for callers with a small stack; 24 if that is too
+// short.
 //
 // The contract rules out a call that loses the position of a refusal, and one that answers a byte less
 // than it wrote.
@@ -76,11 +84,22 @@ pub fn lift_text_in(text: &[u8], format: Format, nodes: &mut [u32], out: &mut [u
     }
     let n = read.words as usize;
     let m = read.entries as usize;
-    lift_table(&words[..n], &list[..m], format, nodes, out)
+    lift_table_in(&words[..n], &list[..m], format, nodes, out)
 }
 
-// The same of a table that was read.
-fn lift_table(
+// Both of a table that was read. Two functions call the second, so that the compiler keeps it out of
+// line: its arrays and those of reading then take the same stack.
+fn lift_table(words: &[u32], list: &[u32], format: Format, out: &mut [u8]) -> Answer
+    requires { ⌜ verdict (now words) (now list) ≡ accepted ⌝ }
+    ensures { λ r.
+        ⌜ after r (now (out .exit))
+        ≡ writtenAs format (now (out .entry)) (now (words .entry)) (now (list .entry)) ⌝ }
+{
+    let mut nodes = [0u32; WIDTH * NODES];
+    lift_table_in(words, list, format, &mut nodes, out)
+}
+
+fn lift_table_in(
     words: &[u32],
     list: &[u32],
     format: Format,

@@ -8,7 +8,7 @@ use Rattle.lift_program.proofs.lift_and_print.Statement.{statement}
 use Rattle.lift_program.proofs.lift_and_print.Tie as tie
 
 slice-aggregate-lift-to : tie.Need-slice-aggregate-lift-to
-slice-aggregate-lift-to c = sym (length-replicate {A = ℕ} 2748487 0)
+slice-aggregate-lift-to c = sym (length-replicate {A = ℕ} 2711620 0)
 
 lift-to-requires : tie.Need-lift-to-requires
 lift-to-requires c κs = search needs

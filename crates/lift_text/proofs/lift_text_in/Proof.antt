@@ -51,8 +51,8 @@ array-share-prefix-words c =
     let before = lent (s .args .nodes .now) (s .args .out .now) in
     read-done _ _ (length-replicate {A = ℕ} 16384 0) (length-replicate {A = ℕ} 4096 0) (s .args .text .now) noTextSizes before (writtenIn (s .args .format) before) _ (d .read .ensures .0) (c .before .before .if1 .left) .words-in
 
-slice-aggregate-lift-table : tie.Need-slice-aggregate-lift-table
-slice-aggregate-lift-table c = sym (length-take-le _ _ (array-share-prefix-words (c .before)))
+slice-aggregate-lift-table-in : tie.Need-slice-aggregate-lift-table-in
+slice-aggregate-lift-table-in c = sym (length-take-le _ _ (array-share-prefix-words (c .before)))
 
 array-share-prefix-list : tie.Need-array-share-prefix-list
 array-share-prefix-list c =
@@ -61,12 +61,12 @@ array-share-prefix-list c =
     let before = lent (s .args .nodes .now) (s .args .out .now) in
     read-done _ _ (length-replicate {A = ℕ} 16384 0) (length-replicate {A = ℕ} 4096 0) (s .args .text .now) noTextSizes before (writtenIn (s .args .format) before) _ (d .read .ensures .0) (c .before .before .before .if1 .left) .list-in
 
-slice-aggregate-lift-table-2 : tie.Need-slice-aggregate-lift-table-2
-slice-aggregate-lift-table-2 c = sym (length-take-le _ _ (array-share-prefix-list (c .before)))
+slice-aggregate-lift-table-in-2 : tie.Need-slice-aggregate-lift-table-in-2
+slice-aggregate-lift-table-in-2 c = sym (length-take-le _ _ (array-share-prefix-list (c .before)))
 
-lift-table-requires : tie.Need-lift-table-requires
+lift-table-in-requires : tie.Need-lift-table-in-requires
 unfolding TableWritten
-lift-table-requires c κs =
+lift-table-in-requires c κs =
     let n = c .before .before .before .before .before .before in
     read-of (n .before) .read .ensures .1 .1 (n .if1 .left) .accepts
 
@@ -82,7 +82,7 @@ returns-2 c =
     let d = read-of (n .before) in
     let s = entry d in
     done-call (s .args .format) (s .args .text .now) (lent (s .args .nodes .now) (s .args .out .now)) _ _ (length-replicate {A = ℕ} 16384 0) (length-replicate {A = ℕ} 4096 0) _ (d .read .ensures .0) (n .if1 .left) _
-    (c .before .before .before .before .lift-table .ensures)
+    (c .before .before .before .before .lift-table-in .ensures)
 
 pub lift-text-in-spec : {M : Type 1} → statement M
 lift-text-in-spec =
@@ -96,10 +96,10 @@ lift-text-in-spec =
     cast-n
     cast-m
     array-share-prefix-words
-    slice-aggregate-lift-table
+    slice-aggregate-lift-table-in
     array-share-prefix-list
-    slice-aggregate-lift-table-2
-    lift-table-requires
+    slice-aggregate-lift-table-in-2
+    lift-table-in-requires
     same-length
     same-length-2
     returns-2)
