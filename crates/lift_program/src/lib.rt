@@ -5,13 +5,22 @@ use libc::STDOUT_FILENO;
 use lift_text::Format;
 use lift_text::TEXT;
 use refusals::ACCEPTED;
+use stack_limit::NO_LIMIT;
 
 // The bytes of stack that a program needs, as measured: the text to be written takes most of them.
 const STACK: u64 = 4608 * 1024;
 
 // Lifts the file that the command line names, if there is stack enough to do it.
+//
+// Two calls of `lift_input` keep the compiler from putting it in line: the stack that it takes would
+// then be taken before the test.
 pub fn run(usage: &[u8], format: Format) {
-    if stack_limit::stack_limit() < STACK {
+    let limit = stack_limit::stack_limit();
+    if limit == NO_LIMIT {
+        lift_input(usage, format);
+        return;
+    }
+    if limit < STACK {
         io::write_all(STDERR_FILENO, b"lifting needs 4608 KiB of stack: ulimit -s 4608\n");
         return;
     }

@@ -1,7 +1,7 @@
 // How much stack the process may use.
 
 // What getrlimit stores where there is no limit, C's RLIM_INFINITY.
-const NO_LIMIT: u64 = 0xFFFF_FFFF_FFFF_FFFF;
+pub const NO_LIMIT: u64 = 0xFFFF_FFFF_FFFF_FFFF;
 
 // The most bytes of stack that this process may use, as getrlimit says; the highest number if there is no limit, or it can't be told.
 pub fn stack_limit() -> u64 {
