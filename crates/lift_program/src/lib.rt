@@ -1,8 +1,8 @@
 // What the programs that lift a file share: reading a QCIR text, from the file that the argument names or from
 // standard input, and printing what one call makes of it; or saying on standard error why the text is refused.
+use form_writer::Format;
 use libc::STDERR_FILENO;
 use libc::STDOUT_FILENO;
-use lift_text::Format;
 use lift_text::TEXT;
 use refusals::ACCEPTED;
 use stack_limit::NO_LIMIT;
@@ -21,7 +21,10 @@ pub fn run(usage: &[u8], format: Format) {
         return;
     }
     if limit < STACK {
-        io::write_all(STDERR_FILENO, b"lifting needs 4608 KiB of stack: ulimit -s 4608\n");
+        io::write_all(
+            STDERR_FILENO,
+            b"lifting needs 4608 KiB of stack: ulimit -s 4608\n",
+        );
         return;
     }
     lift_input(usage, format);

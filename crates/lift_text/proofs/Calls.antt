@@ -25,42 +25,21 @@ use Rattle.prenex.specs.Outcome.{noSizes, measured}
 use Rattle.form_check.specs.Verdict.{formVerdict}
 use Rattle.form_texts.specs.Writing.{textOutcome, answerOf as textAnswerOf, after as textAfter}
 use Rattle.form_texts.specs.declared.Answer.{Answer as TextAnswer}
-use Rattle.qcir_writer.specs.Writing as qcir-writing
-use Rattle.qdimacs_writer.specs.Writing as qdimacs-writing
+use Rattle.form_writer.specs.Formats.{textAs}
 use Rattle.qcir.specs.FromText.{limits, refusedText}
 use Rattle.qcir.specs.Reading.{Written as ReadSizes, Buffers, buffers, Reading, TableWritten}
-use Rattle.file_to_file.specs.FileToFile.{liftedText}
-use Rattle.file_to_file.specs.FileToClauses.{liftedClauses}
 use Rattle.file_to_file.proofs.Passes.{lift-passes}
 use Rattle.lift_text.specs.declared.Answer.{Answer}
-use Rattle.lift_text.specs.declared.Format.{Format}
-use Rattle.lift_text.specs.declared.Format.the-variants.{Qcir, Qdimacs}
-use Rattle.lift_text.specs.Formats.{textAs, liftedAs}
+use Rattle.form_writer.specs.declared.Format.{Format}
+use Rattle.lift_text.specs.Formats.{liftedAs}
 use Rattle.lift_text.specs.Lifting.{TextSizes, noTextSizes, answerOf, after, writtenAs, Lifting, LiftsText}
 use Rattle.lift_text.specs.Memory.{Lent, lent, afterIn, textOf, beside, writtenIn, LiftingIn, LiftsTextIn}
 use Rattle.lift_text.specs.Measuring.{measuredTable, Measuring, MeasuresText}
 use Rattle.lift_text.proofs.Form.{nodes-most, Short, Lifts}
-use Rattle.lift_text.proofs.Promise.{is-short, is-done, lifts-text}
+use Rattle.lift_text.proofs.Promise.{lifted-as, is-short, is-done, lifts-text}
 use Rattle.lift_text.proofs.Texts.{read-refused, read-done}
 use Rattle.lift_text.proofs.Memory.{no-memory, has-memory, lifts-in}
 use Rattle.lift_text.proofs.Measuring.{measures-text}
-
--- What each writer leaves, by its format.
-module _ (format : Format) (ns ps xs before : List ℕ) (o : Outcome ℕ (List ℕ)) where
-  pub as-qcir : format ≡ Qcir → o ≡ qcir-writing.writeOutcome ns ps xs before → o ≡ textOutcome (formVerdict ns ps xs) (textAs format ns ps xs) before
-  unfolding textAs qcir-writing.writeOutcome
-  as-qcir f e = rw f e
-
-  pub as-qdimacs : format ≡ Qdimacs → o ≡ qdimacs-writing.writeOutcome ns ps xs before → o ≡ textOutcome (formVerdict ns ps xs) (textAs format ns ps xs) before
-  unfolding textAs qdimacs-writing.writeOutcome
-  as-qdimacs f e = rw f e
-
--- The text of a table's lift is the text of the form that a lift writes.
-lifted-as : (format : Format) (ws ls : List ℕ)
-    → textAs format (writtenNodes (tableOf ws ls)) (writtenPrefix (tableOf ws ls)) (writtenVariables (tableOf ws ls)) ≡ liftedAs format ws ls
-unfolding textAs liftedAs liftedText liftedClauses
-lifted-as Qcir ws ls = refl
-lifted-as Qdimacs ws ls = refl
 
 module _ (ws ls : List ℕ) (ok : verdict ws ls ≡ accepted) (format : Format) (nodes nodes′ out : List ℕ) where
   abbrev before : Lent

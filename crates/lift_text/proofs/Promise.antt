@@ -29,8 +29,8 @@ use Rattle.prenex.specs.Outcome.{noSizes}
 use Rattle.form_check.specs.Verdict.{formVerdict}
 use Rattle.form_check.specs.Accepted.{AcceptedForm}
 use Rattle.form_check.proofs.Accepted.{form-holds}
-use Rattle.qcir_form.proofs.Room as qcir-room
-use Rattle.qdimacs_form.proofs.Room as qdimacs-room
+use Rattle.form_writer.specs.Formats.{textAs, roomAs}
+use Rattle.form_writer.proofs.Formats.{text-room}
 use Rattle.qcir.specs.File.{File}
 use Rattle.qcir.specs.Spelling.{Spells}
 use Rattle.qcir.specs.Table.{tableWords, tableList}
@@ -43,9 +43,9 @@ use Rattle.file_to_file.specs.FileToFile.{liftedText}
 use Rattle.file_to_file.specs.FileToClauses.{liftedClauses}
 use Rattle.file_to_file.proofs.Passes.{lift-passes}
 use Rattle.file_to_file.proofs.Theorem.{Read, from-table, clauses-from-table}
-use Rattle.lift_text.specs.declared.Format.{Format}
-use Rattle.lift_text.specs.declared.Format.the-variants.{Qcir, Qdimacs}
-use Rattle.lift_text.specs.Formats.{liftedAs, Owed, roomAs, mostBytes}
+use Rattle.form_writer.specs.declared.Format.{Format}
+use Rattle.form_writer.specs.declared.Format.the-variants.{Qcir, Qdimacs}
+use Rattle.lift_text.specs.Formats.{liftedAs, Owed, mostBytes}
 use Rattle.lift_text.specs.Lifting.{TextSizes, noTextSizes, liftedSizes, writtenAs, Lifting, Linear, LiftsText}
 use Rattle.lift_text.specs.Memory.{Lent, lent, textOf, beside, writtenIn, LiftingIn, LiftsTextIn}
 use Rattle.lift_text.specs.Measuring.{alone, measuredTable, Measuring, MeasuresText}
@@ -57,6 +57,13 @@ liftNumbers = 0 ∷ 2 ∷ 6 ∷ 9 ∷ 10 ∷ 11 ∷ 12 ∷ 13 ∷ []
 -- The numbers that lifting and measuring a text may answer: those of every refusal of a text, and more.
 pub listed : (numbers : List ℕ) (number : ℕ) → all (λ y. mem y numbers) textRefusals ≡ true → mem number textRefusals ≡ true → mem number numbers ≡ true
 listed numbers number h m = all-mem (λ y. mem y numbers) textRefusals number h m
+
+-- The text of a table's lift is the text of the form that a lift writes.
+pub lifted-as : (format : Format) (ws ls : List ℕ)
+    → textAs format (writtenNodes (tableOf ws ls)) (writtenPrefix (tableOf ws ls)) (writtenVariables (tableOf ws ls)) ≡ liftedAs format ws ls
+unfolding textAs liftedAs liftedText liftedClauses
+lifted-as Qcir ws ls = refl
+lifted-as Qdimacs ws ls = refl
 
 -- The two ways of a text that is to be written.
 module _ (format : Format) (before ws ls : List ℕ) where
@@ -121,9 +128,9 @@ module _ (text : List ℕ) (f : File) (s : Spells (limits .names) text f) (names
   blocks-are = omega (arith, prenex ws ls (table .accepts) .whole-blocks, sizes-written (tableOf ws ls) .blocks-measured)
 
   bytes-most : (format : Format) → length (liftedAs format ws ls) ≤ roomAs format (nodeCount ns) (length ps / prefixWidth) (length xs)
-  unfolding liftedAs liftedText liftedClauses roomAs
-  bytes-most Qcir = qcir-room.text-room ns ps xs passes
-  bytes-most Qdimacs = qdimacs-room.text-room ns ps xs passes
+  bytes-most format =
+      subst (λ (l : List ℕ). length l ≤ roomAs format (nodeCount ns) (length ps / prefixWidth) (length xs)) (lifted-as format ws ls)
+      (text-room format ns ps xs passes)
 
   linear : (format : Format) → Linear format (liftedSizes format ws ls)
   unfolding sizes

@@ -13,10 +13,11 @@ use Rattle.refusals.specs.Outcome.{AnswerWith, Outcome, done, unlessShort}
 use Rattle.prenex_form.specs.declared.Sizes.{Sizes}
 use Rattle.prenex_form.specs.Sizes.{sizes}
 use Rattle.prenex.specs.Outcome.{noSizes}
+use Rattle.form_writer.specs.Formats.{roomAs}
 use Rattle.qcir.specs.FromText.{limits, FromText, OnlyFromText}
 use Rattle.lift_text.specs.declared.Answer.{Answer}
-use Rattle.lift_text.specs.declared.Format.{Format}
-use Rattle.lift_text.specs.Formats.{liftedAs, Owed, roomAs, mostBytes}
+use Rattle.form_writer.specs.declared.Format.{Format}
+use Rattle.lift_text.specs.Formats.{liftedAs, Owed, mostBytes}
 
 -- The sizes of an answer: the bytes written, and what measuring gives of the table that was read.
 pub record TextSizes : Type 0 where

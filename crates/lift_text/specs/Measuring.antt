@@ -11,7 +11,7 @@ use Rattle.prenex_form.specs.declared.Sizes.{Sizes}
 use Rattle.prenex_form.specs.Sizes.{sizes}
 use Rattle.prenex.specs.Outcome.{noSizes}
 use Rattle.qcir.specs.FromText.{limits, FromText, OnlyFromText}
-use Rattle.lift_text.specs.declared.Format.{Format}
+use Rattle.form_writer.specs.declared.Format.{Format}
 use Rattle.lift_text.specs.Lifting.{TextSizes, Lifting}
 
 -- An answer of a call that has no buffers.

@@ -13,7 +13,7 @@ use Rattle.refusals.specs.Outcome.{Outcome, unlessRefused}
 use Rattle.prenex_form.specs.Matrix.{writtenNodes}
 use Rattle.qcir.specs.FromText.{limits, FromText, OnlyFromText}
 use Rattle.lift_text.specs.declared.Answer.{Answer}
-use Rattle.lift_text.specs.declared.Format.{Format}
+use Rattle.form_writer.specs.declared.Format.{Format}
 use Rattle.lift_text.specs.Lifting.{TextSizes, noTextSizes, answerOf, writtenAs, LiftsText}
 
 -- The memory for the nodes, and the buffer for the text.

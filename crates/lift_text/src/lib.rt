@@ -3,15 +3,12 @@ ghost use mathlib.Core.Path.{_≡_};
 ghost use Rattle.refusals.specs.Verdict.{accepted};
 ghost use Rattle.refusals.specs.Outcome.{refused as refusedOf};
 ghost use Rattle.acceptance.specs.Verdict.{verdict};
-ghost use Rattle.form_check.specs.Verdict.{formVerdict};
-ghost use Rattle.form_texts.specs.Writing.{after as textAfter, textOutcome};
 ghost use Rattle.prenex.specs.Outcome.{answerOf as sizesOf};
-ghost use Rattle.lift_text.specs.Formats.{textAs};
 ghost use Rattle.lift_text.specs.Lifting.{noTextSizes, answerOf, after, writtenAs, LiftsText};
 ghost use Rattle.lift_text.specs.Memory.{lent, afterIn, writtenIn, LiftsTextIn};
 ghost use Rattle.lift_text.specs.Measuring.{MeasuresText};
 use acceptance::LIMIT;
-use form_texts::Answer as TextAnswer;
+use form_writer::Format;
 use formula::WIDTH;
 use prefix_writer::PREFIX_WIDTH;
 use prenex::Answer as Measure;
@@ -38,17 +35,11 @@ pub struct Answer {
     pub sizes: Sizes,
 }
 
-// In which format a prenex form is written.
-pub enum Format {
-    Qcir,
-    Qdimacs,
-}
-
 // Reads a QCIR text, lifts its table and writes the prenex form as a text; or refuses the text as reading
 // does, or the buffer by 9.
 //
-// The contract rules out a call that takes the list of the table for its words, and one that writes
-// QDIMACS where QCIR is asked for.
+// The contract rules out a call that takes the list of the table for its words, and one that hands on
+// words beyond those of the form's nodes.
 pub fn lift_text(text: &[u8], format: Format, out: &mut [u8]) -> Answer
     ensures { λ r.
         ⌜ LiftsText format (now (text .entry)) (now (out .entry)) (after r (now (out .exit))) ⌝ }
@@ -68,8 +59,8 @@ pub fn lift_text(text: &[u8], format: Format, out: &mut [u8]) -> Answer
 // The same with lent memory for the form's nodes, for callers with a small stack; 24 if that is too
 // short.
 //
-// The contract rules out a call that loses the position of a refusal, and one that answers a byte less
-// than it wrote.
+// The contract rules out a call that answers done where the text has no room, and one that answers
+// another number of bytes than it wrote.
 pub fn lift_text_in(text: &[u8], format: Format, nodes: &mut [u32], out: &mut [u8]) -> Answer
     ensures { λ r.
         ⌜ LiftsTextIn format (now (text .entry)) (lent (now (nodes .entry)) (now (out .entry)))
@@ -123,7 +114,7 @@ fn lift_table_in(
     let n = WIDTH * (sizes.nodes as usize);
     let b = PREFIX_WIDTH * (sizes.blocks as usize);
     let e = sizes.entries as usize;
-    let written = write_form(&nodes[..n], &prefix[..b], &variables[..e], format, out);
+    let written = form_writer::write(&nodes[..n], &prefix[..b], &variables[..e], format, out);
     if written.number != ACCEPTED {
         return refused(refusals::refusal(BUFFER_TOO_SHORT, 0));
     }
@@ -132,26 +123,6 @@ fn lift_table_in(
         verdict,
         bytes: written.bytes,
         sizes,
-    }
-}
-
-// Writes a form in a format.
-fn write_form(
-    nodes: &[u32],
-    prefix: &[u32],
-    variables: &[u32],
-    format: Format,
-    out: &mut [u8],
-) -> TextAnswer
-    ensures { λ r.
-        ⌜ textAfter r (now (out .exit))
-        ≡ textOutcome (formVerdict (now (nodes .entry)) (now (prefix .entry)) (now (variables .entry)))
-        (textAs format (now (nodes .entry)) (now (prefix .entry)) (now (variables .entry)))
-        (now (out .entry)) ⌝ }
-{
-    match format {
-        Format::Qcir => qcir_writer::write(nodes, prefix, variables, out),
-        Format::Qdimacs => qdimacs_writer::write(nodes, prefix, variables, out),
     }
 }
 
@@ -170,8 +141,8 @@ pub fn refused(verdict: Verdict) -> Answer
 
 // Reads a QCIR text and measures its table; or refuses the text as reading does.
 //
-// The contract rules out a measure that gives sizes of a refused text, and one with the sizes of
-// another table.
+// The contract rules out a measure of a part of the table, and one that refuses a misspelled text by
+// another number than reading does.
 pub fn measure_text(text: &[u8]) -> Measure
     ensures { λ r. ⌜ MeasuresText (now (text .entry)) (sizesOf r) ⌝ }
 {

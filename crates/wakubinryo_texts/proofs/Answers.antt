@@ -9,8 +9,8 @@ use Rattle.refusals.specs.Outcome.{AnswerWith, Outcome, refused}
 use Rattle.refusals.proofs.Plain.{plain-refusal}
 use Rattle.qcir.specs.FromText.{refusedText}
 use Rattle.lift_text.specs.declared.Answer.{Answer}
-use Rattle.lift_text.specs.declared.Format.{Format}
-use Rattle.lift_text.specs.declared.Format.the-variants.{Qcir, Qdimacs}
+use Rattle.form_writer.specs.declared.Format.{Format}
+use Rattle.form_writer.specs.declared.Format.the-variants.{Qcir, Qdimacs}
 use Rattle.lift_text.specs.Lifting.{TextSizes, noTextSizes, answerOf}
 use Rattle.wakubinryo_texts.specs.declared.Asked.{Asked}
 use Rattle.wakubinryo_texts.specs.declared.Asked.the-variants.{Known, Unknown}

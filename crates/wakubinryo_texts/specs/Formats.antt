@@ -2,8 +2,8 @@
 -- Assumes nothing.
 use mathlib.Core.Path.{_≡_}
 use Prim.Native.Nat.{ℕ}
-use Rattle.lift_text.specs.declared.Format.{Format}
-use Rattle.lift_text.specs.declared.Format.the-variants.{Qcir, Qdimacs}
+use Rattle.form_writer.specs.declared.Format.{Format}
+use Rattle.form_writer.specs.declared.Format.the-variants.{Qcir, Qdimacs}
 use Rattle.wakubinryo_texts.specs.declared.Asked.{Asked}
 use Rattle.wakubinryo_texts.specs.declared.Asked.the-variants.{Known, Unknown}
 

@@ -9,8 +9,8 @@ ghost use Rattle.lift_text.specs.Memory.{lent, LiftsTextIn};
 ghost use Rattle.lift_text.specs.Measuring.{MeasuresText};
 ghost use Rattle.wakubinryo_texts.specs.Words.{liftAnswer, measureAnswer, outcomeOf};
 ghost use Rattle.wakubinryo_texts.specs.Formats.{Numbers, InFormat};
+use form_writer::Format;
 use lift_text::Answer;
-use lift_text::Format;
 use prenex::Answer as Measure;
 use refusals::UNKNOWN_FORMAT;
 
@@ -28,8 +28,8 @@ enum Asked {
 // Lifts a QCIR text to a text: number, position, bytes written and the seven sizes. A number that names
 // no format is refused by 23.
 //
-// The contract rules out an answer whose bytes and position are exchanged, and a call that takes the
-// number of QDIMACS for QCIR's.
+// The contract rules out an answer that loses a refusal's position, and a call that takes the number of
+// QDIMACS for QCIR's.
 #[no_mangle]
 pub extern "C" fn wakubinryo_lift_text(
     text: &[u8],
@@ -51,8 +51,8 @@ pub extern "C" fn wakubinryo_lift_text(
 
 // The same with lent memory for the form's nodes; 24 if that is too short.
 //
-// The contract rules out a call that refuses an unknown format by 24, and one that answers the sizes of
-// a refused text.
+// The contract rules out a call that refuses an unknown format by 1, and one that answers the form's
+// nodes for the bytes written.
 #[no_mangle]
 pub extern "C" fn wakubinryo_lift_text_in(
     text: &[u8],
@@ -77,8 +77,8 @@ pub extern "C" fn wakubinryo_lift_text_in(
 
 // Measures a QCIR text: number, position and the seven sizes.
 //
-// The contract rules out an answer whose sizes stand in another order, and one that measures a part of
-// the text.
+// The contract rules out an answer whose sizes stand in another order, and one with a refusal's number
+// in the place of its position.
 #[no_mangle]
 pub extern "C" fn wakubinryo_measure_text(text: &[u8], answer: &mut [u32; 9])
     ensures { λ _. ⌜ MeasuresText (now (text .entry)) (measureAnswer (now (answer .exit))) ⌝ }

@@ -17,7 +17,7 @@ entry c = c .before .before .before .before .before .before .before .before
 abbrev lift-of : tie.After-struct-known → tie.After-lift
 lift-of c = c .before .before .before .before .before .before
 
-abbrev sized : tie.After-write-form → tie.After-struct-known4
+abbrev sized : tie.After-write → tie.After-struct-known4
 sized c = c .before .before .before .before .before
 
 -- the form that the lift left
@@ -71,26 +71,26 @@ mul-b c = search needs
 cast-e : tie.Need-cast-e
 cast-e c = search needs
 
-slice-reshare-prefix-write-form : tie.Need-slice-reshare-prefix-write-form
-slice-reshare-prefix-write-form c = form c .nodes-fit
+slice-reshare-prefix-write : tie.Need-slice-reshare-prefix-write
+slice-reshare-prefix-write c = form c .nodes-fit
 
-slice-aggregate-write-form : tie.Need-slice-aggregate-write-form
-slice-aggregate-write-form c = sym (length-take-le _ _ (form (c .before) .nodes-fit))
+slice-aggregate-write : tie.Need-slice-aggregate-write
+slice-aggregate-write c = sym (length-take-le _ _ (form (c .before) .nodes-fit))
 
 array-share-prefix-prefix : tie.Need-array-share-prefix-prefix
 array-share-prefix-prefix c = form (c .before) .prefix-fits
 
-slice-aggregate-write-form-2 : tie.Need-slice-aggregate-write-form-2
-slice-aggregate-write-form-2 c = sym (length-take-le _ _ (form (c .before .before) .prefix-fits))
+slice-aggregate-write-2 : tie.Need-slice-aggregate-write-2
+slice-aggregate-write-2 c = sym (length-take-le _ _ (form (c .before .before) .prefix-fits))
 
 array-share-prefix-variables : tie.Need-array-share-prefix-variables
 array-share-prefix-variables c = form (c .before .before) .variables-fit
 
-slice-aggregate-write-form-3 : tie.Need-slice-aggregate-write-form-3
-slice-aggregate-write-form-3 c = sym (length-take-le _ _ (form (c .before .before .before) .variables-fit))
+slice-aggregate-write-3 : tie.Need-slice-aggregate-write-3
+slice-aggregate-write-3 c = sym (length-take-le _ _ (form (c .before .before .before) .variables-fit))
 
-write-form-requires : tie.Need-write-form-requires
-write-form-requires c κs = search needs
+write-requires : tie.Need-write-requires
+write-requires c κs = search needs
 
 refusal-requires-2 : tie.Need-refusal-requires-2
 refusal-requires-2 c κs = search needs
@@ -109,7 +109,7 @@ returns-2 c =
     let w = c .before .before .before .before .before .before in
     let l = lift-of (sized w .before .before .before .before .before) in
     let s = entry l in
-    short-text (s .args .words .now) (s .args .list .now) (s .pre) (s .args .format) (s .args .nodes .now) _ (s .args .out .now) _ _ _ _ (form (sized w)) _ (w .write-form .ensures)
+    short-text (s .args .words .now) (s .args .list .now) (s .pre) (s .args .format) (s .args .nodes .now) _ (s .args .out .now) _ _ _ _ (form (sized w)) _ (w .write .ensures)
     (c .before .before .if2 .taken) _ _ (c .before .refusal2 .ensures) (c .refused2 .ensures)
 
 accepted-requires : tie.Need-accepted-requires
@@ -126,7 +126,7 @@ returns-3 c =
     let w = c .before .before .before .before .before in
     let l = lift-of (sized w .before .before .before .before .before) in
     let s = entry l in
-    done-text (s .args .words .now) (s .args .list .now) (s .pre) (s .args .format) (s .args .nodes .now) _ (s .args .out .now) _ _ _ _ (form (sized w)) _ (w .write-form .ensures)
+    done-text (s .args .words .now) (s .args .list .now) (s .pre) (s .args .format) (s .args .nodes .now) _ (s .args .out .now) _ _ _ _ (form (sized w)) _ (w .write .ensures)
     (c .before .if2 .left) _ (c .accepted .ensures)
 
 pub lift-table-in-spec : {M : Type 1} → statement M
@@ -145,13 +145,13 @@ lift-table-in-spec =
     cast-b
     mul-b
     cast-e
-    slice-reshare-prefix-write-form
-    slice-aggregate-write-form
+    slice-reshare-prefix-write
+    slice-aggregate-write
     array-share-prefix-prefix
-    slice-aggregate-write-form-2
+    slice-aggregate-write-2
     array-share-prefix-variables
-    slice-aggregate-write-form-3
-    write-form-requires
+    slice-aggregate-write-3
+    write-requires
     refusal-requires-2
     refused-requires-2
     same-length-2

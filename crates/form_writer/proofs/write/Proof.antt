@@ -1,9 +1,9 @@
--- `lift_text::write_form` meets its contract.
+-- `form_writer::write` meets its contract.
 -- Assumes nothing.
 use borrow.Author.Needs.{needs}
-use Rattle.lift_text.proofs.Calls.{as-qcir, as-qdimacs}
-use Rattle.lift_text.proofs.write_form.Statement.{statement}
-use Rattle.lift_text.proofs.write_form.Tie as tie
+use Rattle.form_writer.proofs.Formats.{as-qcir, as-qdimacs}
+use Rattle.form_writer.proofs.write.Statement.{statement}
+use Rattle.form_writer.proofs.write.Tie as tie
 
 enum-told : tie.Need-enum-told
 enum-told c = search needs
@@ -35,8 +35,8 @@ returns-2 c =
     as-qdimacs (s .args .format) (s .args .nodes .now) (s .args .prefix .now) (s .args .variables .now) (s .args .out .now) _
     (c .before .before .before .before .enum-told2 .given .1) (c .before .before .write2 .ensures .0)
 
-pub write-form-spec : {M : Type 1} → statement M
-write-form-spec =
+pub write-spec : {M : Type 1} → statement M
+write-spec =
     tie.close
     (tie.spec
     enum-told
