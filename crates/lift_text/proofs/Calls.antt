@@ -6,8 +6,8 @@ use Prim.Native.Nat.{ℕ, _*_, _<_, _≤_}
 use native.Mathlib.Omega.{arith}
 use lib.Dec.{ltb}
 use lib.ListN.{length, take}
-use borrow.Author.Tests.{ltb-true, ltb-false, lt-ltb, le-ltb}
-use Rattle.lists.specs.Choice.{Is, is-true, is-false, look}
+use borrow.Author.Tests.{ltb-true, ltb-false, lt-ltb, le-ltb, eq-eqb, ne-eqb}
+use Rattle.lists.specs.Choice.{pick-yes, pick-no, Is, is-true, is-false, look}
 use Rattle.lists.specs.Parts.{overwrite}
 use Rattle.formula.specs.Words.{width, tableOf}
 use Rattle.formula.specs.Form.{prefixWidth}
@@ -29,10 +29,11 @@ use Rattle.form_writer.specs.Formats.{textAs}
 use Rattle.qcir.specs.FromText.{limits, refusedText}
 use Rattle.qcir.specs.Reading.{Written as ReadSizes, Buffers, buffers, Reading, TableWritten}
 use Rattle.file_to_file.proofs.Passes.{lift-passes}
-use Rattle.lift_text.specs.declared.Answer.{Answer}
+use Rattle.text_answers.specs.declared.Answer.{Answer}
 use Rattle.form_writer.specs.declared.Format.{Format}
 use Rattle.lift_text.specs.Formats.{liftedAs}
-use Rattle.lift_text.specs.Lifting.{TextSizes, noTextSizes, answerOf, after, writtenAs, Lifting, LiftsText}
+use Rattle.text_answers.specs.Answers.{TextSizes, noTextSizes, answerOf, ofWriting}
+use Rattle.lift_text.specs.Lifting.{after, writtenAs, Lifting, LiftsText}
 use Rattle.lift_text.specs.Memory.{Lent, lent, afterIn, textOf, beside, writtenIn, LiftingIn, LiftsTextIn}
 use Rattle.lift_text.specs.Measuring.{measuredTable, Measuring, MeasuresText}
 use Rattle.lift_text.proofs.Form.{nodes-most, Short, Lifts}
@@ -76,32 +77,25 @@ module _ (ws ls : List ℕ) (ok : verdict ws ls ≡ accepted) (format : Format) 
     unfolding textOutcome accepted
     text-done h = text-is ∙ call-next 0 out _ accepted refl ∙ call-room 0 out _ _ (le-ltb _ _ h)
 
-    pub short-text : (a .number ≡ 0 → ⊥) → (r : Answer) (v : Verdict) → v ≡ refusal 9 0 → answerOf r ≡ refused v noTextSizes
-        → afterIn r (lent nodes′ out′) ≡ writtenIn format (lent nodes out) ws ls
-    unfolding textAnswerOf refusal done accepted refusedText
-    short-text n r v e b = go (look (ltb (length out) (length (liftedAs format ws ls))))
+    pub text-call : (r : Answer) → answerOf r ≡ ofWriting a (m .sizes) → afterIn r (lent nodes′ out′) ≡ writtenIn format (lent nodes out) ws ls
+    unfolding textAnswerOf refusal refused done accepted refusedText ofWriting
+    text-call r e = go (look (ltb (length out) (length (liftedAs format ws ls))))
       where
         go : Is (ltb (length out) (length (liftedAs format ws ls))) → afterIn r (lent nodes′ out′) ≡ writtenIn format (lent nodes out) ws ls
         go (is-true t) =
             let h = ltb-true _ _ t in
-            let kept : out′ ≡ out = ap (λ (o : Outcome ℕ (List ℕ)). o .buffers) (text-short h) in
-            (λ i. afterIn r (lent (l .nodes-over i) (kept i)))
-            ∙ handed r v _ _ e b
+            let d = text-short h in
+            let n : a .number ≡ 9 = ap (λ (o : Outcome ℕ (List ℕ)). o .answer .verdict .number) d in
+            let b = e ∙ pick-no _ _ _ (ne-eqb (a .number) 0 (λ z. omega (arith, n, z))) in
+            (λ i. record { answer = b i; buffers = lent (l .nodes-over i) (d i .buffers) })
             ∙ sym (has-memory format before ws ls (l .room) ∙ ap (beside _) (is-short format out ws ls h))
-        go (is-false t) = absurd (n (ap (λ (o : Outcome ℕ (List ℕ)). o .answer .verdict .number) (text-done (ltb-false _ _ t))))
-
-    pub done-text : a .number ≡ 0 → (v : Verdict) → v ≡ accepted
-        → afterIn (record { verdict = v; bytes = a .bytes; sizes = m .sizes }) (lent nodes′ out′) ≡ writtenIn format (lent nodes out) ws ls
-    unfolding textAnswerOf refusal refused done
-    done-text z v e = go (look (ltb (length out) (length (liftedAs format ws ls))))
-      where
-        go : Is (ltb (length out) (length (liftedAs format ws ls))) → afterIn (record { verdict = v; bytes = a .bytes; sizes = m .sizes }) (lent nodes′ out′) ≡ writtenIn format (lent nodes out) ws ls
-        go (is-true t) = absurd (omega (arith, z, ap (λ (o : Outcome ℕ (List ℕ)). o .answer .verdict .number) (text-short (ltb-true _ _ t))))
         go (is-false t) =
             let h = ltb-false _ _ t in
             let d = text-done h in
-            (λ i. record {
-              answer = record { verdict = e i; sizes = record { bytes = d i .answer .sizes; table = l .sizes-are i } };
+            let b = e ∙ pick-yes _ _ _ (eq-eqb (a .number) 0 (ap (λ (o : Outcome ℕ (List ℕ)). o .answer .verdict .number) d)) in
+            ap (λ (b : AnswerWith TextSizes). record { answer = b; buffers = lent nodes′ out′ }) b
+            ∙ (λ i. record {
+              answer = done (record { bytes = d i .answer .sizes; table = l .sizes-are i });
               buffers = lent (l .nodes-over i) (d i .buffers);
             })
             ∙ sym (has-memory format before ws ls (l .room) ∙ ap (beside _) (is-done format out ws ls h))

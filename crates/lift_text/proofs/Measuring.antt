@@ -18,7 +18,8 @@ use Rattle.qcir.specs.FromText.{limits, textRefusals, refusedText}
 use Rattle.qcir.proofs.Answers.{no-refusal, Ways, both-refused, both-go-on, ways, from-text}
 use Rattle.qcir_reader.proofs.Unique.{outcome-unique, only-one}
 use Rattle.form_writer.specs.declared.Format.{Format}
-use Rattle.lift_text.specs.Lifting.{TextSizes, noTextSizes, writtenAs, Lifting}
+use Rattle.text_answers.specs.Answers.{TextSizes, noTextSizes}
+use Rattle.lift_text.specs.Lifting.{writtenAs, Lifting}
 use Rattle.lift_text.specs.Measuring.{alone, measuredTable, Measuring, MeasuresText}
 use Rattle.lift_text.proofs.Promise.{listed, Way, short-way, done-way, way}
 

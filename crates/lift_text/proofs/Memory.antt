@@ -21,7 +21,8 @@ use Rattle.qcir.specs.FromText.{limits, textRefusals, refusedText}
 use Rattle.qcir.proofs.Answers.{no-refusal, Ways, both-refused, both-go-on, ways}
 use Rattle.qcir_reader.proofs.Unique.{only-one}
 use Rattle.form_writer.specs.declared.Format.{Format}
-use Rattle.lift_text.specs.Lifting.{TextSizes, noTextSizes, writtenAs, Lifting}
+use Rattle.text_answers.specs.Answers.{TextSizes, noTextSizes}
+use Rattle.lift_text.specs.Lifting.{writtenAs, Lifting}
 use Rattle.lift_text.specs.Memory.{Lent, textOf, beside, writtenIn, LiftingIn, LiftsTextIn}
 use Rattle.lift_text.proofs.Promise.{Way, short-way, done-way, way, nodes-room, lifts-text}
 

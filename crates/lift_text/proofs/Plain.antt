@@ -12,7 +12,8 @@ use Rattle.qcir.specs.Table.{tableWords, tableList}
 use Rattle.qcir.specs.FromText.{limits, refusedText, FromText}
 use Rattle.qcir.proofs.Answers.{from-text}
 use Rattle.form_writer.specs.declared.Format.{Format}
-use Rattle.lift_text.specs.Lifting.{TextSizes, noTextSizes, writtenAs, Lifting}
+use Rattle.text_answers.specs.Answers.{TextSizes, noTextSizes}
+use Rattle.lift_text.specs.Lifting.{writtenAs, Lifting}
 use Rattle.lift_text.specs.Memory.{Lent, writtenIn, LiftingIn}
 use Rattle.lift_text.specs.Measuring.{alone, measuredTable, Measuring}
 

@@ -46,7 +46,8 @@ use Rattle.file_to_file.proofs.Theorem.{Read, from-table, clauses-from-table}
 use Rattle.form_writer.specs.declared.Format.{Format}
 use Rattle.form_writer.specs.declared.Format.the-variants.{Qcir, Qdimacs}
 use Rattle.lift_text.specs.Formats.{liftedAs, Owed, mostBytes}
-use Rattle.lift_text.specs.Lifting.{TextSizes, noTextSizes, liftedSizes, writtenAs, Lifting, Linear, LiftsText}
+use Rattle.text_answers.specs.Answers.{TextSizes, noTextSizes}
+use Rattle.lift_text.specs.Lifting.{liftedSizes, writtenAs, Lifting, Linear, LiftsText}
 use Rattle.lift_text.specs.Memory.{Lent, lent, textOf, beside, writtenIn, LiftingIn, LiftsTextIn}
 use Rattle.lift_text.specs.Measuring.{alone, measuredTable, Measuring, MeasuresText}
 use Rattle.lift_text.proofs.Form.{nodes-most, prefix-most, variables-most}

@@ -9,27 +9,14 @@ use lib.ListN.{length, take}
 use Rattle.lists.specs.Members.{mem}
 use Rattle.lists.specs.Parts.{overwrite}
 use Rattle.formula.specs.Words.{tableOf}
-use Rattle.refusals.specs.Outcome.{AnswerWith, Outcome, done, unlessShort}
-use Rattle.prenex_form.specs.declared.Sizes.{Sizes}
+use Rattle.refusals.specs.Outcome.{Outcome, done, unlessShort}
 use Rattle.prenex_form.specs.Sizes.{sizes}
-use Rattle.prenex.specs.Outcome.{noSizes}
 use Rattle.form_writer.specs.Formats.{roomAs}
 use Rattle.qcir.specs.FromText.{limits, FromText, OnlyFromText}
-use Rattle.lift_text.specs.declared.Answer.{Answer}
 use Rattle.form_writer.specs.declared.Format.{Format}
+use Rattle.text_answers.specs.declared.Answer.{Answer}
+use Rattle.text_answers.specs.Answers.{TextSizes, noTextSizes, answerOf}
 use Rattle.lift_text.specs.Formats.{liftedAs, Owed, mostBytes}
-
--- The sizes of an answer: the bytes written, and what measuring gives of the table that was read.
-pub record TextSizes : Type 0 where
-  pub bytes : ℕ
-  pub table : Sizes
-
--- "On refusal all sizes .. are 0."
-unfoldable pub noTextSizes : TextSizes
-noTextSizes = record { bytes = 0; table = noSizes }
-
-abbrev pub answerOf : Answer → AnswerWith TextSizes
-answerOf a = record { verdict = a .verdict; sizes = record { bytes = a .bytes; table = a .sizes } }
 
 -- An answer, and what the buffer holds with it.
 abbrev pub after : Answer → List ℕ → Outcome TextSizes (List ℕ)

@@ -12,7 +12,8 @@ use Rattle.prenex_form.specs.Sizes.{sizes}
 use Rattle.prenex.specs.Outcome.{noSizes}
 use Rattle.qcir.specs.FromText.{limits, FromText, OnlyFromText}
 use Rattle.form_writer.specs.declared.Format.{Format}
-use Rattle.lift_text.specs.Lifting.{TextSizes, Lifting}
+use Rattle.text_answers.specs.Answers.{TextSizes}
+use Rattle.lift_text.specs.Lifting.{Lifting}
 
 -- An answer of a call that has no buffers.
 abbrev pub alone : AnswerWith Sizes → Outcome Sizes (Unit {0})

@@ -12,9 +12,10 @@ use Rattle.refusals.specs.Verdict.{refusal, accepted}
 use Rattle.refusals.specs.Outcome.{Outcome, unlessRefused}
 use Rattle.prenex_form.specs.Matrix.{writtenNodes}
 use Rattle.qcir.specs.FromText.{limits, FromText, OnlyFromText}
-use Rattle.lift_text.specs.declared.Answer.{Answer}
+use Rattle.text_answers.specs.declared.Answer.{Answer}
 use Rattle.form_writer.specs.declared.Format.{Format}
-use Rattle.lift_text.specs.Lifting.{TextSizes, noTextSizes, answerOf, writtenAs, LiftsText}
+use Rattle.text_answers.specs.Answers.{TextSizes, noTextSizes, answerOf}
+use Rattle.lift_text.specs.Lifting.{writtenAs, LiftsText}
 
 -- The memory for the nodes, and the buffer for the text.
 pub record Lent : Type 0 where

@@ -1,10 +1,9 @@
 // From the bytes of a QCIR file to the bytes of its prenex form, QCIR or QDIMACS; and the sizes of both.
 ghost use mathlib.Core.Path.{_≡_};
 ghost use Rattle.refusals.specs.Verdict.{accepted};
-ghost use Rattle.refusals.specs.Outcome.{refused as refusedOf};
 ghost use Rattle.acceptance.specs.Verdict.{verdict};
 ghost use Rattle.prenex.specs.Outcome.{answerOf as sizesOf};
-ghost use Rattle.lift_text.specs.Lifting.{noTextSizes, answerOf, after, writtenAs, LiftsText};
+ghost use Rattle.lift_text.specs.Lifting.{after, writtenAs, LiftsText};
 ghost use Rattle.lift_text.specs.Memory.{lent, afterIn, writtenIn, LiftsTextIn};
 ghost use Rattle.lift_text.specs.Measuring.{MeasuresText};
 use acceptance::LIMIT;
@@ -12,11 +11,9 @@ use form_writer::Format;
 use formula::WIDTH;
 use prefix_writer::PREFIX_WIDTH;
 use prenex::Answer as Measure;
-use prenex_form::Sizes;
 use refusals::ACCEPTED;
-use refusals::BUFFER_TOO_SHORT;
 use refusals::MEMORY_TOO_SHORT;
-use refusals::Verdict;
+use text_answers::Answer;
 
 // The most nodes, prefix blocks and prefix variables of a prenex form.
 const NODES: usize = 10 * LIMIT;
@@ -27,13 +24,6 @@ const ENTRIES: usize = 3 * LIMIT;
 
 // Room for the text of every prenex form: as QDIMACS, which takes more than QCIR.
 pub const TEXT: usize = 64 * (NODES + 1) + 4 * BLOCKS + 6 * ENTRIES;
-
-// The verdict, the bytes written, and the sizes of the table that was read and of its prenex form.
-pub struct Answer {
-    pub verdict: Verdict,
-    pub bytes: usize,
-    pub sizes: Sizes,
-}
 
 // Reads a QCIR text, lifts its table and writes the prenex form as a text; or refuses the text as reading
 // does, or the buffer by 9.
@@ -49,7 +39,7 @@ pub fn lift_text(text: &[u8], format: Format, out: &mut [u8]) -> Answer
     let read = qcir_reader::read(text, &mut words, &mut list);
     let verdict = read.verdict;
     if verdict.number != ACCEPTED {
-        return refused(verdict);
+        return text_answers::refused(verdict);
     }
     let n = read.words as usize;
     let m = read.entries as usize;
@@ -71,7 +61,7 @@ pub fn lift_text_in(text: &[u8], format: Format, nodes: &mut [u32], out: &mut [u
     let read = qcir_reader::read(text, &mut words, &mut list);
     let verdict = read.verdict;
     if verdict.number != ACCEPTED {
-        return refused(verdict);
+        return text_answers::refused(verdict);
     }
     let n = read.words as usize;
     let m = read.entries as usize;
@@ -108,35 +98,14 @@ fn lift_table_in(
     let lifted = prenex::lift(words, list, nodes, &mut prefix, &mut variables);
     let verdict = lifted.verdict;
     if verdict.number != ACCEPTED {
-        return refused(refusals::refusal(MEMORY_TOO_SHORT, 0));
+        return text_answers::refused(refusals::refusal(MEMORY_TOO_SHORT, 0));
     }
     let sizes = lifted.sizes;
     let n = WIDTH * (sizes.nodes as usize);
     let b = PREFIX_WIDTH * (sizes.blocks as usize);
     let e = sizes.entries as usize;
     let written = form_writer::write(&nodes[..n], &prefix[..b], &variables[..e], format, out);
-    if written.number != ACCEPTED {
-        return refused(refusals::refusal(BUFFER_TOO_SHORT, 0));
-    }
-    let verdict = refusals::accepted();
-    Answer {
-        verdict,
-        bytes: written.bytes,
-        sizes,
-    }
-}
-
-// An answer that hands a refusal on, with sizes of 0.
-pub fn refused(verdict: Verdict) -> Answer
-    ensures { λ r. ⌜ answerOf r ≡ refusedOf verdict noTextSizes ⌝ }
-{
-    let measured = prenex::refused(verdict);
-    let sizes = measured.sizes;
-    Answer {
-        verdict,
-        bytes: 0,
-        sizes,
-    }
+    text_answers::of_writing(written, sizes)
 }
 
 // Reads a QCIR text and measures its table; or refuses the text as reading does.

@@ -8,19 +8,12 @@ use Rattle.refusals.specs.Verdict.{refusal, Plain}
 use Rattle.refusals.specs.Outcome.{AnswerWith, Outcome, refused}
 use Rattle.refusals.proofs.Plain.{plain-refusal}
 use Rattle.qcir.specs.FromText.{refusedText}
-use Rattle.lift_text.specs.declared.Answer.{Answer}
+use Rattle.text_answers.specs.declared.Answer.{Answer}
 use Rattle.form_writer.specs.declared.Format.{Format}
-use Rattle.form_writer.specs.declared.Format.the-variants.{Qcir, Qdimacs}
-use Rattle.lift_text.specs.Lifting.{TextSizes, noTextSizes, answerOf}
-use Rattle.wakubinryo_texts.specs.declared.Asked.{Asked}
-use Rattle.wakubinryo_texts.specs.declared.Asked.the-variants.{Known, Unknown}
-use Rattle.wakubinryo_texts.specs.Formats.{numberOf, Numbers, InFormat, known, unknown}
-
--- A number that is neither format's.
-pub no-format : (number : ℕ) → (number ≡ 1 → ⊥) → (number ≡ 2 → ⊥) → (format : Format) → number ≡ numberOf format → ⊥
-unfolding numberOf
-no-format number a b Qcir e = a e
-no-format number a b Qdimacs e = b e
+use Rattle.text_answers.specs.Answers.{TextSizes, noTextSizes, answerOf}
+use Rattle.text_answers.specs.declared.Asked.{Asked}
+use Rattle.text_answers.specs.declared.Asked.the-variants.{Known, Unknown}
+use Rattle.text_answers.specs.Formats.{Numbers, InFormat, known, unknown}
 
 -- The verdict of an unknown format has no users.
 pub unknown-plain : (r : Answer) → answerOf r ≡ record { verdict = refusal 23 0; sizes = noTextSizes } → Plain (r .verdict)

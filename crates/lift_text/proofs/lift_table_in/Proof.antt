@@ -6,7 +6,7 @@ use lib.ListN.{length-replicate}
 use lib.Seq.{length-take-le}
 use borrow.Author.Needs.{needs}
 use Rattle.lift_text.proofs.Form.{Lifts, Short, lifts, is-short}
-use Rattle.lift_text.proofs.Calls.{short-memory, short-text, done-text}
+use Rattle.lift_text.proofs.Calls.{short-memory, text-call}
 use Rattle.lift_text.proofs.lift_table_in.Statement.{statement}
 use Rattle.lift_text.proofs.lift_table_in.Tie as tie
 
@@ -92,42 +92,21 @@ slice-aggregate-write-3 c = sym (length-take-le _ _ (form (c .before .before .be
 write-requires : tie.Need-write-requires
 write-requires c κs = search needs
 
-refusal-requires-2 : tie.Need-refusal-requires-2
-refusal-requires-2 c κs = search needs
-
-refused-requires-2 : tie.Need-refused-requires-2
-refused-requires-2 c κs = search needs
+of-writing-requires : tie.Need-of-writing-requires
+of-writing-requires c κs = search needs
 
 same-length-2 : tie.Need-same-length-2
-same-length-2 c = lift-of (sized (c .before .before .before .before .before .before) .before .before .before .before .before) .lift .kept .1 .1 .0
+same-length-2 c = lift-of (sized (c .before .before .before) .before .before .before .before .before) .lift .kept .1 .1 .0
 
 same-length-3 : tie.Need-same-length-3
 same-length-3 c = search needs
 
 returns-2 : tie.Need-returns-2
 returns-2 c =
-    let w = c .before .before .before .before .before .before in
+    let w = c .before .before .before in
     let l = lift-of (sized w .before .before .before .before .before) in
     let s = entry l in
-    short-text (s .args .words .now) (s .args .list .now) (s .pre) (s .args .format) (s .args .nodes .now) _ (s .args .out .now) _ _ _ _ (form (sized w)) _ (w .write .ensures)
-    (c .before .before .if2 .taken) _ _ (c .before .refusal2 .ensures) (c .refused2 .ensures)
-
-accepted-requires : tie.Need-accepted-requires
-accepted-requires c κs = search needs
-
-same-length-4 : tie.Need-same-length-4
-same-length-4 c = lift-of (sized (c .before .before .before .before .before) .before .before .before .before .before) .lift .kept .1 .1 .0
-
-same-length-5 : tie.Need-same-length-5
-same-length-5 c = search needs
-
-returns-3 : tie.Need-returns-3
-returns-3 c =
-    let w = c .before .before .before .before .before in
-    let l = lift-of (sized w .before .before .before .before .before) in
-    let s = entry l in
-    done-text (s .args .words .now) (s .args .list .now) (s .pre) (s .args .format) (s .args .nodes .now) _ (s .args .out .now) _ _ _ _ (form (sized w)) _ (w .write .ensures)
-    (c .before .if2 .left) _ (c .accepted .ensures)
+    text-call (s .args .words .now) (s .args .list .now) (s .pre) (s .args .format) (s .args .nodes .now) _ (s .args .out .now) _ _ _ _ (form (sized w)) _ (w .write .ensures) _ (c .of-writing .ensures)
 
 pub lift-table-in-spec : {M : Type 1} → statement M
 lift-table-in-spec =
@@ -152,12 +131,7 @@ lift-table-in-spec =
     array-share-prefix-variables
     slice-aggregate-write-3
     write-requires
-    refusal-requires-2
-    refused-requires-2
+    of-writing-requires
     same-length-2
     same-length-3
-    returns-2
-    accepted-requires
-    same-length-4
-    same-length-5
-    returns-3)
+    returns-2)

@@ -6,7 +6,8 @@ use lib.ListN.{length-replicate}
 use lib.Seq.{length-take-le}
 use borrow.Author.Needs.{needs}
 use Rattle.qcir.specs.Reading.{TableWritten}
-use Rattle.lift_text.specs.Lifting.{noTextSizes, writtenAs}
+use Rattle.text_answers.specs.Answers.{noTextSizes}
+use Rattle.lift_text.specs.Lifting.{writtenAs}
 use Rattle.lift_text.proofs.Texts.{ReadDone, read-refused, read-done}
 use Rattle.lift_text.proofs.Calls.{refused-lift, done-lift}
 use Rattle.lift_text.proofs.lift_text.Statement.{statement}

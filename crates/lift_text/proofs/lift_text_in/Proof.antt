@@ -6,7 +6,7 @@ use lib.ListN.{length-replicate}
 use lib.Seq.{length-take-le}
 use borrow.Author.Needs.{needs}
 use Rattle.qcir.specs.Reading.{TableWritten}
-use Rattle.lift_text.specs.Lifting.{noTextSizes}
+use Rattle.text_answers.specs.Answers.{noTextSizes}
 use Rattle.lift_text.specs.Memory.{lent, writtenIn}
 use Rattle.lift_text.proofs.Texts.{ReadDone, read-refused, read-done}
 use Rattle.lift_text.proofs.Calls.{refused-call, done-call}

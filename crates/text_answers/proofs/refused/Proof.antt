@@ -1,12 +1,12 @@
--- `lift_text::refused` meets its contract.
+-- `text_answers::refused` meets its contract.
 -- Assumes nothing.
 use mathlib.Core.Path.{ap}
 use borrow.Author.Needs.{needs}
 use Rattle.refusals.specs.Outcome.{AnswerWith, refused}
 use Rattle.prenex_form.specs.declared.Sizes.{Sizes}
-use Rattle.lift_text.specs.Lifting.{noTextSizes}
-use Rattle.lift_text.proofs.refused.Statement.{statement}
-use Rattle.lift_text.proofs.refused.Tie as tie
+use Rattle.text_answers.specs.Answers.{noTextSizes}
+use Rattle.text_answers.proofs.refused.Statement.{statement}
+use Rattle.text_answers.proofs.refused.Tie as tie
 
 refused-requires : tie.Need-refused-requires
 refused-requires c κs = search needs

@@ -1,9 +1,9 @@
--- `wakubinryo_texts::format_of` meets its contract.
+-- `text_answers::format_of` meets its contract.
 -- Assumes nothing.
-use Rattle.wakubinryo_texts.specs.Formats.{Numbers, numberOf}
-use Rattle.wakubinryo_texts.proofs.Answers.{no-format}
-use Rattle.wakubinryo_texts.proofs.format_of.Statement.{statement}
-use Rattle.wakubinryo_texts.proofs.format_of.Tie as tie
+use Rattle.text_answers.specs.Formats.{Numbers, numberOf}
+use Rattle.text_answers.proofs.Formats.{no-format}
+use Rattle.text_answers.proofs.format_of.Statement.{statement}
+use Rattle.text_answers.proofs.format_of.Tie as tie
 
 returns : tie.Need-returns
 unfolding Numbers numberOf

@@ -4,8 +4,8 @@ use mathlib.Core.Path.{_≡_}
 use Prim.Native.Nat.{ℕ}
 use Rattle.form_writer.specs.declared.Format.{Format}
 use Rattle.form_writer.specs.declared.Format.the-variants.{Qcir, Qdimacs}
-use Rattle.wakubinryo_texts.specs.declared.Asked.{Asked}
-use Rattle.wakubinryo_texts.specs.declared.Asked.the-variants.{Known, Unknown}
+use Rattle.text_answers.specs.declared.Asked.{Asked}
+use Rattle.text_answers.specs.declared.Asked.the-variants.{Known, Unknown}
 
 unfoldable pub numberOf : Format → ℕ
 numberOf Qcir = 1

@@ -6,7 +6,7 @@ use lib.ListN.{getD}
 use Rattle.refusals.specs.Verdict.{refusal}
 use Rattle.refusals.specs.Outcome.{AnswerWith, Outcome}
 use Rattle.prenex_form.specs.declared.Sizes.{Sizes}
-use Rattle.lift_text.specs.Lifting.{TextSizes}
+use Rattle.text_answers.specs.Answers.{TextSizes}
 
 -- The seven sizes of measuring from a word on, in document 01's order.
 unfoldable pub sizesFrom : ℕ → List ℕ → Sizes

@@ -1,12 +1,12 @@
--- `wakubinryo_texts::put_measure` meets its contract.
+-- `text_answers::put_measure` meets its contract.
 -- Assumes nothing.
 use mathlib.Core.Path.{sym, ap}
 use Rattle.refusals.specs.declared.Verdict.{Verdict}
 use Rattle.refusals.specs.Outcome.{AnswerWith}
 use Rattle.prenex_form.specs.declared.Sizes.{Sizes}
-use Rattle.wakubinryo_texts.specs.Words.{sizesFrom, measureAnswer}
-use Rattle.wakubinryo_texts.proofs.put_measure.Statement.{statement}
-use Rattle.wakubinryo_texts.proofs.put_measure.Tie as tie
+use Rattle.text_answers.specs.Words.{sizesFrom, measureAnswer}
+use Rattle.text_answers.proofs.put_measure.Statement.{statement}
+use Rattle.text_answers.proofs.put_measure.Tie as tie
 
 -- an answer with these sizes
 abbrev with : Sizes → Verdict → AnswerWith Sizes

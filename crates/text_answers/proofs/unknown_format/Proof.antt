@@ -1,12 +1,12 @@
--- `wakubinryo_texts::unknown_format` meets its contract.
+-- `text_answers::unknown_format` meets its contract.
 -- Assumes nothing.
 use mathlib.Core.Path.{_∙_, ap}
 use borrow.Author.Needs.{needs}
 use Rattle.refusals.specs.declared.Verdict.{Verdict}
 use Rattle.refusals.specs.Outcome.{refused}
-use Rattle.lift_text.specs.Lifting.{noTextSizes}
-use Rattle.wakubinryo_texts.proofs.unknown_format.Statement.{statement}
-use Rattle.wakubinryo_texts.proofs.unknown_format.Tie as tie
+use Rattle.text_answers.specs.Answers.{noTextSizes}
+use Rattle.text_answers.proofs.unknown_format.Statement.{statement}
+use Rattle.text_answers.proofs.unknown_format.Tie as tie
 
 refusal-requires : tie.Need-refusal-requires
 refusal-requires c κs = search needs

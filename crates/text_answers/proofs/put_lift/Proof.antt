@@ -1,13 +1,13 @@
--- `wakubinryo_texts::put_lift` meets its contract.
+-- `text_answers::put_lift` meets its contract.
 -- Assumes nothing.
 use mathlib.Core.Path.{sym, ap}
 use borrow.Author.Needs.{needs}
 use Rattle.refusals.specs.declared.Verdict.{Verdict}
 use Rattle.refusals.specs.Outcome.{AnswerWith}
-use Rattle.lift_text.specs.Lifting.{TextSizes}
-use Rattle.wakubinryo_texts.specs.Words.{sizesFrom, liftAnswer}
-use Rattle.wakubinryo_texts.proofs.put_lift.Statement.{statement}
-use Rattle.wakubinryo_texts.proofs.put_lift.Tie as tie
+use Rattle.text_answers.specs.Answers.{TextSizes}
+use Rattle.text_answers.specs.Words.{sizesFrom, liftAnswer}
+use Rattle.text_answers.proofs.put_lift.Statement.{statement}
+use Rattle.text_answers.proofs.put_lift.Tie as tie
 
 -- an answer with these sizes
 abbrev with : TextSizes → Verdict → AnswerWith TextSizes
