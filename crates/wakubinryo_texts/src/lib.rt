@@ -37,8 +37,8 @@ pub extern "C" fn wakubinryo_lift_text(
 
 // The same with lent memory for the form's nodes; 24 if that is too short.
 //
-// The contract rules out a call that refuses an unknown format by 1, and one that answers the form's
-// nodes for the bytes written.
+// The contract rules out a call that refuses an unknown format by 1, and one that answers no bytes where
+// it wrote some.
 #[no_mangle]
 pub extern "C" fn wakubinryo_lift_text_in(
     text: &[u8],
