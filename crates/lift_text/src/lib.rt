@@ -110,8 +110,8 @@ fn lift_table_in(
 
 // Reads a QCIR text and measures its table; or refuses the text as reading does.
 //
-// The contract rules out a measure of a part of the table, and one that refuses a misspelled text by
-// another number than reading does.
+// The contract rules out a measure with list entries beyond those of the table, and one that refuses a
+// misspelled text by another number than reading does.
 pub fn measure_text(text: &[u8]) -> Measure
     ensures { λ r. ⌜ MeasuresText (now (text .entry)) (sizesOf r) ⌝ }
 {
