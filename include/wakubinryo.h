@@ -177,18 +177,18 @@
  * All lengths count elements: 32-bit words, or bytes of a text. A call reads
  * what is lent to it as const, writes the answer and the buffers lent to it,
  * and touches nothing else: it allocates nothing and keeps nothing. On refusal
- * no buffer has changed, whatever the buffers held. If done, a buffer's words
- * after the last one written keep their content. Pointers are aligned and not
- * null, even where the length is 0, and what is written must not overlap
- * anything else lent.
+ * no buffer has changed, whatever the buffers held, but for the memory that
+ * wakubinryo_lift_text_in works in. If done, a buffer's words after the last one
+ * written keep their content. Pointers are aligned and not null, even where the
+ * length is 0, and what is written must not overlap anything else lent.
  *
  * The stack of a thread that calls must have room for this; it is measured, not
  * proved:
  *
- *   wakubinryo_lift_text                                @LIFT@ KiB
- *   wakubinryo_lift_text_in, wakubinryo_measure_text,   @IN@ KiB
- *     reading and writing texts
- *   calls about tables                                  256 KiB
+ *   wakubinryo_lift_text                                1,344 KiB
+ *   wakubinryo_lift_text_in, wakubinryo_measure_text,     704 KiB
+ *   reading and writing texts
+ *   calls about tables                                    256 KiB
  */
 #ifndef WAKUBINRYO_H
 #define WAKUBINRYO_H

@@ -47,10 +47,12 @@ pub enum Reason {
     EmptyBlock = 16,
     /// The number given for the format to write is no format's.
     UnknownFormat = 23,
+    /// Memory lent to work in is shorter than the form's nodes.
+    MemoryTooShort = 24,
 }
 
 impl Reason {
-    pub const ALL: [Reason; 17] = [
+    pub const ALL: [Reason; 18] = [
         Reason::PartialNode,
         Reason::TooLarge,
         Reason::MalformedNode,
@@ -68,6 +70,7 @@ impl Reason {
         Reason::MalformedPrefix,
         Reason::EmptyBlock,
         Reason::UnknownFormat,
+        Reason::MemoryTooShort,
     ];
 
     /// Why a table is refused, in the order of the tests.
@@ -122,6 +125,7 @@ impl Display for Reason {
             Reason::MalformedPrefix => "malformed prefix",
             Reason::EmptyBlock => "empty block",
             Reason::UnknownFormat => "unknown format",
+            Reason::MemoryTooShort => "lent memory too short",
         })
     }
 }

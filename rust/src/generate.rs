@@ -675,7 +675,8 @@ fn damage(rng: &mut Rng, mut table: Table, reason: Reason) -> Option<(Table, Ref
         | Reason::GateNotUsedOnce
         | Reason::MalformedMatrix
         | Reason::MalformedPrefix
-        | Reason::UnknownFormat => return None,
+        | Reason::UnknownFormat
+        | Reason::MemoryTooShort => return None,
     };
     Some((table, reason.at(position).used_by(users)))
 }

@@ -116,6 +116,16 @@ mod ffi {
             out_len: usize,
             answer: *mut u64,
         );
+        pub fn wakubinryo_lift_text_in(
+            text: *const u8,
+            text_len: usize,
+            format: u32,
+            nodes: *mut u32,
+            nodes_len: usize,
+            out: *mut u8,
+            out_len: usize,
+            answer: *mut u64,
+        );
         pub fn wakubinryo_measure_text(text: *const u8, text_len: usize, answer: *mut u32);
     }
 }
@@ -273,6 +283,29 @@ pub mod raw {
         }
     }
 
+    /// The same with memory lent for the form's nodes.
+    pub fn lift_text_in(
+        text: &[u8],
+        format: u32,
+        nodes: &mut [u32],
+        out: &mut [u8],
+        answer: &mut LiftTextAnswer,
+    ) {
+        // SAFETY: as above.
+        unsafe {
+            ffi::wakubinryo_lift_text_in(
+                text.as_ptr(),
+                text.len(),
+                format,
+                nodes.as_mut_ptr(),
+                nodes.len(),
+                out.as_mut_ptr(),
+                out.len(),
+                answer.as_mut_ptr(),
+            )
+        }
+    }
+
     pub fn measure_text(text: &[u8], answer: &mut MeasureTextAnswer) {
         // SAFETY: as above.
         unsafe { ffi::wakubinryo_measure_text(text.as_ptr(), text.len(), answer.as_mut_ptr()) }
@@ -280,7 +313,7 @@ pub mod raw {
 }
 
 fn refusal(number: u32, position: u64, users: [u32; 2]) -> Refusal {
-    let reason = Reason::from_number(number).expect("the library answers 0 to 16 or 23");
+    let reason = Reason::from_number(number).expect("the library answers 0 to 16, 23 or 24");
     let users = (users != [0, 0]).then_some(users);
     Refusal {
         reason,
@@ -500,7 +533,7 @@ impl Format {
     /// Bytes enough for what lifting any text writes in this format.
     pub const fn room(self) -> usize {
         // No table's form has more nodes, prefix blocks or variables.
-        let (nodes, blocks, entries) = (40_960, 4_097, 12_288);
+        let (nodes, blocks, entries) = (MOST_NODES, 4_097, 12_288);
         match self {
             Format::Qcir => qcir_room(nodes, blocks, entries),
             Format::Qdimacs => qdimacs_room(nodes, blocks, entries),
@@ -524,20 +557,36 @@ pub struct LiftedText {
 /// A file is refused as [`read_qcir`] refuses it, and any other by 9 exactly if
 /// the buffer is shorter than the text; [`Format::room`] is always enough. On
 /// refusal the buffer is as it was; if done, so is what stands after the text.
+///
+/// It takes 1.3 MiB of stack; [`lift_text`] takes less.
 pub fn lift_text_into(text: &[u8], format: Format, out: &mut [u8]) -> Result<WrittenText, Refusal> {
     let mut answer = LiftTextAnswer::default();
     raw::lift_text(text, format.number(), out, &mut answer);
+    written_text(answer)
+}
+
+/// A lift of a text that has been answered.
+fn written_text(answer: LiftTextAnswer) -> Result<WrittenText, Refusal> {
     let [number, position, bytes, sizes @ ..] = answer;
     let bytes = written([number, position, bytes])?;
     let sizes = Sizes::from_words(sizes.map(|size| size as u32));
     Ok(WrittenText { bytes, sizes })
 }
 
-/// Allocates room and does what [`lift_text_into`] does. It is never refused
-/// by 9.
+/// The most nodes of a table's form.
+const MOST_NODES: usize = 40_960;
+
+/// Words enough for the nodes of any table's form.
+pub const NODES_ROOM: usize = WIDTH * MOST_NODES;
+
+/// Allocates room, also for the form's nodes, and does what [`lift_text_into`]
+/// does. It is never refused by 9.
 pub fn lift_text(text: &[u8], format: Format) -> Result<LiftedText, Refusal> {
+    let mut nodes = vec![0; NODES_ROOM];
     let mut out = vec![0; format.room()];
-    let WrittenText { bytes, sizes } = lift_text_into(text, format, &mut out)?;
+    let mut answer = LiftTextAnswer::default();
+    raw::lift_text_in(text, format.number(), &mut nodes, &mut out, &mut answer);
+    let WrittenText { bytes, sizes } = written_text(answer)?;
     out.truncate(bytes);
     out.shrink_to_fit();
     Ok(LiftedText { text: out, sizes })

@@ -7,7 +7,9 @@ mod programs;
 
 use common::files;
 use common::forms::prefill;
-use common::texts::{assert_library, assert_other_ways, assert_refused, assert_same_lifting};
+use common::texts::{
+    assert_lent, assert_library, assert_other_ways, assert_refused, assert_same_lifting,
+};
 use common::texts::{lift_text_by_steps, reference_lift_text, Lifted};
 use common::vectors::each_read_vector;
 use common::{each, Prefill, TOO_SHORT};
@@ -27,6 +29,7 @@ const TEXT: &[u8] = b"#QCIR-G14\nfree(1)\noutput(4)\n3=exists(2;2)\n4=xor(1,-3)\
 fn assert_all(text: &[u8], prefill: Prefill, spare: usize) -> Result<Lifted, Refusal> {
     let lifted = assert_same_lifting(text, prefill, spare);
     assert_other_ways(text, prefill, &lifted);
+    assert_lent(text, prefill, spare, &lifted);
     lifted
 }
 

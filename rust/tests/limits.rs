@@ -5,7 +5,7 @@ mod common;
 
 use common::forms::FORMATS;
 use common::texts::{assert_library, assert_same_lifting, library_measure_text};
-use common::texts::{reference_lift_text, sizes_of, LIBRARY_LIFT_TEXT};
+use common::texts::{library_lift_text_in, reference_lift_text, sizes_of, LIBRARY_LIFT_TEXT};
 use common::{assert_free_variables, assert_same, each, library_measure, some_nodes, Case};
 use common::{reference_form, reference_free_variables, reference_left, Prefill, TOO_SHORT};
 use common::{LIBRARY_FREE_VARIABLES, LIBRARY_LIFT, LIBRARY_REMOVE};
@@ -18,7 +18,7 @@ use wakubinryo::generate::{every_fourth_empty, parity_chain, Profile, Rng, Table
 use wakubinryo::generate_forms::FAMILIES;
 use wakubinryo::generate_qcir::{self, largest_lift, with_length};
 use wakubinryo::qcir::LONGEST;
-use wakubinryo::{Format, PrenexForm, Sizes, WIDTH};
+use wakubinryo::{read_qcir, Format, PrenexForm, Sizes, NODES_ROOM, WIDTH};
 
 #[test]
 fn the_largest_form() {
@@ -107,12 +107,12 @@ fn the_largest_texts() {
     }
 }
 
-/// The stack that include/wakubinryo.h says is enough for a call, and, with what
-/// its thread needs besides, for a call that writes a text and for one from text
-/// to text.
+/// The stack that include/wakubinryo.h says a thread must have for a call about
+/// tables, for one that reads or writes a text or lifts one in lent memory, and
+/// for one that lifts a text in memory of its own.
 const STACK: usize = 256 * 1024;
-const STACK_OF_WRITING: usize = 1024 * 1024 + 64 * 1024;
-const STACK_OF_LIFTING_A_TEXT: usize = 1_536 * 1024;
+const STACK_OF_TEXTS: usize = 704 * 1024;
+const STACK_OF_LIFTING_A_TEXT: usize = 1_344 * 1024;
 
 /// Makes calls in a thread with no more stack than this.
 fn with_stack<T: Send + 'static>(stack: usize, calls: impl FnOnce() -> T + Send + 'static) -> T {
@@ -170,7 +170,7 @@ fn stack_of_writing() {
             let form = family(MOST_NODES);
             let expected = (format.reference_text)(&form).expect("written");
             let mut text = vec![0; expected.len()];
-            let given = with_stack(STACK_OF_WRITING, move || {
+            let given = with_stack(STACK_OF_TEXTS, move || {
                 let answer = (format.library)(&form, &mut text);
                 (answer, text)
             });
@@ -190,14 +190,25 @@ fn stack_of_lifting_a_text() {
             let expected = lifted.as_ref().map_or(vec![], |l| l.text(format).to_vec());
             let bytes = expected.len();
             let answer = lift_text_words(sizes.map(|sizes| WrittenText { bytes, sizes }));
-            let (text, mut out) = (text.clone(), vec![0; bytes]);
+            let buffers = || (text.clone(), vec![0; bytes]);
+            let (own, mut out) = buffers();
             let given = with_stack(STACK_OF_LIFTING_A_TEXT, move || {
-                let answer = LIBRARY_LIFT_TEXT(&text, format.number(), &mut out);
+                let answer = LIBRARY_LIFT_TEXT(&own, format.number(), &mut out);
                 (answer, out)
             });
-            assert!(given == (answer, expected), "{format:?}");
+            assert!(given == (answer, expected.clone()), "{format:?}");
+            let (lent, mut out) = buffers();
+            let given = with_stack(STACK_OF_TEXTS, move || {
+                let mut nodes = vec![0; NODES_ROOM];
+                let answer = library_lift_text_in(&lent, format.number(), &mut nodes, &mut out);
+                (answer, out)
+            });
+            assert!(given == (answer, expected), "{format:?} in lent memory");
         }
-        let measured = with_stack(STACK_OF_LIFTING_A_TEXT, move || library_measure_text(&text));
+        let read = text.clone();
+        let table = with_stack(STACK_OF_TEXTS, move || read_qcir(&read).map(|_| ()));
+        assert_eq!(table, sizes.map(|_| ()));
+        let measured = with_stack(STACK_OF_TEXTS, move || library_measure_text(&text));
         assert_eq!(measured, measure_text_words(sizes));
     }
 }

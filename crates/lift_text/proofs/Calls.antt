@@ -39,7 +39,7 @@ use Rattle.lift_text.specs.Measuring.{measuredTable, Measuring, Measures
 use Rattle.lift_text.proofs.Form.{nodes-most, Short, Lifts}
 use Rattle.lift_text.proofs.Promise.{lifted-as, is-short, is-done, lifts-text}
 use Rattle.lift_text.proofs.Texts.{read-refused, read-done}
-use Rattle.lift_text.proofs.Memory.{no-memory, has-memory, lifts-in}
+use Rattle.lift_text.proofs.Memory.{no-memory, has-memory, never-memory, lifts-in}
 use Rattle.lift_text.proofs.Measuring.{measures-text}
 
 module _ (ws ls : List ℕ) (ok : verdict ws ls ≡ accepted) (format : Format) (nodes nodes′ out : List ℕ) where
@@ -100,11 +100,32 @@ module _ (ws ls : List ℕ) (ok : verdict ws ls ≡ accepted) (format : Format) 
             })
             ∙ sym (has-memory format before ws ls (l .room) ∙ ap (beside _) (is-done format out ws ls h))
 
--- With memory for every form's nodes, of the text comes what comes without lent memory.
-pub text-alone : (ws ls : List ℕ) → verdict ws ls ≡ accepted → (format : Format) (nodes out : List ℕ) → length nodes ≡ 163840
-    → (o : Outcome TextSizes Lent) → o ≡ writtenIn format (lent nodes out) ws ls → textOf o ≡ writtenAs format out ws ls
-text-alone ws ls ok format nodes out many o e =
-    ap textOf (e ∙ has-memory format (lent nodes out) ws ls (omega (arith, nodes-most ws ls ok, many)))
+-- What is left of the text where lent memory is there for the form's nodes, and where it is not.
+module _ (ws ls : List ℕ) (ok : verdict ws ls ≡ accepted) (format : Format) (nodes out : List ℕ) (o : Outcome TextSizes Lent) (e : o ≡ writtenIn format (lent nodes out) ws ls) where
+  with-room : length (writtenNodes (tableOf ws ls)) ≤ length nodes → textOf o ≡ writtenAs format out ws ls
+  with-room h = ap textOf (e ∙ has-memory format (lent nodes out) ws ls h)
+
+  -- Memory for every form's nodes is there.
+  pub text-alone : length nodes ≡ 163840 → textOf o ≡ writtenAs format out ws ls
+  text-alone many = with-room (omega (arith, nodes-most ws ls ok, many))
+
+  -- Less of it is there, or the call is refused by 24.
+  pub text-unless : (o .answer .verdict .number ≡ 24 → ⊥) → textOf o ≡ writtenAs format out ws ls
+  unfolding refusedText refused refusal
+  text-unless n = go (look (ltb (length nodes) (length (writtenNodes (tableOf ws ls)))))
+    where
+      go : Is (ltb (length nodes) (length (writtenNodes (tableOf ws ls)))) → textOf o ≡ writtenAs format out ws ls
+      go (is-true t) = absurd (n (ap (λ (q : Outcome TextSizes Lent). q .answer .verdict .number) (e ∙ no-memory format (lent nodes out) ws ls (ltb-true _ _ t))))
+      go (is-false t) = with-room (ltb-false _ _ t)
+
+  pub text-kept : o .answer .verdict .number ≡ 24 → o .buffers .out ≡ out
+  unfolding refusedText
+  text-kept z = go (look (ltb (length nodes) (length (writtenNodes (tableOf ws ls)))))
+    where
+      go : Is (ltb (length nodes) (length (writtenNodes (tableOf ws ls)))) → o .buffers .out ≡ out
+      go (is-true t) = ap (λ (q : Outcome TextSizes Lent). q .buffers .out) (e ∙ no-memory format (lent nodes out) ws ls (ltb-true _ _ t))
+      go (is-false t) =
+          absurd (never-memory format (lent nodes out) ws ls (sym (ap (λ (q : Outcome TextSizes Lent). q .answer .verdict .number) (e ∙ has-memory format (lent nodes out) ws ls (ltb-false _ _ t))) ∙ z))
 
 -- What `lift_text`, `lift_text_in` and `measure_text` owe, where reading refused and where it is done.
 module _ (format : Format) (text before words list : List ℕ) (wide : length words ≡ 16384) (long : length list ≡ 4096) where

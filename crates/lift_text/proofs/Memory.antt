@@ -37,7 +37,7 @@ module _ (format : Format) (before : Lent) (ws ls : List ℕ) where
   has-memory h = rw (le-ltb _ _ h) (call-next noTextSizes before _ accepted refl)
 
   -- What is written without lent memory is never refused by 24.
-  never-memory : writtenAs format (before .out) ws ls .answer .verdict .number ≡ 24 → ⊥
+  pub never-memory : writtenAs format (before .out) ws ls .answer .verdict .number ≡ 24 → ⊥
   unfolding refusedText refused refusal done accepted
   never-memory = go _ (way format (before .out) ws ls)
     where

@@ -22,6 +22,11 @@ const BLOCKS: usize = LIMIT + 1;
 
 const ENTRIES: usize = 3 * LIMIT;
 
+// A small table, and the nodes of its form if it binds no more variables than it has nodes.
+const SMALL_TABLE: usize = 1024;
+
+const SMALL_FORM: usize = 10 * SMALL_TABLE;
+
 // Room for the text of every prenex form: as QDIMACS, which takes more than QCIR.
 pub const TEXT: usize = 64 * (NODES + 1) + 4 * BLOCKS + 6 * ENTRIES;
 
@@ -68,9 +73,38 @@ pub fn lift_text_in(text: &[u8], format: Format, nodes: &mut [u32], out: &mut [u
     lift_table_in(&words[..n], &list[..m], format, nodes, out)
 }
 
-// Both of a table that was read. Two functions call the second, so that the compiler keeps it out of
-// line: its arrays and those of reading then take the same stack.
+// Lifts a table that was read and writes its form, in memory of its own: in less of it where the table
+// is small, since clearing it is much of what a small text costs.
 fn lift_table(words: &[u32], list: &[u32], format: Format, out: &mut [u8]) -> Answer
+    requires { ⌜ verdict (now words) (now list) ≡ accepted ⌝ }
+    ensures { λ r.
+        ⌜ after r (now (out .exit))
+        ≡ writtenAs format (now (out .entry)) (now (words .entry)) (now (list .entry)) ⌝ }
+{
+    if WIDTH * SMALL_TABLE < words.len() {
+        return lift_large(words, list, format, out);
+    }
+    let answer = lift_small(words, list, format, out);
+    let verdict = answer.verdict;
+    if verdict.number != MEMORY_TOO_SHORT {
+        return answer;
+    }
+    lift_large(words, list, format, out)
+}
+
+// In memory for a small form's nodes; 24 if it is none.
+fn lift_small(words: &[u32], list: &[u32], format: Format, out: &mut [u8]) -> Answer
+    requires { ⌜ verdict (now words) (now list) ≡ accepted ⌝ }
+    ensures done { λ r. ⌜ ((r .verdict .number ≡ 24 → ⊥) → after r (now (out .exit))
+        ≡ writtenAs format (now (out .entry)) (now (words .entry)) (now (list .entry))) ⌝ }
+    ensures short { λ r. ⌜ (r .verdict .number ≡ 24 → now (out .exit) ≡ now (out .entry)) ⌝ }
+{
+    let mut nodes = [0u32; WIDTH * SMALL_FORM];
+    lift_table_in(words, list, format, &mut nodes, out)
+}
+
+// In memory for every form's nodes.
+fn lift_large(words: &[u32], list: &[u32], format: Format, out: &mut [u8]) -> Answer
     requires { ⌜ verdict (now words) (now list) ≡ accepted ⌝ }
     ensures { λ r.
         ⌜ after r (now (out .exit))
@@ -80,6 +114,8 @@ fn lift_table(words: &[u32], list: &[u32], format: Format, out: &mut [u8]) -> An
     lift_table_in(words, list, format, &mut nodes, out)
 }
 
+// In lent memory for the form's nodes. Several functions call this, so that the compiler keeps it out of
+// line: its arrays and those of reading then take the same stack.
 fn lift_table_in(
     words: &[u32],
     list: &[u32],
@@ -95,7 +131,7 @@ fn lift_table_in(
 {
     let mut prefix = [0u32; PREFIX_WIDTH * BLOCKS];
     let mut variables = [0u32; ENTRIES];
-    let lifted = prenex::lift(words, list, nodes, &mut prefix, &mut variables);
+    let lifted = prenex::lift_accepted(words, list, nodes, &mut prefix, &mut variables);
     let verdict = lifted.verdict;
     if verdict.number != ACCEPTED {
         return text_answers::refused(refusals::refusal(MEMORY_TOO_SHORT, 0));

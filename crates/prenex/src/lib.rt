@@ -153,8 +153,9 @@ pub fn lift(
     lift_accepted(words, list, nodes, prefix, variables)
 }
 
-// Nothing is written before all three buffers are known to be long enough.
-fn lift_accepted(
+// The same of a table that is known to be accepted. Nothing is written before all three buffers are
+// known to be long enough.
+pub fn lift_accepted(
     words: &[u32],
     list: &[u32],
     nodes: &mut [u32],

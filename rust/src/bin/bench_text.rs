@@ -4,9 +4,11 @@
 //!
 //!     cargo run --release --bin bench_text [qcir | qdimacs]
 //!
-//! Every side writes into buffers of its own, which stand ready before the time
-//! is taken, have exactly the lengths needed and are not cleared in between: the
-//! three calls and the reference a table, a form and a text, the one call a text.
+//! The text is written into a buffer that stands ready before the time is taken,
+//! has exactly the length needed and is not cleared in between. So are the table
+//! and the form of the reference and, for comparison, of a second run of the
+//! three calls. In the first they are made for each file, with room for any, as
+//! by a caller who knows nothing but the text: that is what the one call does.
 
 use std::hint::black_box;
 use std::time::{Duration, Instant};
@@ -14,8 +16,8 @@ use wakubinryo::comparators::row;
 use wakubinryo::generate_qcir::{prefix_lines, Family, FAMILIES};
 use wakubinryo::timing::{all_rounds, warn_if_not_release, writers_asked_for};
 use wakubinryo::timing::{Times, Writer, ROUNDS, RUNS, WARM_UP};
-use wakubinryo::{lift, lift_text_into, measure_text, qcir, read_qcir_into, reference};
-use wakubinryo::{PrenexForm, Refusal, Sizes, Table, WIDTH};
+use wakubinryo::{lift, lift_text_into, measure_text, qcir, read_qcir, read_qcir_into, reference};
+use wakubinryo::{PrenexForm, Refusal, Sizes, Table, NODES_ROOM, WIDTH};
 use wakubinryo::{Written, WrittenText};
 
 const BYTES: [usize; 3] = [16_384, 32_768, 65_536];
@@ -63,7 +65,7 @@ impl Room {
             form: PrenexForm::with_sizes(&sizes),
             text: Vec::new(),
         };
-        room.run(writer, 2, text);
+        room.run(writer, 3, text);
         room
     }
 
@@ -80,8 +82,9 @@ impl Room {
         assert!(read.is_ok() && lifted.is_ok());
     }
 
-    /// One run: the one call (side 0), the three calls (side 1) or the reference
-    /// (side 2).
+    /// One run: the one call (side 0), the three calls with a table and a form
+    /// made for the file (side 1) or standing ready (side 2), or the reference
+    /// (side 3).
     fn run(&mut self, writer: Writer, side: usize, text: &[u8]) -> Duration {
         let start = Instant::now();
         let text = black_box(text);
@@ -90,7 +93,8 @@ impl Room {
                 let lifted = lift_text_into(text, writer.format, &mut self.text);
                 lifted.map(|WrittenText { bytes, .. }| bytes)
             }
-            1 => {
+            1 => three_calls(writer, text, &mut self.text),
+            2 => {
                 self.read_and_lift(text, read_qcir_into, lift);
                 (writer.library)(&self.form, &mut self.text)
             }
@@ -107,12 +111,33 @@ impl Room {
     }
 }
 
+/// The three calls, as made by a caller who has room for any file.
+fn three_calls(writer: Writer, text: &[u8], out: &mut [u8]) -> Result<usize, Refusal> {
+    let table = read_qcir(text)?;
+    let mut form = PrenexForm {
+        nodes: vec![0; NODES_ROOM],
+        prefix: vec![0; 3 * 4_097],
+        variables: vec![0; 12_288],
+    };
+    let sizes = lift(
+        &table.words,
+        &table.list,
+        &mut form.nodes,
+        &mut form.prefix,
+        &mut form.variables,
+    )?;
+    form.nodes.truncate(WIDTH * sizes.nodes as usize);
+    form.prefix.truncate(3 * sizes.blocks as usize);
+    form.variables.truncate(sizes.entries as usize);
+    (writer.library)(&form, out)
+}
+
 /// A file, and for each side what it writes and times.
 struct Bench {
     writer: Writer,
     text: Vec<u8>,
-    rooms: [Room; 3],
-    times: Times<3>,
+    rooms: [Room; 4],
+    times: Times<4>,
 }
 
 impl Bench {
@@ -121,7 +146,7 @@ impl Bench {
         Bench {
             writer,
             text: text.to_vec(),
-            rooms: [room.clone(), room.clone(), room],
+            rooms: [room.clone(), room.clone(), room.clone(), room],
             times: Times::default(),
         }
     }
@@ -131,9 +156,9 @@ impl Bench {
         let (text, rooms) = (&self.text, &mut self.rooms);
         self.times
             .round(|side| rooms[side].run(self.writer, side, text));
-        let [one, three, reference] = &self.rooms;
+        let [one, made, ready, reference] = &self.rooms;
         assert!(
-            three == reference && one.text == reference.text,
+            ready == reference && one.text == reference.text && made.text == reference.text,
             "library and reference differ"
         );
     }
@@ -142,22 +167,18 @@ impl Bench {
 fn print_times(writer: Writer) {
     println!();
     println!("{} files:", writer.name);
-    println!(
-        "                          bytes     bytes  one call  three calls  reference     ratio to   ratio to"
-    );
-    println!(
-        "family                       in       out        us           us         us  three calls  reference"
-    );
+    println!("                          bytes     bytes       one     three   buffers            ratio to  ratio to");
+    println!("family                       in       out      call     calls     ready reference     three reference");
     for (name, texts) in files() {
         let mut benches = texts.map(|text| Bench::new(writer, &text));
         all_rounds(&mut benches, Bench::round);
         for bench in &mut benches {
-            let [one, three, reference] = bench.times.medians();
+            let [one, made, ready, reference] = bench.times.medians();
             println!(
-                "{name:<24} {:>6} {:>9} {one:>9.1} {three:>12.1} {reference:>10.1} {:>12.2} {:>10.2}",
+                "{name:<24} {:>6} {:>9} {one:>9.1} {made:>9.1} {ready:>9.1} {reference:>9.1} {:>9.2} {:>9.2}",
                 bench.text.len(),
                 bench.rooms[0].text.len(),
-                one / three,
+                one / made,
                 one / reference
             );
         }
@@ -167,10 +188,15 @@ fn print_times(writer: Writer) {
 fn main() {
     let asked = writers_asked_for();
     println!("One lift of a QCIR file to a prenex file: the library's one call from text to text");
-    println!("beside its three calls and beside the reference, an implementation in plain Rust.");
-    println!("Same input, same process, run in turn; all built for release; buffers stand ready,");
     println!(
-        "not cleared in between. Times are medians of {} runs, in {ROUNDS} rounds of {RUNS} after {WARM_UP}",
+        "beside its three calls, which make a table and a form for each file or find them ready,"
+    );
+    println!("and beside the reference, an implementation in plain Rust, which finds them ready.");
+    println!(
+        "Same input, same process, run in turn; all built for release; what stands ready is not"
+    );
+    println!(
+        "cleared in between. Times are in microseconds, medians of {} runs, in {ROUNDS} rounds of {RUNS} after {WARM_UP}",
         ROUNDS * RUNS
     );
     println!("to warm up.");

@@ -8,7 +8,9 @@ use wakubinryo::answer::{lift_text_words, measure_text_words};
 use wakubinryo::{lift_text, lift_text_into, measure_text, raw};
 use wakubinryo::{measure, prenex_form, read_qcir};
 use wakubinryo::{Format, LiftTextAnswer, LiftedText, MeasureTextAnswer};
-use wakubinryo::{Refusal, Sizes, Table, WrittenText};
+use wakubinryo::{Reason, Refusal, Sizes, Table, WrittenText};
+
+const MEMORY_TOO_SHORT: Refusal = Reason::MemoryTooShort.at(0);
 
 /// What a text is lifted to: a text in each of the two formats.
 #[derive(Debug, PartialEq, Eq)]
@@ -62,6 +64,75 @@ const WRAPPED_LIFT_TEXT: LiftText = |text, number, out| {
     let format = formats.find(|format| format.number() == number);
     lift_text_words(lift_text_into(text, format.expect("a format"), out))
 };
+
+/// A lift in memory lent for the form's nodes.
+pub fn library_lift_text_in(
+    text: &[u8],
+    format: u32,
+    nodes: &mut [u32],
+    out: &mut [u8],
+) -> LiftTextAnswer {
+    let mut answer = LiftTextAnswer::default().map(|_| UNANSWERED_LONG);
+    raw::lift_text_in(text, format, nodes, out, &mut answer);
+    answer
+}
+
+/// Lifts in memory for so many words of nodes into a buffer of this length and
+/// holds the answer, the memory and the buffer to what the reference lifts: its
+/// form's nodes stand in the memory unless that is too short, or the text is
+/// refused.
+fn assert_lent_memory(
+    text: &[u8],
+    format: u32,
+    memory: usize,
+    len: usize,
+    prefill: Prefill,
+    expected: Result<(Sizes, &[u32], &[u8]), Refusal>,
+) {
+    let mut nodes = Lent::new(memory, prefill, 1);
+    let mut out = Lent::new(len, prefill, 0);
+    let given = library_lift_text_in(text, format, nodes.lend(), out.lend());
+    let (answer, in_memory, in_out) = match expected {
+        Err(refusal) => (Err(refusal), &[][..], &[][..]),
+        Ok((_, form, _)) if form.len() > memory => (Err(MEMORY_TOO_SHORT), &[][..], &[][..]),
+        Ok((_, form, lifted)) if lifted.len() > len => (Err(TOO_SHORT), form, &[][..]),
+        Ok((sizes, form, lifted)) => {
+            let bytes = lifted.len();
+            (Ok(WrittenText { bytes, sizes }), form, lifted)
+        }
+    };
+    let answer = lift_text_words(answer);
+    assert_eq!(given, answer, "answer in {memory} words, {len} bytes");
+    nodes.assert_holds(in_memory, "nodes");
+    out.assert_holds(in_out, "out");
+}
+
+/// Holds the library's lift in lent memory to what the reference lifts, memory
+/// and buffer being exact, longer by `spare` or too short.
+pub fn assert_lent(text: &[u8], prefill: Prefill, spare: usize, lifted: &Result<Lifted, Refusal>) {
+    let (_, table) = reference_table(text);
+    let form = lifted
+        .as_ref()
+        .map_or(vec![], |_| reference_form(&table).1.nodes);
+    for format in Format::ALL {
+        let expected = match lifted {
+            Ok(l) => Ok((l.sizes, &form[..], l.text(format))),
+            Err(refusal) => Err(*refusal),
+        };
+        let bytes = lifted.as_ref().map_or(0, |l| l.text(format).len());
+        let around = |exact: usize| [exact, exact + spare, exact.saturating_sub(1)];
+        for memory in around(form.len()) {
+            for len in around(bytes) {
+                let number = format.number();
+                assert_lent_memory(text, number, memory, len, prefill, expected);
+            }
+        }
+    }
+    for memory in [0, form.len()] {
+        let refusal = Err(Reason::UnknownFormat.at(0));
+        assert_lent_memory(text, 3, memory, spare, prefill, refusal);
+    }
+}
 
 pub fn library_measure_text(text: &[u8]) -> MeasureTextAnswer {
     let mut answer = MeasureTextAnswer::default().map(|_| UNANSWERED);
