@@ -22,10 +22,11 @@ const BLOCKS: usize = LIMIT + 1;
 
 const ENTRIES: usize = 3 * LIMIT;
 
-// A small table, and the nodes of its form if it binds no more variables than it has nodes.
-const SMALL_TABLE: usize = 1024;
+// Few bound variables, and enough nodes for the form of a table that binds no more: n + 5 b + 4 q, with
+// at most as many blocks as bound variables.
+const FEW_BOUND: usize = 896;
 
-const SMALL_FORM: usize = 10 * SMALL_TABLE;
+const SMALL_FORM: usize = 3 * LIMIT;
 
 // Room for the text of every prenex form: as QDIMACS, which takes more than QCIR.
 pub const TEXT: usize = 64 * (NODES + 1) + 4 * BLOCKS + 6 * ENTRIES;
@@ -73,15 +74,15 @@ pub fn lift_text_in(text: &[u8], format: Format, nodes: &mut [u32], out: &mut [u
     lift_table_in(&words[..n], &list[..m], format, nodes, out)
 }
 
-// Lifts a table that was read and writes its form, in memory of its own: in less of it where the table
-// is small, since clearing it is much of what a small text costs.
+// Lifts a table that was read and writes its form, in memory of its own: in less of it where few
+// variables are bound, since clearing it is much of what a small text costs.
 fn lift_table(words: &[u32], list: &[u32], format: Format, out: &mut [u8]) -> Answer
     requires { ⌜ verdict (now words) (now list) ≡ accepted ⌝ }
     ensures { λ r.
         ⌜ after r (now (out .exit))
         ≡ writtenAs format (now (out .entry)) (now (words .entry)) (now (list .entry)) ⌝ }
 {
-    if WIDTH * SMALL_TABLE < words.len() {
+    if FEW_BOUND < list.len() {
         return lift_large(words, list, format, out);
     }
     let answer = lift_small(words, list, format, out);

@@ -8,9 +8,6 @@ use Rattle.lift_text.specs.Lifting.{writtenAs}
 use Rattle.lift_text.proofs.lift_table.Statement.{statement}
 use Rattle.lift_text.proofs.lift_table.Tie as tie
 
-mul-if1 : tie.Need-mul-if1
-mul-if1 c = search needs
-
 lift-large-requires : tie.Need-lift-large-requires
 lift-large-requires c κs = search needs
 
@@ -46,7 +43,6 @@ pub lift-table-spec : {M : Type 1} → statement M
 lift-table-spec =
     tie.close
     (tie.spec
-    mul-if1
     lift-large-requires
     same-length
     returns
