@@ -104,8 +104,34 @@ fn answers_to_generated_files_agree() {
     });
 }
 
-/// The usual stack is enough for the largest form, in KiB.
+/// The usual stack, in KiB.
 const STACK: usize = 8192;
+
+/// What a program says of a file, with so many KiB of stack.
+fn said_with_stack(path: &Path, stack: usize, name: &str) -> (String, String) {
+    let path = path.to_str().expect("UTF-8");
+    let command = format!("ulimit -s {stack}; exec \"$0\" \"$1\"");
+    said(run(Path::new("sh"), &["-c", &command, path, name], b""))
+}
+
+/// A lifting program with too little stack says so and lifts nothing.
+#[test]
+fn a_small_stack() {
+    let file = repository("examples/comparators.qcir");
+    let name = file.to_str().expect("UTF-8");
+    let [measure, lifts @ ..] = programs();
+    let expected = said(measure.tool_on(name));
+    assert_eq!(said_with_stack(&measure.path, 1024, name), expected);
+    for program in lifts {
+        let message = "lifting needs 4608 KiB of stack: ulimit -s 4608\n";
+        for stack in [64, 1024, 4096, 4607] {
+            let left = said_with_stack(&program.path, stack, name);
+            assert_eq!(left, (String::new(), message.to_string()));
+        }
+        let left = said_with_stack(&program.path, 4608, name);
+        assert_eq!(left, said(program.tool_on(name)));
+    }
+}
 
 #[test]
 fn the_largest_form() {
@@ -116,10 +142,10 @@ fn the_largest_form() {
     for program in programs() {
         let expected = program.tool_on(name);
         assert_eq!(expected.status, Some(0));
-        let path = program.path.to_str().expect("UTF-8");
-        let command = format!("ulimit -s {STACK}; exec \"$0\" \"$1\"");
-        let left = run(Path::new("sh"), &["-c", &command, path, name], b"");
-        assert!(said(left) == said(expected), "{path}");
+        for stack in [4608, STACK] {
+            let left = said_with_stack(&program.path, stack, name);
+            assert!(left == said(expected.clone()), "{}", program.path.display());
+        }
     }
 }
 
