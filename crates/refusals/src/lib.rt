@@ -47,8 +47,16 @@ pub const MALFORMED_MATRIX: u32 = 14;
 
 pub const MALFORMED_PREFIX: u32 = 15;
 
+// The refusals of growth reports (request S-13): more than 256 names or lines of figures, a name of more
+// than 255 bytes, and, in its line, a file that can't be read.
+pub const TOO_MANY_NAMES: u32 = 20;
+
+pub const NAME_TOO_LONG: u32 = 21;
+
+pub const UNREADABLE: u32 = 22;
+
 // The refusals of calls from a text to a text: a format without a meaning, and memory lent to work in
-// that is too short. Request S-13's are the numbers up to 22.
+// that is too short.
 pub const UNKNOWN_FORMAT: u32 = 23;
 
 pub const MEMORY_TOO_SHORT: u32 = 24;

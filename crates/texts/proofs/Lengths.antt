@@ -1,7 +1,8 @@
 -- How many digits a number has.
 -- Assumes nothing.
 use mathlib.Core.Path.{_≡_, _∙_, ap}
-use Prim.Native.Nat.{ℕ, suc, _*_, _/_, _≤_, _<_}
+use Prim.Native.Nat.{ℕ, zero, suc, _*_, _/_, _^_, _≤_, _<_}
+use native.Mathlib.Nat.{pow-succ'}
 use native.Mathlib.Omega.{arith}
 use lib.Dec.{ltb}
 use lib.ListN.{length}
@@ -41,17 +42,17 @@ next-bound k bound below x h = go (look (ltb x 10))
     go (is-true t) = omega (arith, length-below-ten x (ltb-true x 10 t))
     go (is-false t) = let l : 10 ≤ x = ltb-false x 10 t in omega (arith, length-step x l, below (x / 10) (omega arith))
 
-at-most-two : (x : ℕ) → x < 100 → length (digits x) ≤ 2
-at-most-two = next-bound 1 10 (λ x h. omega (arith, length-below-ten x h))
-
-at-most-three : (x : ℕ) → x < 1000 → length (digits x) ≤ 3
-at-most-three = next-bound 2 100 at-most-two
-
-at-most-four : (x : ℕ) → x < 10000 → length (digits x) ≤ 4
-at-most-four = next-bound 3 1000 at-most-three
+-- below the k-th power of ten, at most k digits
+pub at-most-digits : (k x : ℕ) → x < 10 ^ suc k → length (digits x) ≤ suc k
+at-most-digits zero x h = omega (arith, length-below-ten x (rw (pow-succ' 10 0) at h))
+at-most-digits (suc k) x h = next-bound (suc k) (10 ^ suc k) (at-most-digits k) x (rw (pow-succ' 10 (suc k)) at h)
 
 pub at-most-five : (x : ℕ) → x < 100000 → length (digits x) ≤ 5
-at-most-five = next-bound 4 10000 at-most-four
+at-most-five x h = at-most-digits 4 x h
 
 pub at-most-six : (x : ℕ) → x < numberBound → length (digits x) ≤ 6
-at-most-six = next-bound 5 100000 at-most-five
+at-most-six x h = at-most-digits 5 x h
+
+-- a number of 64 bits
+pub at-most-twenty : (x : ℕ) → x ≤ 18446744073709551615 → length (digits x) ≤ 20
+at-most-twenty x h = at-most-digits 19 x (omega arith)

@@ -56,8 +56,21 @@ pub fn digit_count(x: u32) -> usize
     1
 }
 
+// The same of a number of 64 bits.
+fn wide_digit_count(x: u64) -> usize
+    ensures { λ r. ⌜ (r ≡ length (digits x)) × (r ≤ 20) ⌝ }
+{
+    let mut count = 1;
+    let mut left = x;
+    while left >= 10 {
+        left /= 10;
+        count += 1;
+    }
+    count
+}
+
 // Stores a number's digits so that they end before index end, the last digit first.
-pub fn store_digits(text: &mut [u8], end: usize, x: u32)
+fn store_digits(text: &mut [u8], end: usize, x: u64)
     requires { ⌜ (length (digits x) ≤ end) × (end ≤ length (now text)) ⌝ }
     ensures { λ _. ⌜ now (text .exit) ≡ overwrite (now (text .entry)) (end - length (digits x)) (digits x) ⌝ }
 {
@@ -72,7 +85,7 @@ pub fn store_digits(text: &mut [u8], end: usize, x: u32)
 }
 
 // A digit in ASCII.
-fn digit(d: u32) -> u8
+fn digit(d: u64) -> u8
     requires { ⌜ d < 10 ⌝ }
     ensures { λ r. ⌜ r ≡ 48 + d ⌝ }
 {
@@ -86,6 +99,19 @@ pub fn put_number(text: &mut [u8], at: usize, x: u32) -> usize
     ensures { λ r. ⌜ r ≤ at + 6 ⌝ }
 {
     let next = at + digit_count(x);
+    if next <= text.len() {
+        store_digits(text, next, x as u64);
+    }
+    next
+}
+
+// Puts a number of 64 bits in decimal.
+pub fn put_wide_number(text: &mut [u8], at: usize, x: u64) -> usize
+    requires { ⌜ at ≤ 2 * lastPiece ⌝ }
+    ensures { λ r. ⌜ Put (now (text .entry)) at (digits x) (now (text .exit)) r ⌝ }
+    ensures { λ r. ⌜ r ≤ at + 20 ⌝ }
+{
+    let next = at + wide_digit_count(x);
     if next <= text.len() {
         store_digits(text, next, x);
     }
