@@ -1,11 +1,16 @@
-//! Links libwakubinryo_tables.a, libwakubinryo_qcir.a and libwakubinryo_texts.a
-//! from ../target/staticlib, or from the folder named by the environment variable
-//! WAKUBINRYO_LIB_DIR.
+//! Links libwakubinryo_tables.a, libwakubinryo_qcir.a, libwakubinryo_texts.a and
+//! libwakubinryo_reports.a from ../target/staticlib, or from the folder named by
+//! the environment variable WAKUBINRYO_LIB_DIR.
 
 use std::env;
 use std::path::PathBuf;
 
-const LIBRARIES: [&str; 3] = ["wakubinryo_tables", "wakubinryo_qcir", "wakubinryo_texts"];
+const LIBRARIES: [&str; 4] = [
+    "wakubinryo_tables",
+    "wakubinryo_qcir",
+    "wakubinryo_texts",
+    "wakubinryo_reports",
+];
 
 fn main() {
     println!("cargo:rerun-if-env-changed=WAKUBINRYO_LIB_DIR");

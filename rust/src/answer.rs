@@ -3,12 +3,13 @@
 use std::error::Error;
 use std::fmt::{self, Display, Formatter};
 
-/// Why a table, a file, a form or a call is refused. The value is the refusal's number;
+/// Why a table, a file, a form, a report or a call is refused. The value is the refusal's number;
 /// the word in brackets is document 01's.
 #[derive(Clone, Copy, Debug, PartialEq, Eq, PartialOrd, Ord, Hash)]
 #[repr(u32)]
 pub enum Reason {
-    /// (ragged) No words, or not a multiple of four.
+    /// (ragged) No words, or not a multiple of four; of lines of figures, not a
+    /// multiple of seven, or not a line for each name.
     PartialNode = 1,
     /// (oversize) More than 4,096 nodes or list entries.
     TooLarge = 2,
@@ -45,6 +46,13 @@ pub enum Reason {
     MalformedPrefix = 15,
     /// A block's count is 0.
     EmptyBlock = 16,
+    /// More than 256 names, or lines of figures.
+    TooManyNames = 20,
+    /// A name of more than 255 bytes.
+    NameTooLong = 21,
+    /// A file that can't be opened or read to its end, in its line of figures. No
+    /// call answers it.
+    Unreadable = 22,
     /// The number given for the format to write is no format's.
     UnknownFormat = 23,
     /// Memory lent to work in is shorter than the form's nodes.
@@ -52,7 +60,7 @@ pub enum Reason {
 }
 
 impl Reason {
-    pub const ALL: [Reason; 18] = [
+    pub const ALL: [Reason; 21] = [
         Reason::PartialNode,
         Reason::TooLarge,
         Reason::MalformedNode,
@@ -69,6 +77,9 @@ impl Reason {
         Reason::MalformedMatrix,
         Reason::MalformedPrefix,
         Reason::EmptyBlock,
+        Reason::TooManyNames,
+        Reason::NameTooLong,
+        Reason::Unreadable,
         Reason::UnknownFormat,
         Reason::MemoryTooShort,
     ];
@@ -108,7 +119,9 @@ impl Reason {
 impl Display for Reason {
     fn fmt(&self, f: &mut Formatter<'_>) -> fmt::Result {
         f.write_str(match self {
-            Reason::PartialNode => "no words, or a part of a node",
+            Reason::PartialNode => {
+                "no words, a part of a node or line, or not a line for each name"
+            }
             Reason::TooLarge => "too many nodes or list entries",
             Reason::MalformedNode => "malformed node",
             Reason::ForwardReference => "operand or body not below its node",
@@ -124,6 +137,9 @@ impl Display for Reason {
             Reason::MalformedMatrix => "malformed matrix",
             Reason::MalformedPrefix => "malformed prefix",
             Reason::EmptyBlock => "empty block",
+            Reason::TooManyNames => "more than 256 names or lines",
+            Reason::NameTooLong => "name longer than 255 bytes",
+            Reason::Unreadable => "file can't be read",
             Reason::UnknownFormat => "unknown format",
             Reason::MemoryTooShort => "lent memory too short",
         })
@@ -252,6 +268,58 @@ pub struct WrittenText {
     pub sizes: Sizes,
 }
 
+/// A line of figures: what a growth report says of a file beside its name. The
+/// refusal number, or 0, then of an accepted file n, b, q, depth, nodes and
+/// entries of its [`Sizes`], and of a refused one zeros.
+pub type Line = [u32; 7];
+
+/// The line of figures of a file that is measured so.
+pub fn line(measured: Result<Sizes, Refusal>) -> Line {
+    match measured {
+        Ok(s) => [0, s.n, s.b, s.q, s.depth, s.nodes, s.entries],
+        Err(r) => [r.reason.number(), 0, 0, 0, 0, 0, 0],
+    }
+}
+
+/// What a growth report says of all its files.
+#[derive(Clone, Copy, Debug, Default, PartialEq, Eq)]
+pub struct Growth {
+    /// Files that were read: all but those with number 22.
+    pub read: u64,
+    /// Files with a refusal, 22 too.
+    pub refused: u64,
+    /// The sums of the six figures that follow the number in a [`Line`].
+    pub sums: [u64; 6],
+    /// Nodes written and input nodes of the file that grew most, the first if
+    /// there are several; 0 and 0 if no accepted file has input nodes.
+    pub written: u64,
+    pub input: u64,
+}
+
+impl Growth {
+    /// The figures from their words, in the order that the C interface and a
+    /// report have them.
+    pub fn from_words(words: [u64; 10]) -> Growth {
+        let [read, refused, sums @ .., written, input] = words;
+        Growth {
+            read,
+            refused,
+            sums,
+            written,
+            input,
+        }
+    }
+
+    /// The words of the figures, in the same order.
+    pub fn words(self) -> [u64; 10] {
+        let [n, b, q, depth, nodes, entries] = self.sums;
+        let [read, refused, written, input] = [self.read, self.refused, self.written, self.input];
+        [
+            read, refused, n, b, q, depth, nodes, entries, written, input,
+        ]
+    }
+}
+
 /// Answers of measuring and lifting as the C interface gives them.
 pub type SizesAnswer = [u32; 11];
 
@@ -262,8 +330,8 @@ pub type CountAnswer = [u32; 5];
 /// Answers of reading a file as the C interface gives them.
 pub type WrittenAnswer = [u32; 4];
 
-/// Answers of writing a form as the C interface gives them: number, position,
-/// bytes.
+/// Answers of writing a form or a report as the C interface gives them: number,
+/// position, bytes.
 pub type TextAnswer = [u64; 3];
 
 /// Answers of lifting a text as the C interface gives them: number, position,
@@ -273,6 +341,14 @@ pub type LiftTextAnswer = [u64; 10];
 /// Answers of measuring a text as the C interface gives them: number, position,
 /// sizes.
 pub type MeasureTextAnswer = [u32; 9];
+
+/// Answers of adding up lines of figures as the C interface gives them: number,
+/// position, the words of [`Growth`].
+pub type GrowthAnswer = [u64; 12];
+
+/// Answers of counting names as the C interface gives them: number, position,
+/// names.
+pub type NamesAnswer = [u32; 3];
 
 /// The words of an answer of measuring or lifting.
 pub fn size_words(answer: Result<Sizes, Refusal>) -> SizesAnswer {
@@ -306,7 +382,7 @@ pub fn written_words(answer: Result<Written, Refusal>) -> WrittenAnswer {
     }
 }
 
-/// The words of an answer of writing a form.
+/// The words of an answer of writing a form or a report.
 pub fn text_words(answer: Result<usize, Refusal>) -> TextAnswer {
     match answer {
         Ok(bytes) => [0, 0, bytes as u64],
@@ -332,4 +408,25 @@ pub fn measure_text_words(answer: Result<Sizes, Refusal>) -> MeasureTextAnswer {
         Err(r) => words[..2].copy_from_slice(&r.number_and_position()),
     }
     words
+}
+
+/// The words of an answer of adding up lines of figures.
+pub fn growth_words(answer: Result<Growth, Refusal>) -> GrowthAnswer {
+    let mut words = GrowthAnswer::default();
+    match answer {
+        Ok(growth) => words[2..].copy_from_slice(&growth.words()),
+        Err(r) => words[..2].copy_from_slice(&r.number_and_position().map(u64::from)),
+    }
+    words
+}
+
+/// The words of an answer of counting names.
+pub fn names_words(answer: Result<u32, Refusal>) -> NamesAnswer {
+    match answer {
+        Ok(names) => [0, 0, names],
+        Err(r) => {
+            let [number, position] = r.number_and_position();
+            [number, position, 0]
+        }
+    }
 }

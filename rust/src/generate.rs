@@ -675,6 +675,9 @@ fn damage(rng: &mut Rng, mut table: Table, reason: Reason) -> Option<(Table, Ref
         | Reason::GateNotUsedOnce
         | Reason::MalformedMatrix
         | Reason::MalformedPrefix
+        | Reason::TooManyNames
+        | Reason::NameTooLong
+        | Reason::Unreadable
         | Reason::UnknownFormat
         | Reason::MemoryTooShort => return None,
     };

@@ -1,15 +1,17 @@
-//! A safe wrapper over the static libraries wakubinryo_tables, wakubinryo_qcir
-//! and wakubinryo_texts, and what its tests and its benchmarks need: an
-//! implementation in plain Rust ([`reference`] and, for files, [`qcir`],
-//! [`write_qcir`](mod@write_qcir) and [`write_qdimacs`](mod@write_qdimacs)),
-//! reading without limits ([`read_back`]), truth values by brute force
+//! A safe wrapper over the static libraries wakubinryo_tables, wakubinryo_qcir,
+//! wakubinryo_texts and wakubinryo_reports, and what its tests and its benchmarks
+//! need: an implementation in plain Rust ([`reference`] and, for files, [`qcir`],
+//! [`write_qcir`](mod@write_qcir) and [`write_qdimacs`](mod@write_qdimacs), for
+//! reports [`growth`](mod@growth)), reading without limits ([`read_back`]), truth values by brute force
 //! ([`brute`], [`circuit`], [`qdimacs`]), alpha-equivalence of two tables
 //! ([`alpha`]) and tables, pairs of them, files and forms to try ([`generate`],
-//! [`generate_alpha`], [`generate_qcir`], [`generate_forms`]).
+//! [`generate_alpha`], [`generate_qcir`], [`generate_forms`]). The tool's names,
+//! words and plots are in [`name_lines`], [`words`] and [`growth_plot`].
 //!
 //! [`lift_text`] goes from the bytes of a QCIR file to those of its prenex form
 //! in one call. Its steps, [`read_qcir`], [`prenex_form`] and [`qcir_text`] or
 //! [`qdimacs_text`], are calls too, for callers that want the table or the form.
+//! [`report()`] writes what became of many files, measured by [`measure_text`].
 //! A formula table is a slice of words, four to a node, and a list of variable
 //! numbers. See `include/wakubinryo.h` for what each call promises.
 
@@ -23,6 +25,10 @@ pub mod generate;
 pub mod generate_alpha;
 pub mod generate_forms;
 pub mod generate_qcir;
+pub mod growth;
+pub mod growth_plot;
+pub mod name_lines;
+pub mod plot;
 pub mod qcir;
 pub mod qdimacs;
 pub mod read_back;
@@ -33,6 +39,7 @@ pub mod write_qcir;
 pub mod write_qdimacs;
 
 pub use answer::{CountAnswer, Reason, Refusal, Sizes, SizesAnswer};
+pub use answer::{Growth, GrowthAnswer, Line, NamesAnswer};
 pub use answer::{LiftTextAnswer, MeasureTextAnswer, WrittenText};
 pub use answer::{TextAnswer, Written, WrittenAnswer};
 pub use reference::{Node, WIDTH};
@@ -127,13 +134,24 @@ mod ffi {
             answer: *mut u64,
         );
         pub fn wakubinryo_measure_text(text: *const u8, text_len: usize, answer: *mut u32);
+        pub fn wakubinryo_growth(lines: *const u32, lines_len: usize, answer: *mut u64);
+        pub fn wakubinryo_names(names: *const u8, names_len: usize, answer: *mut u32);
+        pub fn wakubinryo_report(
+            names: *const u8,
+            names_len: usize,
+            lines: *const u32,
+            lines_len: usize,
+            out: *mut u8,
+            out_len: usize,
+            answer: *mut u64,
+        );
     }
 }
 
 /// The calls as they are, with their answers as words.
 pub mod raw {
-    use super::{ffi, CountAnswer, LiftTextAnswer, MeasureTextAnswer, PrenexForm};
-    use super::{SizesAnswer, TextAnswer, WrittenAnswer};
+    use super::{ffi, CountAnswer, GrowthAnswer, LiftTextAnswer, MeasureTextAnswer};
+    use super::{NamesAnswer, PrenexForm, SizesAnswer, TextAnswer, WrittenAnswer};
 
     pub fn measure(words: &[u32], list: &[u32], answer: &mut SizesAnswer) {
         // SAFETY: the call reads the two slices and writes the answer, no more.
@@ -310,10 +328,35 @@ pub mod raw {
         // SAFETY: as above.
         unsafe { ffi::wakubinryo_measure_text(text.as_ptr(), text.len(), answer.as_mut_ptr()) }
     }
+
+    pub fn growth(lines: &[u32], answer: &mut GrowthAnswer) {
+        // SAFETY: as above.
+        unsafe { ffi::wakubinryo_growth(lines.as_ptr(), lines.len(), answer.as_mut_ptr()) }
+    }
+
+    pub fn names(names: &[u8], answer: &mut NamesAnswer) {
+        // SAFETY: as above.
+        unsafe { ffi::wakubinryo_names(names.as_ptr(), names.len(), answer.as_mut_ptr()) }
+    }
+
+    pub fn report(names: &[u8], lines: &[u32], out: &mut [u8], answer: &mut TextAnswer) {
+        // SAFETY: as above.
+        unsafe {
+            ffi::wakubinryo_report(
+                names.as_ptr(),
+                names.len(),
+                lines.as_ptr(),
+                lines.len(),
+                out.as_mut_ptr(),
+                out.len(),
+                answer.as_mut_ptr(),
+            )
+        }
+    }
 }
 
 fn refusal(number: u32, position: u64, users: [u32; 2]) -> Refusal {
-    let reason = Reason::from_number(number).expect("the library answers 0 to 16, 23 or 24");
+    let reason = Reason::from_number(number).expect("a number of the interface");
     let users = (users != [0, 0]).then_some(users);
     Refusal {
         reason,
@@ -601,4 +644,57 @@ pub fn measure_text(text: &[u8]) -> Result<Sizes, Refusal> {
         [0, _, sizes @ ..] => Ok(Sizes::from_words(sizes)),
         [number, position, ..] => Err(refusal(number, position.into(), [0, 0])),
     }
+}
+
+/// Adds up up to 256 lines of figures, seven words each as [`answer::line`] gives
+/// them: files read and refused, the sums of the six figures, and the nodes of the
+/// file that grew most, by nodes written over input nodes. A refused line's six
+/// are read as zeros, and a line with 0 input nodes takes no part in growth.
+///
+/// Refused by 1 if a line has not seven words, then by 20.
+pub fn growth(lines: &[u32]) -> Result<Growth, Refusal> {
+    let mut answer = GrowthAnswer::default();
+    raw::growth(lines, &mut answer);
+    match answer {
+        [0, _, words @ ..] => Ok(Growth::from_words(words)),
+        [number, position, ..] => Err(refusal(number as u32, position, [0, 0])),
+    }
+}
+
+/// How many names a text has: one a line, empty lines skipped, the last line with
+/// or without a line feed. Refused by 20 if there are over 256, then by 21 if one
+/// is over 255 bytes.
+pub fn names(text: &[u8]) -> Result<u32, Refusal> {
+    let mut answer = NamesAnswer::default();
+    raw::names(text, &mut answer);
+    match answer {
+        [0, _, names] => Ok(names),
+        [number, position, _] => Err(refusal(number, position.into(), [0, 0])),
+    }
+}
+
+/// Writes a growth report into a buffer and says how many bytes it takes: for each
+/// name of a text its line of figures, a refused one's six being zeros, then
+/// `total` and what [`growth()`] says of the lines.
+///
+/// The names are refused as [`names`] refuses them; then the lines by 1 if there
+/// are not seven words for each name; then the buffer by 9 exactly if it is
+/// shorter than the report. [`REPORT_ROOM`] is always enough. On refusal the buffer
+/// is as it was; if done, so is what stands after the report.
+pub fn report_into(names: &[u8], lines: &[u32], out: &mut [u8]) -> Result<usize, Refusal> {
+    let mut answer = TextAnswer::default();
+    raw::report(names, lines, out, &mut answer);
+    written(answer)
+}
+
+/// Bytes enough for any report: 256 names of 255 bytes, each with seven figures,
+/// and ten figures after `total`, a figure taking a space and up to 20 digits.
+pub const REPORT_ROOM: usize = 256 * (255 + 7 * 21 + 1) + 5 + 10 * 21 + 1;
+
+/// Allocates room and does what [`report_into`] does. It is never refused by 9.
+pub fn report(names: &[u8], lines: &[u32]) -> Result<Vec<u8>, Refusal> {
+    let mut out = vec![0; REPORT_ROOM];
+    let bytes = report_into(names, lines, &mut out)?;
+    out.truncate(bytes);
+    Ok(out)
 }

@@ -76,7 +76,7 @@ fn built(example: &str, program: &str, libraries: &[&str], whole: bool) -> PathB
     program
 }
 
-const ALL: [&str; 3] = ["tables", "qcir", "texts"];
+const ALL: [&str; 4] = ["tables", "qcir", "texts", "reports"];
 
 #[test]
 fn lift_prints_forms_and_refusals() {

@@ -70,6 +70,7 @@ fn help_and_version() {
             "measure",
             "lift",
             "same FILE FILE",
+            "report [--plot FILE.svg] [FILE..]",
             "--format qcir",
             "--format qdimacs",
             "-o",
@@ -364,6 +365,7 @@ fn standard_output_full_or_unread() {
     for arguments in [
         &["lift", &*example()][..],
         &["same", &example(), &example()],
+        &["report", &example()],
     ] {
         let full = File::create("/dev/full").expect("a device");
         let left = Command::new(tool())
@@ -423,6 +425,17 @@ fn bad_usage() {
             "--format without lift",
         ),
         (&["same", "a", "b", "--fast"], "unknown option --fast"),
+        (&["report", "a", "-o", "b"], "-o with report"),
+        (&["report", "--format", "qcir"], "--format without lift"),
+        (&["report", "a", "--plot"], "--plot without a file"),
+        (&["report", "--plot", "a", "--plot", "b"], "--plot twice"),
+        (&["report", "--plot", "-"], "--plot to standard output"),
+        (&["report", "a", ""], "a file without a name"),
+        (&["report", "a", "b\nc"], "a line feed in a file's name"),
+        (&["lift", "--plot", "a"], "--plot without report"),
+        (&["measure", "--plot", "a"], "--plot without report"),
+        (&["same", "a", "b", "--plot", "c"], "--plot without report"),
+        (&["--plot", "a"], "no command"),
     ];
     for (arguments, words) in cases {
         let left = run(tool(), arguments, b"");

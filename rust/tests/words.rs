@@ -6,7 +6,7 @@ mod common;
 mod programs;
 
 use common::files;
-use programs::{folder, refused, repository, run, tool, Left};
+use programs::{folder, rattle_program, refused, repository, run, tool, Left};
 use std::fs;
 use std::path::{Path, PathBuf};
 use wakubinryo::generate_qcir::largest_lift;
@@ -32,14 +32,9 @@ fn programs() -> [Program; 3] {
         ("lift_qcir", &["lift"]),
         ("lift_qdimacs", &["lift", "--format", "qdimacs"]),
     ];
-    programs.map(|(name, arguments)| {
-        let path = repository("target/bin").join(name);
-        assert!(
-            path.is_file(),
-            "{} is missing: run `rt check {name}` in the repository's root",
-            path.display()
-        );
-        Program { path, arguments }
+    programs.map(|(name, arguments)| Program {
+        path: rattle_program(name),
+        arguments,
     })
 }
 

@@ -1,32 +1,38 @@
 //! The command-line tool: measures a QCIR file, lifts it to a QCIR or a QDIMACS
-//! file, or compares the prenex forms of two. It calls the library and holds no
-//! rule of its own.
+//! file, compares the prenex forms of two, or reports the growth of many. It calls
+//! the library and holds no rule of its own.
 
 use std::borrow::Cow;
 use std::ffi::{OsStr, OsString};
 use std::fs::{self, File, OpenOptions};
 use std::io::{self, ErrorKind, Read, Write};
+use std::os::unix::ffi::OsStrExt;
 use std::path::{Path, PathBuf};
 use std::process::{self, ExitCode};
+use wakubinryo::answer::line;
+use wakubinryo::growth_plot;
+use wakubinryo::name_lines::NameLines;
 use wakubinryo::qcir::LONGEST;
 use wakubinryo::words::{self, STANDARD_INPUT, STANDARD_OUTPUT};
-use wakubinryo::{lift_text, measure_text, prenex_form, read_qcir};
-use wakubinryo::{Format, PrenexForm, Refusal};
+use wakubinryo::{lift_text, measure_text, names, prenex_form, read_qcir, report};
+use wakubinryo::{Format, Line, PrenexForm, Reason, Refusal};
 
 const USAGE: &str = "\
 usage: wakubinryo measure [FILE] [-o OUT]
        wakubinryo lift [--format qcir|qdimacs] [FILE] [-o OUT]
        wakubinryo same FILE FILE
+       wakubinryo report [--plot FILE.svg] [FILE..]
        wakubinryo --help | --version
 ";
 
 const HELP: &str = "
-Reads a QCIR file and moves all its quantifiers into a prefix.
+Reads QCIR files and moves all quantifiers of each into a prefix.
 
   measure    print the sizes of the file's table and of its prenex form
   lift       print its prenex form
   same       print same if the prenex forms of two files are equal word for
              word, and different if they are not
+  report     print a line of figures for each of up to 256 files, and their total
 
   --format qcir
              print a prenex QCIR file with the same truth value; so too if there
@@ -34,8 +40,13 @@ Reads a QCIR file and moves all its quantifiers into a prefix.
   --format qdimacs
              print clauses that are true exactly if some valuation of the free
              variables makes the file true
+  --plot FILE.svg
+             draw nodes written against input nodes, with a dot for each accepted
+             file, and write the drawing to this file, whole or not at all
   FILE       the file to read; standard input if it is - or left out. same has
-             two, and one of them may be -
+             two, and one of them may be -. report has any number, - being a name
+             like any other; if there is none, standard input has the names, one
+             a line
   -o OUT     write to the file OUT, whole or not at all; standard output if OUT
              is - or there is no -o
   --help     print this text
@@ -46,10 +57,18 @@ need keep only one of them. Two files that differ in the numbers of bound
 variables and of gates alone are the same if the highest variable numbers that
 they use or bind are equal, and different if not.
 
+A line of a report has the file's name, the number of its refusal or 0, its
+nodes, blocks, bound variables and quantifier depth, and the nodes and the prefix
+variables written; these six are 0 if it is refused. The number is 22 if the file
+can't be read. The last line has the word total, the files read, the files
+refused, the six sums, and the nodes written and the input nodes of the file that
+grew most. With over 256 names the number 20 is all that is printed, with a name
+over 255 bytes the number 21, and no file is read.
+
 A refusal goes to standard error: its number, its place and the reason; with
-same, the file's name comes first.
-Exit status: 0 done or same; 1 refused or different; 2 wrong usage, or a file
-that can't be read or written.
+same, the file's name comes first. In a report it stands in the file's line.
+Exit status: 0 done or same; 1 refused or different, or a report with a refusal;
+2 wrong usage, a file that can't be read or written, or a report that is 20 or 21.
 ";
 
 const VERSION: &str = concat!("wakubinryo ", env!("CARGO_PKG_VERSION"), "\n");
@@ -71,6 +90,7 @@ enum Command {
     Measure,
     Lift,
     Same,
+    Report,
 }
 
 /// The file to read and the one to write.
@@ -84,6 +104,10 @@ enum Asked {
     Measure(Files),
     Lift(Format, Files),
     Same([OsString; 2]),
+    Report {
+        files: Vec<OsString>,
+        plot: Option<OsString>,
+    },
     Print(String),
 }
 
@@ -105,6 +129,7 @@ fn run(arguments: impl Iterator<Item = OsString>) -> Result<ExitCode, Failure> {
         Asked::Measure(files) => answer(&files, measured)?,
         Asked::Lift(format, files) => answer(&files, |text| Ok(lift_text(text, format)?.text))?,
         Asked::Same(names) => return compare(&names),
+        Asked::Report { files, plot } => return report_files(&files, plot.as_deref()),
         Asked::Print(text) => print(text.as_bytes())?,
     }
     Ok(ExitCode::SUCCESS)
@@ -151,12 +176,70 @@ fn compare([one, other]: &[OsString; 2]) -> Result<ExitCode, Failure> {
     }
 }
 
+/// Prints the report of these files, or of those that standard input names, and
+/// gives the status that says whether all are accepted.
+fn report_files(files: &[OsString], plot: Option<&OsStr>) -> Result<ExitCode, Failure> {
+    let named = if files.is_empty() {
+        names_from_standard_input()?
+    } else {
+        names_from_arguments(files)?
+    };
+    let text = named.text();
+    if let Err(refusal) = names(text) {
+        print(format!("{}\n", refusal.reason.number()).as_bytes())?;
+        return Ok(ExitCode::from(2));
+    }
+    let lines = text.split(|&byte| byte == b'\n');
+    let lines: Vec<Line> = lines
+        .filter(|name| !name.is_empty())
+        .map(|name| measured_line(OsStr::from_bytes(name)))
+        .collect();
+    let report = report(text, lines.as_flattened()).expect("as many lines as names");
+    if let Some(name) = plot {
+        write(name, growth_plot::draw(&lines).as_bytes())?;
+    }
+    print(&report)?;
+    let refused = lines.iter().any(|line| line[0] != 0);
+    Ok(ExitCode::from(u8::from(refused)))
+}
+
+fn names_from_standard_input() -> Result<NameLines, Failure> {
+    let mut names = NameLines::default();
+    let read = io::copy(&mut io::stdin().lock(), &mut names);
+    read.map_err(|e| Failure::File(words::failed(STANDARD_INPUT, &e)))?;
+    Ok(names)
+}
+
+/// The arguments as lines. One that is empty or has a line feed can't be a line.
+fn names_from_arguments(files: &[OsString]) -> Result<NameLines, Failure> {
+    let mut names = NameLines::default();
+    for file in files {
+        let name = file.as_bytes();
+        if name.is_empty() {
+            return Err(Failure::Usage("a file without a name".into()));
+        }
+        if name.contains(&b'\n') {
+            return Err(Failure::Usage("a line feed in a file's name".into()));
+        }
+        let written = names.write_all(name).and_then(|()| names.write_all(b"\n"));
+        written.expect("names are kept in memory");
+    }
+    Ok(names)
+}
+
+/// The line of figures of a file, with number 22 if it can't be read.
+fn measured_line(name: &OsStr) -> Line {
+    let text = read_file(name).map_err(|_| Reason::Unreadable.at(0));
+    line(text.and_then(|text| measure_text(&text)))
+}
+
 fn parse(mut arguments: impl Iterator<Item = OsString>) -> Result<Asked, Failure> {
     let wrong = |words: String| Err(Failure::Usage(words));
     let mut command = None;
     let mut format: Option<Format> = None;
     let mut inputs = Vec::new();
     let mut output = None;
+    let mut plot = None;
     let mut options = true;
     while let Some(argument) = arguments.next() {
         let shown = argument.to_string_lossy();
@@ -179,10 +262,17 @@ fn parse(mut arguments: impl Iterator<Item = OsString>) -> Result<Asked, Failure
                     return wrong(format!("unknown format {}", name.to_string_lossy()));
                 }
             },
+            ("--plot", true) => match arguments.next() {
+                None => return wrong("--plot without a file".into()),
+                Some(_) if plot.is_some() => return wrong("--plot twice".into()),
+                Some(name) if name == "-" => return wrong("--plot to standard output".into()),
+                name => plot = name,
+            },
             (_, true) => return wrong(format!("unknown option {shown}")),
             ("measure", _) if command.is_none() => command = Some(Command::Measure),
             ("lift", _) if command.is_none() => command = Some(Command::Lift),
             ("same", _) if command.is_none() => command = Some(Command::Same),
+            ("report", _) if command.is_none() => command = Some(Command::Report),
             _ => match (command, inputs.len()) {
                 (None, _) => return wrong(format!("unknown command {shown}")),
                 (Some(Command::Same), 2) => return wrong(format!("more than two files: {shown}")),
@@ -199,6 +289,9 @@ fn parse(mut arguments: impl Iterator<Item = OsString>) -> Result<Asked, Failure
     };
     match (command, format, output) {
         (None, ..) => wrong("no command".into()),
+        (Some(Command::Measure | Command::Lift | Command::Same), ..) if plot.is_some() => {
+            wrong("--plot without report".into())
+        }
         (Some(Command::Lift), format, output) => Ok(Asked::Lift(
             format.unwrap_or(Format::Qcir),
             files(inputs.pop(), output),
@@ -211,19 +304,32 @@ fn parse(mut arguments: impl Iterator<Item = OsString>) -> Result<Asked, Failure
             Ok(names) if names == ["-", "-"] => wrong("standard input twice".into()),
             Ok(names) => Ok(Asked::Same(names)),
         },
+        (Some(Command::Report), None, Some(_)) => wrong("-o with report".into()),
+        (Some(Command::Report), None, None) => Ok(Asked::Report {
+            files: inputs,
+            plot,
+        }),
     }
 }
 
-/// Reads a file, or of one that is too long a byte more than it may have.
+/// Reads a file or standard input.
 fn read(name: &OsStr) -> Result<Vec<u8>, Failure> {
-    let most = LONGEST as u64 + 1;
-    let mut text = Vec::new();
-    let input = if name == "-" {
-        io::stdin().lock().take(most).read_to_end(&mut text)
+    let text = if name == "-" {
+        read_text(io::stdin().lock())
     } else {
-        File::open(name).and_then(|file| file.take(most).read_to_end(&mut text))
+        read_file(name)
     };
-    input.map_err(|e| Failure::File(words::failed(&shown_input(name), &e)))?;
+    text.map_err(|e| Failure::File(words::failed(&shown_input(name), &e)))
+}
+
+fn read_file(name: &OsStr) -> io::Result<Vec<u8>> {
+    read_text(File::open(name)?)
+}
+
+/// Reads a text, or of one that is too long a byte more than it may have.
+fn read_text(input: impl Read) -> io::Result<Vec<u8>> {
+    let mut text = Vec::new();
+    input.take(LONGEST as u64 + 1).read_to_end(&mut text)?;
     Ok(text)
 }
 

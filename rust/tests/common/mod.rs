@@ -1,10 +1,12 @@
 //! Comparing the library with the reference, table by table and file by file;
-//! form by form in [`forms`], and from text to text in [`texts`].
+//! form by form in [`forms`], from text to text in [`texts`], and of growth reports
+//! in [`reports`].
 
 #![allow(dead_code)]
 
 pub mod files;
 pub mod forms;
+pub mod reports;
 pub mod texts;
 pub mod vectors;
 

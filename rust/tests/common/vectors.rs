@@ -166,32 +166,39 @@ pub struct ReadVector {
     pub truth: Vec<u32>,
 }
 
-/// The bytes between quotes, with \n, \t, \\, \" and \xNN.
-fn unescape(quoted: &str) -> Vec<u8> {
-    let inner = quoted
-        .strip_prefix('"')
-        .and_then(|rest| rest.strip_suffix('"'))
-        .expect("quotes");
-    let mut bytes = inner.bytes();
+/// The bytes between quotes, with \n, \t, \\, \" and \xNN, and what stands after
+/// the quotes.
+fn quoted(line: &str) -> (Vec<u8>, &str) {
+    let mut bytes = line.strip_prefix('"').expect("quotes").bytes();
     let mut text = Vec::new();
-    while let Some(byte) = bytes.next() {
-        if byte != b'\\' {
-            text.push(byte);
-            continue;
+    loop {
+        match bytes.next().expect("quotes") {
+            b'"' => return (text, &line[line.len() - bytes.len()..]),
+            b'\\' => text.push(escaped(&mut bytes)),
+            byte => text.push(byte),
         }
-        let digits = |bytes: &mut std::str::Bytes| {
+    }
+}
+
+/// The byte that an escape stands for, after its backslash.
+fn escaped(bytes: &mut std::str::Bytes) -> u8 {
+    match bytes.next() {
+        Some(b'n') => b'\n',
+        Some(b't') => b'\t',
+        Some(b'x') => {
             let pair = [bytes.next(), bytes.next()].map(|digit| digit.expect("two digits"));
             let pair = std::str::from_utf8(&pair).expect("hexadecimal").to_string();
             u8::from_str_radix(&pair, 16).expect("hexadecimal")
-        };
-        text.push(match bytes.next() {
-            Some(b'n') => b'\n',
-            Some(b't') => b'\t',
-            Some(b'x') => digits(&mut bytes),
-            Some(byte @ (b'\\' | b'"')) => byte,
-            other => panic!("escape {other:?}"),
-        });
+        }
+        Some(byte @ (b'\\' | b'"')) => byte,
+        other => panic!("escape {other:?}"),
     }
+}
+
+/// The bytes between the quotes of a line that has nothing else.
+fn unescape(line: &str) -> Vec<u8> {
+    let (text, rest) = quoted(line);
+    assert_eq!(rest, "");
     text
 }
 
@@ -233,6 +240,90 @@ fn read_vectors() -> Vec<ReadVector> {
 pub fn each_read_vector(mut one: impl FnMut(&ReadVector)) {
     for vector in read_vectors() {
         let _case = Case("vectors", vector.case);
+        one(&vector);
+    }
+}
+
+/// A case over lines of figures: the lines, and the ten figures of their total.
+#[derive(Default)]
+pub struct GrowthVector {
+    case: u64,
+    pub lines: Vec<u32>,
+    pub total: Vec<u64>,
+}
+
+/// Runs `one` for each vector over lines of figures.
+pub fn each_growth_vector(mut one: impl FnMut(&GrowthVector)) {
+    let mut vectors: Vec<GrowthVector> = Vec::new();
+    for line in include_str!("../../vectors/growth-lines.txt").lines() {
+        if line.is_empty() || line.starts_with('#') {
+            continue;
+        }
+        let (key, rest) = line.split_once(' ').unwrap_or((line, ""));
+        let words = || rest.split_ascii_whitespace();
+        if key == "case" {
+            vectors.push(GrowthVector {
+                case: rest.parse().expect("a number"),
+                ..GrowthVector::default()
+            });
+            continue;
+        }
+        let vector = vectors.last_mut().expect("a case");
+        match key {
+            "lines" => vector.lines = words().map(|n| n.parse().expect("a number")).collect(),
+            "total" => vector.total = words().map(|n| n.parse().expect("a number")).collect(),
+            _ => panic!("line {line}"),
+        }
+    }
+    assert_eq!(vectors.len(), 180);
+    for vector in vectors {
+        let _case = Case("growth vectors", vector.case);
+        one(&vector);
+    }
+}
+
+/// A case over a folder of files: their names and texts, what a report is given on
+/// standard input, and what it prints.
+#[derive(Default)]
+pub struct MonthVector {
+    pub case: u64,
+    pub files: Vec<(Vec<u8>, Vec<u8>)>,
+    pub input: Vec<u8>,
+    pub output: Vec<u8>,
+}
+
+/// Runs `one` for each vector over folders of files.
+pub fn each_month_vector(mut one: impl FnMut(&MonthVector)) {
+    let mut vectors: Vec<MonthVector> = Vec::new();
+    for line in include_str!("../../vectors/month.txt").lines() {
+        if line.is_empty() || line.starts_with('#') {
+            continue;
+        }
+        let (key, rest) = line.split_once(' ').expect("a word and more");
+        if key == "case" {
+            vectors.push(MonthVector {
+                case: rest.parse().expect("a number"),
+                ..MonthVector::default()
+            });
+            continue;
+        }
+        let vector = vectors.last_mut().expect("a case");
+        let (first, rest) = quoted(rest);
+        match key {
+            "stdin" => vector.input = first,
+            "stdout" => vector.output = first,
+            "file" => vector.files.push((first, unescape(rest.trim_start()))),
+            "big" => {
+                let mut text = b"#QCIR-G14\nfree(1)\noutput(1)\n".to_vec();
+                text.resize(rest.trim_start().parse().expect("a length"), b' ');
+                vector.files.push((first, text));
+            }
+            _ => panic!("line {line}"),
+        }
+    }
+    assert_eq!(vectors.len(), 90);
+    for vector in vectors {
+        let _case = Case("month vectors", vector.case);
         one(&vector);
     }
 }

@@ -6,7 +6,7 @@ use std::ffi::OsStr;
 use std::fs;
 use std::io::{ErrorKind, Write};
 use std::path::{Path, PathBuf};
-use std::process::{Command, Stdio};
+use std::process::{Command, Output, Stdio};
 
 /// What a program left: its exit status, standard output and standard error.
 #[derive(Clone, Debug, PartialEq, Eq)]
@@ -26,21 +26,28 @@ impl Left {
     }
 }
 
-/// Runs a program with these arguments and this standard input.
-pub fn run<S: AsRef<OsStr>>(program: &Path, arguments: &[S], input: &[u8]) -> Left {
-    let mut child = Command::new(program)
-        .args(arguments)
+/// Runs a command with this standard input.
+pub fn output(command: &mut Command, input: &[u8]) -> Output {
+    let spawned = command
         .stdin(Stdio::piped())
         .stdout(Stdio::piped())
         .stderr(Stdio::piped())
-        .spawn()
-        .unwrap_or_else(|e| panic!("{} can't be run: {e}", program.display()));
+        .spawn();
+    let mut child = match spawned {
+        Ok(child) => child,
+        Err(e) => panic!("{:?} can't be run: {e}", command.get_program()),
+    };
     // No output is longer than a pipe holds, unless all input is read first.
     match child.stdin.take().expect("a pipe").write_all(input) {
         Err(e) if e.kind() != ErrorKind::BrokenPipe => panic!("standard input: {e}"),
         _ => {}
     }
-    let left = child.wait_with_output().expect("the program ends");
+    child.wait_with_output().expect("the program ends")
+}
+
+/// Runs a program with these arguments and this standard input.
+pub fn run<S: AsRef<OsStr>>(program: &Path, arguments: &[S], input: &[u8]) -> Left {
+    let left = output(Command::new(program).args(arguments), input);
     Left {
         status: left.status.code(),
         output: String::from_utf8(left.stdout).expect("text"),
@@ -51,6 +58,17 @@ pub fn run<S: AsRef<OsStr>>(program: &Path, arguments: &[S], input: &[u8]) -> Le
 /// The command-line tool.
 pub fn tool() -> &'static Path {
     Path::new(env!("CARGO_BIN_EXE_wakubinryo"))
+}
+
+/// A Rattle program.
+pub fn rattle_program(name: &str) -> PathBuf {
+    let path = repository("target/bin").join(name);
+    assert!(
+        path.is_file(),
+        "{} is missing: run `rt check {name}` in the repository's root",
+        path.display()
+    );
+    path
 }
 
 /// A file of the repository.

@@ -1,0 +1,2 @@
+pub mod MostGrown
+pub mod Steps

@@ -1,0 +1,5 @@
+pub mod Readings
+pub mod Kept
+pub mod Verdicts
+pub mod Endings
+pub mod Walk

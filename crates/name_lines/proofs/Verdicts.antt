@@ -1,0 +1,69 @@
+-- Verdicts on names.
+-- Assumes nothing.
+use mathlib.Core.Path.{_≡_, refl, sym, ap, _∙_, subst}
+use mathlib.Core.Bool.{Bool, true, false}
+use mathlib.Core.List.{List}
+use Prim.Native.Nat.{ℕ, _≤_, _<_}
+use native.Mathlib.Omega.{arith}
+use lib.Dec.{ltb}
+use lib.ListN.{length}
+use borrow.Author.Tests.{ltb-true, ltb-false, lt-ltb, le-ltb}
+use Rattle.lists.specs.Choice.{pick, pick-yes, pick-no, Is, is-true, is-false, look}
+use Rattle.refusals.specs.Verdict.{refusal, accepted}
+use Rattle.refusals.specs.declared.Verdict.{Verdict}
+use Rattle.refusals.specs.Outcome.{AnswerWith, done, refused}
+use Rattle.refusals.proofs.Outcome.{answer-next, answer-refused}
+use Rattle.name_lines.specs.Names.{someLong, judged, namesVerdict, counted}
+
+-- over 256 names, whether one is long or not
+pub judged-many : (count : ℕ) (long : Bool) → 256 < count → judged count long ≡ refusal 20 0
+unfolding judged
+judged-many count long over = pick-yes _ _ _ (lt-ltb 256 count over)
+
+pub judged-long : (count : ℕ) (long : Bool) → count ≤ 256 → long ≡ true → judged count long ≡ refusal 21 0
+unfolding judged
+judged-long count long few e = pick-no _ _ _ (le-ltb 256 count few) ∙ pick-yes _ _ _ e
+
+pub judged-taken : (count : ℕ) (long : Bool) → count ≤ 256 → long ≡ false → judged count long ≡ accepted
+unfolding judged
+judged-taken count long few e = pick-no _ _ _ (le-ltb 256 count few) ∙ pick-no _ _ _ e
+
+-- what a verdict that accepts says
+pub record Passed (count : ℕ) (long : Bool) : Type 0 where
+  pub few : count ≤ 256
+  pub none-long : long ≡ false
+  pub verdict : judged count long ≡ accepted
+
+pub passed : (count : ℕ) (long : Bool) → judged count long .number ≡ 0 → Passed count long
+unfolding refusal
+passed count long zero = go (look (ltb 256 count)) (look long)
+  where
+    not-twenty : judged count long ≡ refusal 20 0 → ⊥
+    not-twenty e = let n : _≡_ {A = ℕ} 20 0 = sym (ap (λ v. v .number) e) ∙ zero in omega arith
+
+    not-twenty-one : judged count long ≡ refusal 21 0 → ⊥
+    not-twenty-one e = let n : _≡_ {A = ℕ} 21 0 = sym (ap (λ v. v .number) e) ∙ zero in omega arith
+
+    go : Is (ltb 256 count) → Is long → Passed count long
+    go (is-true t) l = absurd (not-twenty (judged-many count long (ltb-true 256 count t)))
+    go (is-false t) (is-true l) = absurd (not-twenty-one (judged-long count long (ltb-false 256 count t) l))
+    go (is-false t) (is-false l) =
+        let few = ltb-false 256 count t in
+        record { few = few; none-long = l; verdict = judged-taken count long few l }
+
+-- the answer, refused and done
+pub counted-refused : (ns : List (List ℕ)) (v : Verdict) → v ≡ namesVerdict ns → (v .number ≡ 0 → ⊥)
+    → record { verdict = v; sizes = 0 } ≡ counted ns
+unfolding counted refused
+counted-refused ns v e refuses =
+    ap (λ w. record { verdict = w; sizes = 0 }) e
+    ∙ sym (answer-refused (namesVerdict ns) 0 (done (length ns)) (subst (λ w. w .number ≡ 0 → ⊥) e refuses))
+
+pub counted-done : (ns : List (List ℕ)) (v : Verdict) (count : ℕ) → v ≡ namesVerdict ns → v .number ≡ 0 → count ≡ length ns
+    → record { verdict = v; sizes = count } ≡ counted ns
+unfolding counted done
+counted-done ns v count e zero n =
+    let number : namesVerdict ns .number ≡ 0 = subst (λ w. w .number ≡ 0) e zero in
+    let verdict : v ≡ accepted = e ∙ passed (length ns) (someLong ns) number .verdict in
+    (λ i. record { verdict = verdict i; sizes = n i })
+    ∙ sym (answer-next (namesVerdict ns) 0 (done (length ns)) number)
