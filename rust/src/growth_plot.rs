@@ -66,7 +66,7 @@ fn legend() -> String {
         + &to_bound([bound, y + 2.0], y - 12.0)
         + &words(bound, "its bound n + 5b + 4q")
         + &polyline(&[[line - 8.0, y + 1.0], [line + 8.0, y - 11.0]], DARK_GREY)
-        + &words(line, "no growth")
+        + &words(line, "no growth: written = input")
 }
 
 /// The plot of these lines of figures, with a dot for each accepted file.
@@ -87,13 +87,43 @@ pub fn draw(lines: &[Line]) -> String {
         .collect();
     content += &dots(&points, GREEN);
     if files.is_empty() {
-        let middle = [(LEFT + RIGHT) / 2.0, (TOP + BOTTOM) / 2.0];
-        content += &text(middle, "middle", BLACK, "no file is accepted");
+        let at = [(LEFT + RIGHT) / 2.0, TOP + 40.0];
+        content += &text(at, "middle", BLACK, "no file is accepted");
     }
     let count = match files.len() {
-        1 => "1 file".to_string(),
-        count => format!("{count} files"),
+        1 => "1 accepted file".to_string(),
+        count => format!("{count} accepted files"),
     };
     let title = format!("Growth of {count}: nodes written against input nodes");
     drawing(HEIGHT, &title, &(content + &legend()))
+}
+
+#[cfg(test)]
+mod tests {
+    use super::*;
+
+    #[test]
+    fn powers_are_next_to_the_numbers() {
+        for (least, most, expected) in [
+            (1, 1, [0, 1]),
+            (1, 10, [0, 1]),
+            (9, 11, [0, 2]),
+            (10, 10, [1, 2]),
+            (45, 71, [1, 2]),
+            (100, 4096, [2, 4]),
+        ] {
+            assert_eq!(powers(least, most), expected, "{least} to {most}");
+        }
+    }
+
+    #[test]
+    fn any_figures_are_drawn() {
+        let mut lines = vec![[u32::MAX; 7], [0; 7], [22, 1, 1, 1, 1, 1, 1]];
+        lines[0][0] = 0;
+        let svg = draw(&lines);
+        assert!(!svg.contains("NaN") && !svg.contains("inf"));
+        // Two files, and the legend's.
+        assert_eq!(svg.matches("<circle").count(), 3);
+        assert!(svg.contains("cx=\"80.0\" cy=\"400.0\""));
+    }
 }

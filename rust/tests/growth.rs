@@ -145,7 +145,10 @@ fn random_lines() {
         let given = assert_same_growth(&words);
         counts[match given {
             Ok(_) => 0,
-            Err(Refusal { reason, .. }) if reason == PartialNode => 1,
+            Err(Refusal {
+                reason: PartialNode,
+                ..
+            }) => 1,
             Err(_) => 2,
         }] += 1;
         // What refused lines hold beside the number doesn't matter.
@@ -220,7 +223,10 @@ fn random_names() {
                 assert_eq!(count as usize, names.len());
                 0
             }
-            Err(Refusal { reason, .. }) if reason == TooManyNames => 1,
+            Err(Refusal {
+                reason: TooManyNames,
+                ..
+            }) => 1,
             Err(_) => 2,
         }] += 1;
     });

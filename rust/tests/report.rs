@@ -411,8 +411,8 @@ fn plots() {
             assert!((60.0..=400.0).contains(&y) || y > 450.0, "{y}");
         }
         let title = match accepted {
-            1 => "Growth of 1 file:".to_string(),
-            _ => format!("Growth of {accepted} files:"),
+            1 => "Growth of 1 accepted file:".to_string(),
+            _ => format!("Growth of {accepted} accepted files:"),
         };
         assert!(svg.contains(&title) && svg.contains("n + 5b + 4q"));
         assert_eq!(svg.contains("no file is accepted"), accepted == 0);

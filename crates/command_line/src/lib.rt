@@ -101,7 +101,7 @@ fn read_open(fd: i32, name: &[u8], text: &mut [u8]) -> Input
 }
 
 // Reads until the text is full, the input ends or a read fails.
-fn read_all(fd: i32, text: &mut [u8]) -> Input
+pub fn read_all(fd: i32, text: &mut [u8]) -> Input
     ensures { λ r. ⌜ Counts (r .length) (now (text .exit)) ⌝ }
 {
     let mut length = 0;

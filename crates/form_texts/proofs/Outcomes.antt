@@ -1,19 +1,18 @@
 -- Which way writing goes, by the form's verdict and the room, and what is owed of each outcome.
 -- Assumes nothing.
 use mathlib.Core.Path.{_≡_, refl, sym, _∙_, ap, subst}
-use mathlib.Core.List.{List, [], _∷_, _++_}
-use Prim.Native.Nat.{ℕ, _+_, _<_, _≤_}
+use mathlib.Core.List.{List, _++_}
+use Prim.Native.Nat.{ℕ, _<_, _≤_}
 use native.Mathlib.Omega.{arith}
 use lib.Dec.{eqb, ltb}
 use lib.ListN.{length, take}
-use borrow.Author.Tests.{eqb-true, eqb-false, ltb-true, ltb-false, lt-ltb, le-ltb}
+use borrow.Author.Tests.{eqb-true, eqb-false, ltb-true, ltb-false}
 use Rattle.lists.specs.Choice.{Is, is-true, is-false, look}
-use Rattle.lists.specs.Parts.{overwrite}
 use Rattle.lists.proofs.Overwrite.{start-of}
 use Rattle.refusals.specs.Verdict.{refusal, accepted}
-use Rattle.refusals.specs.Outcome.{Outcome, done, refused, unlessShort}
+use Rattle.refusals.specs.Outcome.{Outcome, done, refused}
 use Rattle.refusals.specs.declared.Verdict.{Verdict}
-use Rattle.refusals.proofs.Outcome.{call-next, call-refused, call-room, call-short}
+use Rattle.refusals.proofs.Outcome.{call-refused, call-room, call-short}
 use Rattle.form_check.specs.Verdict.{formVerdict}
 use Rattle.form_check.specs.Accepted.{AcceptedForm}
 use Rattle.form_check.specs.Order.{FirstOfForm, matrix, ragged, bad, none}
@@ -21,11 +20,8 @@ use Rattle.form_check.proofs.Order.{form-order}
 use Rattle.acceptance.specs.Limits.{TableLimits}
 use Rattle.form_check.proofs.Accepted.{form-holds, holds-form, number-zero}
 use Rattle.texts.specs.Put.{Put}
-use Rattle.form_texts.specs.Writing.{textOutcome, answerOf, after, Written, Suffices}
-
-no-elements : (l : List ℕ) → length l ≡ 0 → l ≡ []
-no-elements [] e = refl
-no-elements (x ∷ l) e = absurd (omega (arith, e))
+use Rattle.form_texts.specs.Writing.{textOutcome, after, Written, Suffices}
+use Rattle.form_texts.proofs.Texts.{written, roomy, text-refused, text-accepted, counted-short, counted-done}
 
 -- No form is refused by 9.
 not-nine : (lim : TableLimits) (ns ps xs : List ℕ) (v : Verdict) → FirstOfForm lim ns ps xs v → v .number ≡ 9 → ⊥
@@ -39,70 +35,40 @@ module _ (ns ps xs text before : List ℕ) where
   outcome : Outcome ℕ (List ℕ)
   outcome = textOutcome (formVerdict ns ps xs) text before
 
-  written : Outcome ℕ (List ℕ)
-  written = record { answer = done (length text); buffers = overwrite before 0 text }
-
-  -- what comes after the form's verdict
-  roomy : Outcome ℕ (List ℕ)
-  roomy = unlessShort (ltb (length before) (length text)) 0 before written
-
   pub is-refused : (number position : ℕ) → refusal number position ≡ formVerdict ns ps xs → (number ≡ 0 → ⊥)
       → after (record { number = number; position = position; bytes = 0 }) before ≡ textOutcome (formVerdict ns ps xs) text before
-  unfolding textOutcome answerOf refused refusal written roomy
-  is-refused number position e n = rw (← e) (sym (call-refused 0 before roomy (refusal number position) n))
+  is-refused number position e n = text-refused text before (formVerdict ns ps xs) number position e n
 
-  is-accepted : formVerdict ns ps xs ≡ accepted → outcome ≡ roomy
-  unfolding outcome textOutcome written roomy accepted
-  is-accepted e = call-next 0 before roomy (formVerdict ns ps xs) (ap (λ (v : Verdict). v .number) e)
-
-  is-short : formVerdict ns ps xs ≡ accepted → length before < length text
-      → after (record { number = 9; position = 0; bytes = 0 }) before ≡ outcome
-  unfolding answerOf refused roomy
-  is-short e h = sym (is-accepted e ∙ call-short 0 before written _ (lt-ltb _ _ h))
-
-  is-done : formVerdict ns ps xs ≡ accepted → length text ≤ length before
-      → after (record { number = 0; position = 0; bytes = length text }) (overwrite before 0 text) ≡ outcome
-  unfolding answerOf done accepted refusal written roomy
-  is-done e h = sym (is-accepted e ∙ call-room 0 before written _ (le-ltb _ _ h))
-
-  -- A walk over a part without bytes tells the size, and leaves the part without bytes.
   pub lines-short : (part lent : List ℕ) (n : ℕ) → AcceptedForm ns ps xs → Put lent 0 text part n → length lent ≡ 0 → length before < n
       → after (record { number = 9; position = 0; bytes = 0 }) (part ++ before) ≡ textOutcome (formVerdict ns ps xs) text before
-  unfolding outcome
   lines-short part lent n a put e h =
-      rw (no-elements part (put .kept ∙ e)) (is-short (holds-form _ ns ps xs a) (omega (arith, put .counted, h)))
+      counted-short text before (formVerdict ns ps xs) part lent n (holds-form _ ns ps xs a) put e h
 
-  -- The walk over the buffer, which has room, writes the text.
   pub lines-done : (part lent last : List ℕ) (n m : ℕ) → AcceptedForm ns ps xs → Put lent 0 text part n → length lent ≡ 0
       → n ≤ length before → Put (part ++ before) 0 text last m
       → after (record { number = 0; position = 0; bytes = n }) last ≡ textOutcome (formVerdict ns ps xs) text before
-  unfolding outcome
   lines-done part lent last n m a put e h over =
-      let size : n ≡ length text = omega (arith, put .counted) in
-      let room : 0 + length text ≤ length before = omega (arith, size, h) in
-      let over' : Put before 0 text last m =
-      subst (λ (l : List ℕ). Put (l ++ before) 0 text last m) (no-elements part (put .kept ∙ e)) over in
-      rw (size, over' .held room) (is-done (holds-form _ ns ps xs a) (omega (arith, room)))
+      counted-done text before (formVerdict ns ps xs) part lent last n m (holds-form _ ns ps xs a) put e h over
 
   -- What is owed of the outcome.
   data Way : Type 0 where
     refused-way : (formVerdict ns ps xs .number ≡ 0 → ⊥) → outcome ≡ record { answer = refused (formVerdict ns ps xs) 0; buffers = before } → Way
     short-way : formVerdict ns ps xs ≡ accepted → length before < length text
         → outcome ≡ record { answer = refused (refusal 9 0) 0; buffers = before } → Way
-    done-way : formVerdict ns ps xs ≡ accepted → length text ≤ length before → outcome ≡ written → Way
+    done-way : formVerdict ns ps xs ≡ accepted → length text ≤ length before → outcome ≡ written text before → Way
 
   way : Way
   unfolding outcome textOutcome written roomy
   way = go (look (eqb (formVerdict ns ps xs .number) 0)) (look (ltb (length before) (length text)))
     where
       go : Is (eqb (formVerdict ns ps xs .number) 0) → Is (ltb (length before) (length text)) → Way
-      go (is-false n) s = refused-way (eqb-false _ _ n) (call-refused 0 before roomy (formVerdict ns ps xs) (eqb-false _ _ n))
+      go (is-false n) s = refused-way (eqb-false _ _ n) (call-refused 0 before (roomy text before) (formVerdict ns ps xs) (eqb-false _ _ n))
       go (is-true z) (is-true s) =
           let e = number-zero _ ns ps xs (eqb-true _ _ z) in
-          short-way e (ltb-true _ _ s) (is-accepted e ∙ call-short 0 before written _ s)
+          short-way e (ltb-true _ _ s) (text-accepted text before _ e ∙ call-short 0 before (written text before) _ s)
       go (is-true z) (is-false s) =
           let e = number-zero _ ns ps xs (eqb-true _ _ z) in
-          done-way e (ltb-false _ _ s) (is-accepted e ∙ call-room 0 before written _ s)
+          done-way e (ltb-false _ _ s) (text-accepted text before _ e ∙ call-room 0 before (written text before) _ s)
 
   number : Outcome ℕ (List ℕ) → ℕ
   number o = o .answer .verdict .number

@@ -73,4 +73,3 @@ total-spec =
     accepted-requires
     total-lines-requires
     returns-3)
--- x
