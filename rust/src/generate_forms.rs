@@ -218,7 +218,7 @@ fn damage_matrix(rng: &mut Rng, words: &mut Vec<u32>) {
         // A word changed to anything.
         0 | 1 => node[rng.below(WIDTH)] = any_value(rng, nodes),
         // A wrong kind, or a block.
-        2 => node[0] = rng.pick(&[0, 5, 6, 7, 8, node[0] | 1 << 31, node[0] + 256, u32::MAX]),
+        2 => node[0] = rng.pick(&[0, 5, 6, 7, 8, node[0] | 1 << 31, node[0] | 256, u32::MAX]),
         // An operand at or above its node.
         3 | 4 => {
             let field = match node[0] {

@@ -6,7 +6,7 @@ mod common;
 use common::forms::prefill;
 use common::reports::{assert_library_report, assert_same_growth};
 use common::reports::{assert_same_names, assert_same_report};
-use common::reports::{names_text, some_lines, some_names};
+use common::reports::{equal_names, names_text, some_lines, some_names};
 use common::vectors::each_growth_vector;
 use common::{each, Prefill};
 use wakubinryo::growth::report;
@@ -162,13 +162,6 @@ fn random_lines() {
     assert!(counts.iter().all(|&c| c > 30), "{counts:?}");
 }
 
-/// So many names of so many bytes, with a line feed each.
-fn equal_names(count: usize, bytes: usize) -> Vec<u8> {
-    let mut name = vec![b'n'; bytes];
-    name.push(b'\n');
-    name.repeat(count)
-}
-
 #[test]
 fn limits_of_names() {
     let verdict = |text: &[u8]| {
@@ -206,7 +199,7 @@ fn limits_of_names() {
     assert_eq!(verdict(&[&*short, &name].concat()), long);
     assert_eq!(verdict(&[&*name, &short].concat()), long);
     assert_eq!(verdict(&[&*name, &short, b"x\n"].concat()), many);
-    // Of texts there is no limit.
+    // A text may have any length.
     assert_eq!(verdict(&vec![b'\n'; 5_000_000]), Ok(0));
     assert_eq!(verdict(&vec![b'n'; 5_000_000]), long);
     assert_eq!(verdict(&equal_names(1_000_000, 1)), many);

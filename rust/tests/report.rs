@@ -2,14 +2,12 @@
 //! what the reference writes. The program is in ../target/bin once `rt check
 //! growth_report` has been run.
 
-#![cfg(unix)]
-
 mod common;
 mod programs;
 
-use common::reports::{names_text, some_names};
+use common::reports::{equal_names, name, names_text, some_names};
 use common::vectors::each_month_vector;
-use common::{each, reference_form, reference_table};
+use common::{each, reference_table};
 use programs::{folder, output, rattle_program, refused, repository, tool};
 use std::ffi::OsStr;
 use std::fs::{self, File};
@@ -19,8 +17,8 @@ use std::process::{Command, Output};
 use wakubinryo::answer::line;
 use wakubinryo::generate::Rng;
 use wakubinryo::generate_qcir::{damage_once, exchange_names, good_file};
-use wakubinryo::growth;
 use wakubinryo::qcir::LONGEST;
+use wakubinryo::{growth, reference};
 use wakubinryo::{Line, Reason};
 
 const GOOD: &[u8] = b"#QCIR-G14\noutput(5)\n3 = exists(1; 1)\n4 = forall(2; 2)\n5 = xor(3, 4)\n";
@@ -34,7 +32,7 @@ fn reference_line(file: &Path) -> Line {
     let measured = match fs::read(file) {
         Err(_) => Err(Reason::Unreadable.at(0)),
         Ok(text) => match reference_table(&text) {
-            (Ok(_), table) => reference_form(&table).0,
+            (Ok(_), table) => reference::measure(&table.words, &table.list),
             (Err(refusal), _) => Err(refusal),
         },
     };
@@ -118,13 +116,6 @@ fn every_vector() {
     assert!(statuses.iter().all(|&count| count > 8), "{statuses:?}");
 }
 
-/// So many names of so many bytes, with a line feed each.
-fn equal_names(count: usize, bytes: usize) -> Vec<u8> {
-    let mut name = vec![b'n'; bytes];
-    name.push(b'\n');
-    name.repeat(count)
-}
-
 #[test]
 fn limits_of_names() {
     let folder = folder("limits_of_names");
@@ -141,7 +132,7 @@ fn limits_of_names() {
         (1, 256, Some(long)),
         (256, 256, Some(long)),
         (257, 256, Some(many)),
-        (4_000, 300, Some(many)),
+        (1_000, 300, Some(many)),
     ] {
         let (text, status) = assert_reported(&folder, &equal_names(count, bytes));
         match printed {
@@ -302,6 +293,7 @@ fn some_text(rng: &mut Rng) -> Vec<u8> {
 /// Folders of random files, under names of random bytes.
 #[test]
 fn random_folders() {
+    const FILES: usize = 10;
     let all = folder("random_folders");
     let mut statuses = [0; 3];
     let mut accepted = 0;
@@ -311,15 +303,20 @@ fn random_folders() {
         let missing = rng.pick(&[5, 20, 1_000]);
         let mut names = some_names(rng);
         names.retain(|name| !name.contains(&b'/'));
-        let mut input = Vec::new();
-        for name in names {
-            if !rng.one_in(missing) {
+        let mut input = names.clone();
+        for (i, name) in names.iter().enumerate() {
+            // Few names have files, and most of the others are those again.
+            if i >= FILES && !rng.one_in(4) {
+                input[i] = names[rng.below(FILES)].clone();
+            } else if i < FILES && !rng.one_in(missing) {
                 // No file has a name with a NUL byte, or of over 255 bytes.
-                let _ = fs::write(folder.join(path(&name)), some_text(rng));
+                let _ = fs::write(folder.join(path(name)), some_text(rng));
             }
-            for _ in 0..rng.pick(&[1, 1, 1, 2]) {
-                input.push(name.clone());
-            }
+        }
+        match rng.below(12) {
+            0 => input.insert(rng.below(input.len() + 1), name(rng, 256)),
+            1 => input.resize(257, name(rng, 3)),
+            _ => {}
         }
         let input = names_text(rng, &input);
         let (text, status) = assert_reported(&folder, &input);
@@ -329,7 +326,7 @@ fn random_folders() {
             accepted += numbers.iter().filter(|&&number| number == 0).count();
         }
     });
-    assert!(statuses.iter().all(|&count| count > 2), "{statuses:?}");
+    assert!(statuses.iter().all(|&count| count > 1), "{statuses:?}");
     assert!(accepted > 200, "{accepted}");
 }
 

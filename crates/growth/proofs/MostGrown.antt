@@ -3,7 +3,7 @@
 use mathlib.Core.Path.{_≡_, refl, sym, ap, _∙_, subst}
 use mathlib.Core.Bool.{Bool, true, false, not, _&&_, _||_}
 use Prim.Native.Nat.{ℕ, zero, suc, _+_, _*_, _≤_, _<_}
-use native.Mathlib.Nat.{mul-le-mul-right, mul-lt-mul-of-pos-right, lt-of-mul-lt-mul-right, mul-comm, mul-right-comm, lt-of-le-of-lt}
+use native.Mathlib.Nat.{mul-le-mul-right, mul-lt-mul-of-pos-right, lt-of-mul-lt-mul-right, mul-right-comm, lt-of-le-of-lt}
 use native.Mathlib.Numerals.{add-one}
 use native.Mathlib.Omega.{arith}
 use lib.Dec.{ltb}
@@ -38,7 +38,11 @@ use Rattle.growth.specs.Steps.{moreGrown}
 -- Fractions are compared by products, in whichever order the definition has the factors.
 pub less-products : (g h : Growth) → less g h ≡ ltb (g .written * h .input) (h .written * g .input)
 unfolding less
-less-products g h = cc (mul-comm (g .written) (h .input), mul-comm (h .written) (g .input))
+less-products g h = go (look (less g h))
+  where
+    go : Is (less g h) → less g h ≡ ltb (g .written * h .input) (h .written * g .input)
+    go (is-true t) = t ∙ sym (lt-ltb (g .written * h .input) (h .written * g .input) (omega (arith, ltb-true)))
+    go (is-false t) = t ∙ sym (le-ltb (g .written * h .input) (h .written * g .input) (omega (arith, ltb-false)))
 
 part-yes : (g : Growth) → 0 < g .input → takesPart g ≡ true
 unfolding takesPart

@@ -157,13 +157,7 @@ fn plus(sum: u64, x: u32) -> u64
     requires { ⌜ sum ≤ sumBound ⌝ }
     ensures { λ r. ⌜ (r ≡ sum + x) × (r ≤ sum + 4294967295) ⌝ }
 {
-    sum + wide(x)
-}
-
-fn wide(x: u32) -> u64
-    ensures { λ r. ⌜ (r ≡ x) × (r ≤ 4294967295) ⌝ }
-{
-    x as u64
+    sum + x as u64
 }
 
 // 0 for this number, 1 for any other.
@@ -180,8 +174,8 @@ fn growth_of(line: Line) -> Growth
     ensures { λ r. ⌜ (r ≡ growthOf line) × Narrow r ⌝ }
 {
     Growth {
-        written: wide(line.nodes),
-        input: wide(line.n),
+        written: line.nodes as u64,
+        input: line.n as u64,
     }
 }
 
@@ -207,14 +201,7 @@ fn less(g: Growth, h: Growth) -> bool
     requires { ⌜ Narrow g × Narrow h ⌝ }
     ensures { λ r. ⌜ r ≡ lessOf g h ⌝ }
 {
-    product(g.written, h.input) < product(h.written, g.input)
-}
-
-fn product(x: u64, y: u64) -> u64
-    requires { ⌜ (x ≤ 4294967295) × (y ≤ 4294967295) ⌝ }
-    ensures { λ r. ⌜ r ≡ x * y ⌝ }
-{
-    x * y
+    g.written * h.input < h.written * g.input
 }
 
 // Line i; a refused line's six figures are read as zeros.

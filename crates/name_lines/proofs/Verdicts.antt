@@ -5,9 +5,9 @@ use mathlib.Core.Bool.{Bool, true, false}
 use mathlib.Core.List.{List}
 use Prim.Native.Nat.{ℕ, _≤_, _<_}
 use native.Mathlib.Omega.{arith}
-use lib.Dec.{ltb}
+use lib.Dec.{eqb, ltb}
 use lib.ListN.{length}
-use borrow.Author.Tests.{ltb-true, ltb-false, lt-ltb, le-ltb}
+use borrow.Author.Tests.{eqb-true, eqb-false, ltb-true, ltb-false, lt-ltb, le-ltb}
 use Rattle.lists.specs.Choice.{pick, pick-yes, pick-no, Is, is-true, is-false, look}
 use Rattle.refusals.specs.Verdict.{refusal, accepted}
 use Rattle.refusals.specs.declared.Verdict.{Verdict}
@@ -67,3 +67,33 @@ counted-done ns v count e zero n =
     let verdict : v ≡ accepted = e ∙ passed (length ns) (someLong ns) number .verdict in
     (λ i. record { verdict = verdict i; sizes = n i })
     ∙ sym (answer-next (namesVerdict ns) 0 (done (length ns)) number)
+
+-- the answer says the verdict and, if it accepts, the number of names
+pub counted-verdict : (ns : List (List ℕ)) → counted ns .verdict ≡ namesVerdict ns
+unfolding counted done refused
+counted-verdict ns = go (look (eqb (namesVerdict ns .number) 0))
+  where
+    go : Is (eqb (namesVerdict ns .number) 0) → counted ns .verdict ≡ namesVerdict ns
+    go (is-true t) =
+        let zero = eqb-true _ 0 t in
+        ap (λ a. a .verdict) (answer-next (namesVerdict ns) 0 (done (length ns)) zero)
+        ∙ sym (passed (length ns) (someLong ns) zero .verdict)
+    go (is-false t) = ap (λ a. a .verdict) (answer-refused (namesVerdict ns) 0 (done (length ns)) (eqb-false _ 0 t))
+
+pub counted-number : (ns : List (List ℕ)) → namesVerdict ns .number ≡ 0 → counted ns .sizes ≡ length ns
+unfolding counted done
+counted-number ns zero = ap (λ a. a .sizes) (answer-next (namesVerdict ns) 0 (done (length ns)) zero)
+
+-- What can come: 20, 21 or acceptance, at 0.
+pub data Judged (v : Verdict) : Type 0 where
+  many : v ≡ refusal 20 0 → Judged v
+  long : v ≡ refusal 21 0 → Judged v
+  taken : v ≡ accepted → Judged v
+
+pub judged-as : (count : ℕ) (l : Bool) → Judged (judged count l)
+judged-as count l = go (look (ltb 256 count)) (look l)
+  where
+    go : Is (ltb 256 count) → Is l → Judged (judged count l)
+    go (is-true t) x = many (judged-many count l (ltb-true 256 count t))
+    go (is-false t) (is-true x) = long (judged-long count l (ltb-false 256 count t) x)
+    go (is-false t) (is-false x) = taken (judged-taken count l (ltb-false 256 count t) x)

@@ -167,6 +167,13 @@ pub fn names_text(rng: &mut Rng, names: &[Vec<u8>]) -> Vec<u8> {
     text
 }
 
+/// So many names of so many bytes, with a line feed each.
+pub fn equal_names(count: usize, bytes: usize) -> Vec<u8> {
+    let mut name = vec![b'n'; bytes];
+    name.push(b'\n');
+    name.repeat(count)
+}
+
 /// Names, few and short but for some that are at the limits or over them.
 pub fn some_names(rng: &mut Rng) -> Vec<Vec<u8>> {
     let count = match rng.below(20) {

@@ -1,18 +1,24 @@
--- `growth::less` meets its contract.
+-- `growth::less` meets its contract: products of 32-bit numbers fit.
 -- Assumes nothing.
-use borrow.Author.Needs.{needs}
+use mathlib.Core.Path.{sym}
+use native.Mathlib.Nat.{mul-le-mul}
+use native.Mathlib.Omega.{arith}
 use Rattle.growth.proofs.MostGrown.{less-products}
 use Rattle.growth.proofs.less.Statement.{statement}
 use Rattle.growth.proofs.less.Tie as tie
 
-product-requires : tie.Need-product-requires
-product-requires c κs = search needs
+mul-result : tie.Need-mul-result
+mul-result c =
+    let pre = c .before .before .pre in
+    let most = mul-le-mul (pre .0 .written) (pre .1 .input) in omega arith
 
-product-requires-2 : tie.Need-product-requires-2
-product-requires-2 c κs = search needs
+mul-result-2 : tie.Need-mul-result-2
+mul-result-2 c =
+    let pre = c .before .before .before .before .pre in
+    let most = mul-le-mul (pre .1 .written) (pre .0 .input) in omega arith
 
 returns : tie.Need-returns
-returns c = cc (less-products (c .before .before .args .g) (c .before .before .args .h))
+returns c = sym (less-products _ _)
 
 pub less-spec : {M : Type 1} → statement M
-less-spec = tie.close (tie.spec product-requires product-requires-2 returns)
+less-spec = tie.close (tie.spec mul-result mul-result-2 returns)

@@ -13,7 +13,7 @@ no-totals-requires c κs = search needs
 
 returns : tie.Need-returns
 unfolding refusedOf
-returns c = cc
+returns c = λ k. record { verdict = c .before .refusal .ensures k; sizes = c .no-totals .ensures k }
 
 pub refused-spec : {M : Type 1} → statement M
 refused-spec = tie.close (tie.spec refusal-requires no-totals-requires returns)

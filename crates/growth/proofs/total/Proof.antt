@@ -48,7 +48,9 @@ refused-requires-2 c κs = search needs
 
 returns-2 : tie.Need-returns-2
 returns-2 c =
-    c .refused2 .ensures ∙ sym (many _ (c .before .before .if1 .left) (c .before .if2 .taken))
+    let ws = c .before .before .before .before .args .lines .now in
+    let over : 256 < length ws / lineWidth = omega (arith, c .before .if2 .taken) in
+    c .refused2 .ensures ∙ sym (many ws (c .before .before .if1 .left) over)
 
 accepted-requires : tie.Need-accepted-requires
 accepted-requires c κs = search needs
@@ -59,8 +61,10 @@ total-lines-requires c κs = search needs
 returns-3 : tie.Need-returns-3
 unfolding done
 returns-3 c =
-    let at = c .before .before .before .before .before .args in
-    cc (taken (at .lines .now) (c .before .before .before .if1 .left) (omega (arith, c .before .before .if2 .left)))
+    let ws = c .before .before .before .before .before .args .lines .now in
+    let few : length ws / lineWidth ≤ 256 = omega (arith, c .before .before .if2 .left) in
+    (λ k. record { verdict = c .before .accepted .ensures k; sizes = c .total-lines .ensures k })
+    ∙ sym (taken ws (c .before .before .before .if1 .left) few)
 
 pub total-spec : {M : Type 1} → statement M
 total-spec =

@@ -6,6 +6,7 @@ use native.Mathlib.Omega.{arith}
 use borrow.Author.Needs.{needs}
 use Rattle.growth.specs.Lines.{lineAt}
 use Rattle.growth.specs.Totals.{totals as totalsOf}
+use Rattle.growth.specs.Steps.{withLine}
 use Rattle.growth.specs.Bounds.{Within}
 use Rattle.growth.proofs.Steps.{totals-start, totals-next, within-start, within-more}
 use Rattle.growth.proofs.total_lines.Statement.{statement}
@@ -42,8 +43,9 @@ loop-less c = search needs
 loop-again : tie.Need-loop-again Inv-loop μ-loop
 loop-again c =
     let turn = c .before .before .before .loop in
-    let next = totals-next (lineAt (c .before .before .before .before .before .before .args .lines .now)) (turn .i) in
-    (cc, within-more (omega arith) (c .add-line .ensures .1 _ (turn .inv .1)), omega arith)
+    let lines = lineAt (c .before .before .before .before .before .before .args .lines .now) in
+    let next = c .add-line .ensures .0 ∙ (λ k. withLine (turn .inv .0 k) (c .before .line-at .ensures k)) in
+    (next ∙ sym (totals-next lines (turn .i)), within-more (omega arith) (c .add-line .ensures .1 _ (turn .inv .1)), omega arith)
 
 returns : tie.Need-returns Inv-loop μ-loop
 returns c =
