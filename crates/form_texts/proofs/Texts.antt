@@ -9,10 +9,11 @@ use lib.ListN.{length}
 use borrow.Author.Tests.{lt-ltb, le-ltb}
 use Rattle.lists.specs.Parts.{overwrite}
 use Rattle.refusals.specs.Verdict.{refusal, accepted}
-use Rattle.refusals.specs.Outcome.{Outcome, done, refused, unlessShort}
+use Rattle.refusals.specs.Outcome.{AnswerWith, Outcome, done, refused, unlessShort}
 use Rattle.refusals.specs.declared.Verdict.{Verdict}
 use Rattle.refusals.proofs.Outcome.{call-next, call-refused, call-room, call-short}
 use Rattle.texts.specs.Put.{Put}
+use Rattle.form_texts.specs.declared.Answer.{Answer}
 use Rattle.form_texts.specs.Writing.{textOutcome, answerOf, after}
 
 no-elements : (l : List ℕ) → length l ≡ 0 → l ≡ []
@@ -63,3 +64,8 @@ module _ (text before : List ℕ) where
         let over' : Put before 0 text last m =
         subst (λ (l : List ℕ). Put (l ++ before) 0 text last m) (no-elements part (put .kept ∙ none)) over in
         rw (size, over' .held room) (text-done e (omega (arith, room)))
+
+-- what is promised of an answer holds of an equal one
+pub write-said : (P : Outcome ℕ (List ℕ) → Type 0) (held : List ℕ) (r : Answer) (a : AnswerWith ℕ) → a ≡ answerOf r
+    → P (after r held) → P (record { answer = a; buffers = held })
+write-said P held r a e h = subst (λ (x : AnswerWith ℕ). P (record { answer = x; buffers = held })) (sym e) h

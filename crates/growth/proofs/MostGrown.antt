@@ -1,7 +1,7 @@
 -- The file that grew most: the laws of specs/Laws.antt, and what one file more makes of its growth.
 -- Assumes nothing.
 use mathlib.Core.Path.{_≡_, refl, sym, ap, _∙_, subst}
-use mathlib.Core.Bool.{Bool, true, false, not, _&&_, _||_}
+use mathlib.Core.Bool.{Bool, true, false, _&&_}
 use Prim.Native.Nat.{ℕ, zero, suc, _+_, _*_, _≤_, _<_}
 use native.Mathlib.Nat.{mul-le-mul-right, mul-lt-mul-of-pos-right, lt-of-mul-lt-mul-right, mul-right-comm, lt-of-le-of-lt}
 use native.Mathlib.Numerals.{add-one}
@@ -9,25 +9,7 @@ use native.Mathlib.Omega.{arith}
 use lib.Dec.{ltb}
 use borrow.Author.Count.{below-more}
 use borrow.Author.Tests.{ltb-true, ltb-false, lt-ltb, le-ltb, not-true}
-use Rattle.lists.specs.Choice.{
-  pick,
-  pick-yes,
-  pick-no,
-  Is,
-  is-true,
-  is-false,
-  look,
-  clash,
-  absent,
-  and-left,
-  and-right,
-  and-both,
-  and-off-left,
-  and-off-right,
-  or-left,
-  or-right,
-  or-neither,
-}
+use Rattle.lists.specs.Choice.{pick, pick-yes, pick-no, Is, is-true, is-false, look, clash, absent, and-left, and-right, and-both}
 use Rattle.lists.specs.Search.{lowest, someBelow}
 use Rattle.lists.proofs.Search.{lowest-before, lowest-is, lowest-none}
 use Rattle.growth.specs.declared.Growth.{Growth}
@@ -36,13 +18,20 @@ use Rattle.growth.specs.Laws.{GrewMost, MostGrewMost, OnlyMost, NoneMost
 use Rattle.growth.specs.Steps.{moreGrown}
 
 -- Fractions are compared by products, in whichever order the definition has the factors.
-pub less-products : (g h : Growth) → less g h ≡ ltb (g .written * h .input) (h .written * g .input)
+less-products : (g h : Growth) → less g h ≡ ltb (g .written * h .input) (h .written * g .input)
 unfolding less
 less-products g h = go (look (less g h))
   where
     go : Is (less g h) → less g h ≡ ltb (g .written * h .input) (h .written * g .input)
     go (is-true t) = t ∙ sym (lt-ltb (g .written * h .input) (h .written * g .input) (omega (arith, ltb-true)))
     go (is-false t) = t ∙ sym (le-ltb (g .written * h .input) (h .written * g .input) (omega (arith, ltb-false)))
+
+-- A test that passes exactly if the products say so is `less`.
+pub compared : (g h : Growth) (t : Bool) → (t ≡ true → g .written * h .input < h .written * g .input)
+    → (t ≡ false → h .written * g .input ≤ g .written * h .input)
+    → t ≡ less g h
+compared g h true more most = sym (less-products g h ∙ lt-ltb _ _ (more refl))
+compared g h false more most = sym (less-products g h ∙ le-ltb _ _ (most refl))
 
 part-yes : (g : Growth) → 0 < g .input → takesPart g ≡ true
 unfolding takesPart

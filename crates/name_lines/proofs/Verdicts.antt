@@ -9,10 +9,11 @@ use lib.Dec.{eqb, ltb}
 use lib.ListN.{length}
 use borrow.Author.Tests.{eqb-true, eqb-false, ltb-true, ltb-false, lt-ltb, le-ltb}
 use Rattle.lists.specs.Choice.{pick, pick-yes, pick-no, Is, is-true, is-false, look}
-use Rattle.refusals.specs.Verdict.{refusal, accepted}
+use Rattle.refusals.specs.Verdict.{refusal, accepted, Plain}
 use Rattle.refusals.specs.declared.Verdict.{Verdict}
 use Rattle.refusals.specs.Outcome.{AnswerWith, done, refused}
 use Rattle.refusals.proofs.Outcome.{answer-next, answer-refused}
+use Rattle.refusals.proofs.Plain.{plain-refusal, plain-accepted}
 use Rattle.name_lines.specs.Names.{someLong, judged, namesVerdict, counted}
 
 -- over 256 names, whether one is long or not
@@ -97,3 +98,24 @@ judged-as count l = go (look (ltb 256 count)) (look l)
     go (is-true t) x = many (judged-many count l (ltb-true 256 count t))
     go (is-false t) (is-true x) = long (judged-long count l (ltb-false 256 count t) x)
     go (is-false t) (is-false x) = taken (judged-taken count l (ltb-false 256 count t) x)
+
+-- a plain answer, of at most 256 names
+pub counted-plain : (ns : List (List ℕ)) → Plain (counted ns .verdict)
+counted-plain ns = subst Plain (sym (counted-verdict ns)) (go (judged-as (length ns) (someLong ns)))
+  where
+    go : Judged (namesVerdict ns) → Plain (namesVerdict ns)
+    go (many e) = subst Plain (sym e) (plain-refusal 20 0)
+    go (long e) = subst Plain (sym e) (plain-refusal 21 0)
+    go (taken e) = subst Plain (sym e) plain-accepted
+
+pub counted-few : (ns : List (List ℕ)) → counted ns .sizes ≤ 256
+unfolding counted refused
+counted-few ns = go (look (eqb (namesVerdict ns .number) 0))
+  where
+    go : Is (eqb (namesVerdict ns .number) 0) → counted ns .sizes ≤ 256
+    go (is-true t) =
+        let zero = eqb-true _ 0 t in
+        omega (arith, counted-number ns zero, passed (length ns) (someLong ns) zero .few)
+    go (is-false t) =
+        let none : counted ns .sizes ≡ 0 = ap (λ a. a .sizes) (answer-refused (namesVerdict ns) 0 (done (length ns)) (eqb-false _ 0 t)) in
+        omega arith

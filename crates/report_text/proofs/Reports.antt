@@ -4,7 +4,7 @@ use mathlib.Core.Path.{_≡_, refl, sym, ap, _∙_, subst}
 use mathlib.Core.List.{List, [], _++_}
 use Prim.Native.Nat.{ℕ, _*_, _/_, _%_, _≤_, _<_}
 use native.Mathlib.Omega.{arith}
-use lib.ListN.{length}
+use lib.ListN.{length, length-append}
 use borrow.Author.Tests.{eq-eqb, ne-eqb, le-ltb}
 use Rattle.lists.specs.Choice.{pick-yes, pick-no}
 use Rattle.refusals.specs.Verdict.{refusal, accepted}
@@ -22,6 +22,7 @@ use Rattle.name_lines.specs.Names.{names, namesVerdict, counted}
 use Rattle.name_lines.proofs.Verdicts.{Judged, many, long, taken, judged-as, counted-verdict, counted-number, passed}
 use Rattle.report_text.specs.Report.{nameLines, lineText, totalWord, reportText, reportVerdict, reported}
 use Rattle.report_text.specs.Bounds.{LineEach, reportRoom}
+use Rattle.report_text.specs.Promise.{Reports}
 use Rattle.report_text.proofs.Lines.{few-names}
 
 -- the totals of whole lines, at most 256 of them
@@ -39,18 +40,21 @@ totals-of text ws count e =
 -- a refusal by a number at 0 that is not 9
 refused-by : (text ws before : List ℕ) (r : Answer) (number : ℕ) → r .number ≡ number → r .position ≡ 0 → r .bytes ≡ 0
     → refusal number 0 ≡ reportVerdict (names text) ws → (number ≡ 0 → ⊥) → (number ≡ 9 → ⊥)
-    → (after r before ≡ reported text ws before) × Suffices reportRoom before (after r before)
+    → Reports text ws before (after r before)
 unfolding reported Suffices answerOf refusal
-refused-by text ws before r number n p b v zero nine = (
-  (λ i. after (record { number = n i; position = p i; bytes = b i }) before)
-  ∙ text-refused (reportText (names text) (lineAt ws)) before (reportVerdict (names text) ws) number 0 v zero,
-  λ e. absurd (nine (sym n ∙ e)),
-)
+refused-by text ws before r number n p b v zero nine =
+    record {
+      outcome =
+          (λ i. after (record { number = n i; position = p i; bytes = b i }) before)
+          ∙ text-refused (reportText (names text) (lineAt ws)) before (reportVerdict (names text) ws) number 0 v zero;
+      within = omega (arith, b);
+      room = λ e. absurd (nine (sym n ∙ e));
+    }
 
 -- names that are refused
 pub names-refused : (text ws before : List ℕ) (r : Answer) (v : Verdict) → v ≡ counted (names text) .verdict → (v .number ≡ 0 → ⊥)
     → r .number ≡ v .number → r .position ≡ 0 → r .bytes ≡ 0
-    → (after r before ≡ reported text ws before) × Suffices reportRoom before (after r before)
+    → Reports text ws before (after r before)
 unfolding reportVerdict refusal accepted
 names-refused text ws before r v e refuses n p b = go (judged-as _ _)
   where
@@ -60,7 +64,7 @@ names-refused text ws before r v e refuses n p b = go (judged-as _ _)
     whole : reportVerdict (names text) ws ≡ namesVerdict (names text)
     whole = pick-no _ _ _ (ne-eqb _ 0 (subst (λ w. w .number ≡ 0 → ⊥) same refuses))
 
-    go : Judged (namesVerdict (names text)) → (after r before ≡ reported text ws before) × Suffices reportRoom before (after r before)
+    go : Judged (namesVerdict (names text)) → Reports text ws before (after r before)
     go (many h) =
         refused-by text ws before r 20 (n ∙ ap (λ w. w .number) (same ∙ h)) p b (sym (whole ∙ h)) (λ z. omega (arith, z)) (λ z. omega (arith, z))
     go (long h) =
@@ -80,7 +84,7 @@ module _ (text ws : List ℕ) (v : Verdict) (count : ℕ) (e : record { verdict 
 
   -- another number of lines
   pub lines-refused : (before : List ℕ) (r : Answer) → (length ws ≡ lineWidth * count → ⊥) → r .number ≡ 1 → r .position ≡ 0 → r .bytes ≡ 0
-      → (after r before ≡ reported text ws before) × Suffices reportRoom before (after r before)
+      → Reports text ws before (after r before)
   unfolding reportVerdict
   lines-refused before r other n p b =
       let wrong : length ws ≡ lineWidth * length (names text) → ⊥ = λ h. other (h ∙ ap (λ k. lineWidth * k) (sym names-count)) in
@@ -108,22 +112,27 @@ module _ (text ws before : List ℕ) (count : ℕ) (e : LineEach text ws count) 
 
   pub report-short : (part lent : List ℕ) (n : ℕ) (r : Answer) → Put lent 0 (putText text ws t) part n → length lent ≡ 0 → length before < n
       → n ≤ reportRoom → r .number ≡ 9 → r .position ≡ 0 → r .bytes ≡ 0
-      → (after r (part ++ before) ≡ reported text ws before) × Suffices reportRoom before (after r (part ++ before))
-  unfolding reported Suffices
-  report-short part lent n r put none short room number position bytes = (
-    (λ i. after (record { number = number i; position = position i; bytes = bytes i }) (part ++ before))
-    ∙ counted-short (reportText (names text) (lineAt ws)) before (reportVerdict (names text) ws) part lent n (each-accepted text ws count e)
-    (subst (λ p. Put lent 0 p part n) put-text put) none short,
-    λ _. omega arith,
-  )
+      → Reports text ws before (after r (part ++ before))
+  unfolding reported Suffices answerOf
+  report-short part lent n r put none short room number position bytes =
+      record {
+        outcome =
+            (λ i. after (record { number = number i; position = position i; bytes = bytes i }) (part ++ before))
+            ∙ counted-short (reportText (names text) (lineAt ws)) before (reportVerdict (names text) ws) part lent n (each-accepted text ws count e)
+            (subst (λ p. Put lent 0 p part n) put-text put) none short;
+        within = omega (arith, bytes);
+        room = λ _. omega arith;
+      }
 
   pub report-done : (part lent last : List ℕ) (n m : ℕ) → Put lent 0 (putText text ws t) part n → length lent ≡ 0 → n ≤ length before
       → Put (part ++ before) 0 (putText text ws t) last m
-      → (after (record { number = 0; position = 0; bytes = n }) last ≡ reported text ws before)
-      × Suffices reportRoom before (after (record { number = 0; position = 0; bytes = n }) last)
+      → Reports text ws before (after (record { number = 0; position = 0; bytes = n }) last)
   unfolding reported Suffices answerOf refusal
-  report-done part lent last n m put none room over = (
-    counted-done (reportText (names text) (lineAt ws)) before (reportVerdict (names text) ws) part lent last n m (each-accepted text ws count e)
-    (subst (λ p. Put lent 0 p part n) put-text put) none room (subst (λ p. Put (part ++ before) 0 p last m) put-text over),
-    λ z. absurd (omega (arith, z)),
-  )
+  report-done part lent last n m put none room over =
+      record {
+        outcome =
+            counted-done (reportText (names text) (lineAt ws)) before (reportVerdict (names text) ws) part lent last n m (each-accepted text ws count e)
+            (subst (λ p. Put lent 0 p part n) put-text put) none room (subst (λ p. Put (part ++ before) 0 p last m) put-text over);
+        within = omega (arith, over .kept, length-append part before);
+        room = λ z. absurd (omega (arith, z));
+      }

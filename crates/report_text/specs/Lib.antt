@@ -1,2 +1,3 @@
 pub mod Report
 pub mod Bounds
+pub mod Promise

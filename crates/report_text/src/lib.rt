@@ -4,7 +4,7 @@ ghost use mathlib.Core.Path.{_≡_};
 ghost use mathlib.Core.List.{_++_, flatMap};
 ghost use lib.ListN.{length};
 ghost use Rattle.texts.specs.Put.{Put};
-ghost use Rattle.form_texts.specs.Writing.{after, Suffices};
+ghost use Rattle.form_texts.specs.Writing.{after};
 ghost use Rattle.growth.specs.Lines.{lineAt, lineFigures};
 ghost use Rattle.growth.specs.Totals.{totalFigures};
 ghost use Rattle.name_lines.specs.Names.{names as namesOf};
@@ -13,10 +13,10 @@ ghost use Rattle.report_text.specs.Report.{
   figureText,
   lineText,
   nameLines,
-  reported,
   totalWord,
 };
 ghost use Rattle.report_text.specs.Bounds.{LineEach, mostLine, reportRoom};
+ghost use Rattle.report_text.specs.Promise.{Reports};
 ghost use Rattle.texts.specs.Bounds.{lastLine, lastPiece};
 use form_texts::Answer;
 use growth::LINE;
@@ -39,9 +39,7 @@ const WRONG_LINES: u32 = PARTIAL_NODE;
 // The contract rules out a report whose totals leave out a line, and one that prints a line's prefix
 // variables before its nodes.
 pub fn report(names: &[u8], lines: &[u32], out: &mut [u8]) -> Answer
-    ensures { λ r. ⌜ (after r (now (out .exit))
-        ≡ reported (now (names .entry)) (now (lines .entry)) (now (out .entry)))
-        × Suffices reportRoom (now (out .entry)) (after r (now (out .exit))) ⌝ }
+    ensures { λ r. ⌜ Reports (now (names .entry)) (now (lines .entry)) (now (out .entry)) (after r (now (out .exit))) ⌝ }
 {
     let found = name_lines::check_names(names);
     let verdict = found.verdict;
@@ -68,9 +66,7 @@ fn refused(number: u32) -> Answer
 // The same of names that are taken, with a line for each: the text is counted, and written if there is room.
 fn write(names: &[u8], lines: &[u32], count: usize, out: &mut [u8]) -> Answer
     requires { ⌜ LineEach (now names) (now lines) count ⌝ }
-    ensures { λ r. ⌜ (after r (now (out .exit))
-        ≡ reported (now (names .entry)) (now (lines .entry)) (now (out .entry)))
-        × Suffices reportRoom (now (out .entry)) (after r (now (out .exit))) ⌝ }
+    ensures { λ r. ⌜ Reports (now (names .entry)) (now (lines .entry)) (now (out .entry)) (after r (now (out .exit))) ⌝ }
 {
     let totalled = growth::total(lines);
     let totals = totalled.totals;

@@ -1,4 +1,4 @@
--- From the outcome of a reading or a writing to the one that C's words say.
+-- From the outcome of a reading to the one that C's words say.
 -- Assumes nothing.
 use mathlib.Core.Path.{_≡_, sym, subst}
 use mathlib.Core.List.{List}
@@ -6,8 +6,6 @@ use Prim.Native.Nat.{ℕ}
 use Rattle.refusals.specs.Outcome.{AnswerWith, Outcome}
 use Rattle.qcir.specs.FromText.{limits}
 use Rattle.qcir.specs.Reading.{Written, Buffers, buffers, Reading, Only, TableWritten}
-use Rattle.form_texts.specs.declared.Answer.{Answer as TextAnswer}
-use Rattle.form_texts.specs.Writing.{answerOf as textAnswerOf, after as textAfter}
 use Rattle.qcir_reader.specs.declared.Answer.{Answer}
 use Rattle.qcir_reader.specs.Reads.{answerOf, after}
 
@@ -18,8 +16,3 @@ Said text before o = Reading limits text before o × (Only limits text before o 
 -- what is promised of an answer holds of an equal one
 pub read-said : (text words list words' list' : List ℕ) (r : Answer) (a : AnswerWith Written) → a ≡ answerOf r → Said text (buffers words list) (after r (buffers words' list')) → Said text (buffers words list) (record { answer = a; buffers = buffers words' list' })
 read-said text words list words' list' r a e h = subst (λ (x : AnswerWith Written). Said text (buffers words list) (record { answer = x; buffers = buffers words' list' })) (sym e) h
-
--- the same of a writing
-pub write-said : (P : Outcome ℕ (List ℕ) → Type 0) (held : List ℕ) (r : TextAnswer) (a : AnswerWith ℕ) → a ≡ textAnswerOf r
-    → P (textAfter r held) → P (record { answer = a; buffers = held })
-write-said P held r a e h = subst (λ (x : AnswerWith ℕ). P (record { answer = x; buffers = held })) (sym e) h

@@ -1,4 +1,4 @@
--- The answers of reading and writing that C's words say.
+-- The answers of reading that C's words say.
 -- Assumes nothing.
 use mathlib.Core.List.{List}
 use Prim.Native.Nat.{ℕ}
@@ -17,10 +17,3 @@ writtenAnswer a =
 
 abbrev pub readOutcome : List ℕ → Buffers → Outcome Written Buffers
 readOutcome a held = record { answer = writtenAnswer a; buffers = held }
-
--- An answer of three 64-bit words: number and position, and the bytes written.
-unfoldable pub textAnswer : List ℕ → AnswerWith ℕ
-textAnswer a = record { verdict = refusal (getD a 0 0) (getD a 1 0); sizes = getD a 2 0 }
-
-abbrev pub textOutcome : List ℕ → List ℕ → Outcome ℕ (List ℕ)
-textOutcome a held = record { answer = textAnswer a; buffers = held }

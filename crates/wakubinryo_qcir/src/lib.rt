@@ -5,11 +5,10 @@ ghost use Rattle.refusals.specs.Verdict.{Plain};
 ghost use Rattle.qcir.specs.FromText.{limits};
 ghost use Rattle.qcir.specs.Reading.{buffers, Reading, Only, TableWritten};
 ghost use Rattle.qcir_reader.specs.Reads.{answerOf};
-ghost use Rattle.form_texts.specs.Writing.{answerOf as writingOf};
+ghost use Rattle.form_texts.specs.Words.{saidOutcome};
 ghost use Rattle.qcir_writer.specs.Writing.{writeOutcome, TextWritten, RoomSuffices};
 ghost use Rattle.qdimacs_writer.specs.Writing as clauses;
-ghost use Rattle.wakubinryo_qcir.specs.Words.{writtenAnswer, readOutcome, textAnswer, textOutcome};
-use form_texts::Answer as TextAnswer;
+ghost use Rattle.wakubinryo_qcir.specs.Words.{writtenAnswer, readOutcome};
 use qcir_reader::Answer;
 
 // Reads a QCIR text into a formula table: number, position, words and list entries written.
@@ -57,16 +56,16 @@ pub extern "C" fn wakubinryo_write_qcir(
     answer: &mut [u64; 3],
 )
     ensures outcome { λ _.
-        ⌜ textOutcome (now (answer .exit)) (now (text .exit))
+        ⌜ saidOutcome (now (answer .exit)) (now (text .exit))
         ≡ writeOutcome (now (nodes .entry)) (now (prefix .entry)) (now (variables .entry)) (now (text .entry)) ⌝ }
     ensures written { λ _.
         ⌜ TextWritten (now (nodes .entry)) (now (prefix .entry)) (now (variables .entry))
-        (textOutcome (now (answer .exit)) (now (text .exit))) ⌝ }
+        (saidOutcome (now (answer .exit)) (now (text .exit))) ⌝ }
     ensures room { λ _.
         ⌜ RoomSuffices (now (nodes .entry)) (now (prefix .entry)) (now (variables .entry)) (now (text .entry))
-        (textOutcome (now (answer .exit)) (now (text .exit))) ⌝ }
+        (saidOutcome (now (answer .exit)) (now (text .exit))) ⌝ }
 {
-    put_text_answer(answer, qcir_writer::write(nodes, prefix, variables, text));
+    form_texts::put_text_answer(answer, qcir_writer::write(nodes, prefix, variables, text));
 }
 
 // Writes a prenex form as a QDIMACS text: number, position and bytes written.
@@ -81,23 +80,17 @@ pub extern "C" fn wakubinryo_write_qdimacs(
     answer: &mut [u64; 3],
 )
     ensures outcome { λ _.
-        ⌜ textOutcome (now (answer .exit)) (now (text .exit))
+        ⌜ saidOutcome (now (answer .exit)) (now (text .exit))
         ≡ clauses.writeOutcome (now (nodes .entry)) (now (prefix .entry)) (now (variables .entry)) (now (text .entry)) ⌝ }
     ensures written { λ _.
         ⌜ clauses.ClausesWritten (now (nodes .entry)) (now (prefix .entry)) (now (variables .entry))
-        (textOutcome (now (answer .exit)) (now (text .exit))) ⌝ }
+        (saidOutcome (now (answer .exit)) (now (text .exit))) ⌝ }
     ensures room { λ _.
         ⌜ clauses.RoomSuffices (now (nodes .entry)) (now (prefix .entry)) (now (variables .entry)) (now (text .entry))
-        (textOutcome (now (answer .exit)) (now (text .exit))) ⌝ }
+        (saidOutcome (now (answer .exit)) (now (text .exit))) ⌝ }
 {
-    put_text_answer(
+    form_texts::put_text_answer(
         answer,
         qdimacs_writer::write(nodes, prefix, variables, text),
     );
-}
-
-fn put_text_answer(answer: &mut [u64; 3], a: TextAnswer)
-    ensures { λ _. ⌜ textAnswer (now (answer .exit)) ≡ writingOf a ⌝ }
-{
-    *answer = [a.number as u64, a.position, a.bytes as u64];
 }

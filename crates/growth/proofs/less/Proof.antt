@@ -1,9 +1,9 @@
 -- `growth::less` meets its contract: products of 32-bit numbers fit.
 -- Assumes nothing.
-use mathlib.Core.Path.{sym}
 use native.Mathlib.Nat.{mul-le-mul}
 use native.Mathlib.Omega.{arith}
-use Rattle.growth.proofs.MostGrown.{less-products}
+use borrow.Author.Tests.{ltb-true, ltb-false}
+use Rattle.growth.proofs.MostGrown.{compared}
 use Rattle.growth.proofs.less.Statement.{statement}
 use Rattle.growth.proofs.less.Tie as tie
 
@@ -18,7 +18,9 @@ mul-result-2 c =
     let most = mul-le-mul (pre .1 .written) (pre .0 .input) in omega arith
 
 returns : tie.Need-returns
-returns c = sym (less-products _ _)
+returns c =
+    let at = c .before .before .before .before .args in
+    compared (at .g) (at .h) _ (λ t. omega (arith, ltb-true)) (λ t. omega (arith, ltb-false))
 
 pub less-spec : {M : Type 1} → statement M
 less-spec = tie.close (tie.spec mul-result mul-result-2 returns)

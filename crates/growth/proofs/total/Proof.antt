@@ -56,7 +56,7 @@ accepted-requires : tie.Need-accepted-requires
 accepted-requires c κs = search needs
 
 total-lines-requires : tie.Need-total-lines-requires
-total-lines-requires c κs = search needs
+total-lines-requires c κs = (omega arith, omega arith)
 
 returns-3 : tie.Need-returns-3
 unfolding done

@@ -60,7 +60,7 @@ loop-again c =
     omega (arith, start .pre .number, c .before .before .before .before .before .before .loop-test .taken) in
     let this : List ℕ = part (start .args .names .now) (name .result .from) (name .result .end) in (
       lines-next _ _ _ _ _ _ _ (turn .inv .0) _ (name .ensures) left _ _
-      (put-as (ap (λ l. lineText this (lineFigures l)) (sym line)) (put .0)) (put .1),
+          (put-as (ap (λ l. lineText this (lineFigures l)) (sym line)) (put .0)) (put .1),
       omega arith,
     )
 

@@ -3,7 +3,7 @@
 use mathlib.Core.Path.{_≡_}
 use borrow.Author.Needs.{needs}
 use Rattle.qcir_writer.specs.Writing.{writeOutcome, TextWritten, RoomSuffices}
-use Rattle.wakubinryo_qcir.proofs.Answers.{write-said}
+use Rattle.form_texts.proofs.Texts.{write-said}
 use Rattle.wakubinryo_qcir.proofs.wakubinryo_write_qcir.Statement.{statement}
 use Rattle.wakubinryo_qcir.proofs.wakubinryo_write_qcir.Tie as tie
 

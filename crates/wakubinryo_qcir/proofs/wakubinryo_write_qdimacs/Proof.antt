@@ -3,7 +3,7 @@
 use mathlib.Core.Path.{_≡_}
 use borrow.Author.Needs.{needs}
 use Rattle.qdimacs_writer.specs.Writing.{writeOutcome, ClausesWritten, RoomSuffices}
-use Rattle.wakubinryo_qcir.proofs.Answers.{write-said}
+use Rattle.form_texts.proofs.Texts.{write-said}
 use Rattle.wakubinryo_qcir.proofs.wakubinryo_write_qdimacs.Statement.{statement}
 use Rattle.wakubinryo_qcir.proofs.wakubinryo_write_qdimacs.Tie as tie
 

@@ -1,11 +1,11 @@
--- `wakubinryo_qcir::put_text_answer` meets its contract.
+-- `form_texts::put_text_answer` meets its contract.
 -- Assumes nothing.
 use mathlib.Core.Path.{refl}
 use borrow.Author.Needs.{needs}
 use Rattle.form_texts.specs.Writing.{answerOf}
-use Rattle.wakubinryo_qcir.specs.Words.{textAnswer}
-use Rattle.wakubinryo_qcir.proofs.put_text_answer.Statement.{statement}
-use Rattle.wakubinryo_qcir.proofs.put_text_answer.Tie as tie
+use Rattle.form_texts.specs.Words.{textAnswer}
+use Rattle.form_texts.proofs.put_text_answer.Statement.{statement}
+use Rattle.form_texts.proofs.put_text_answer.Tie as tie
 
 cast-t3 : tie.Need-cast-t3
 cast-t3 c = search needs
