@@ -109,7 +109,10 @@ fn write_report(names: &[u8], lines: &[u32], text: &mut [u8]) {
 }
 
 // A line for each name, of 256 at most; how many there are.
-fn measure_files(names: &[u8], lines: &mut [u32]) -> usize {
+fn measure_files(names: &[u8], lines: &mut [u32]) -> usize
+    requires { ⌜ length (now lines) ≡ 1792 ⌝ }
+    ensures { λ r. ⌜ (r ≤ 256) × (length (namesOf (now (names .entry))) ≤ 256 → r ≡ length (namesOf (now (names .entry)))) ⌝ }
+{
     let mut from = 0;
     let mut i = 0;
     while i < LINES {

@@ -1,70 +1,55 @@
+-- `growth_report::read_names` meets its contract.
+-- Assumes nothing.
 use borrow.Author.Needs.{needs}
-use native.Mathlib.Omega.{arith}
+use mathlib.Core.Path.{_≡_}
+use lib.ListN.{length}
 use Rattle.growth_report.proofs.read_names.Statement.{statement}
 use Rattle.growth_report.proofs.read_names.Tie as tie
-use Rattle.growth_report.proofs.read_names.Reads as reads
-use Rattle.growth_report.proofs.read_names.Lts as lts
-use Rattle.growth_report.proofs.names_given.Reads as names-given-reads
-use Rattle.growth_report.proofs.read_part.Reads as read-part-reads
-use Rattle.name_lines.proofs.start.Reads as start-reads
 
 abbrev Inv-loop : tie.InvT-loop
-Inv-loop kept₀ p₀ turns₀ kept p turns = ?
+Inv-loop kept₀ p₀ turns₀ kept p turns = length kept ≡ length kept₀
 
 abbrev μ-loop : tie.MeasureT-loop
-μ-loop kept₀ p₀ turns₀ kept p turns = ?
+μ-loop kept₀ p₀ turns₀ kept p turns = turns
 
--- src/main.rt:58:27
 start-requires : tie.Need-start-requires Inv-loop μ-loop
-start-requires c κs = ?
+start-requires c κs = search needs
 
--- src/main.rt:58:9
 read-part-requires : tie.Need-read-part-requires Inv-loop μ-loop
-read-part-requires c κs = ?
+read-part-requires c κs = search needs
 
--- src/main.rt:60:5
 loop-holds : tie.Need-loop-holds Inv-loop μ-loop
-loop-holds c = ?
+loop-holds c = search needs
 
--- src/main.rt:62:13
 names-given-requires : tie.Need-names-given-requires Inv-loop μ-loop
-names-given-requires c κs = ?
+names-given-requires c κs = search needs
 
--- src/main.rt:62:13
 same-length : tie.Need-same-length Inv-loop μ-loop
-same-length c = ?
+same-length c = search needs
 
--- src/main.rt:62:13
 returns : tie.Need-returns Inv-loop μ-loop
-returns c = ?
+returns c = search needs
 
--- src/main.rt:64:9
 sub-turns : tie.Need-sub-turns Inv-loop μ-loop
-sub-turns c = ?
+sub-turns c = search needs
 
--- src/main.rt:65:9
 read-part-requires-2 : tie.Need-read-part-requires-2 Inv-loop μ-loop
-read-part-requires-2 c κs = ?
+read-part-requires-2 c κs = search needs
 
--- src/main.rt:60:5
 loop-less : tie.Need-loop-less Inv-loop μ-loop
-loop-less c = ?
+loop-less c = search needs
 
--- src/main.rt:60:5
 loop-again : tie.Need-loop-again Inv-loop μ-loop
-loop-again c = ?
+loop-again c = search needs
 
--- src/main.rt:67:5
 names-given-requires-2 : tie.Need-names-given-requires-2 Inv-loop μ-loop
-names-given-requires-2 c κs = ?
+names-given-requires-2 c κs = search needs
 
--- src/main.rt:55:1
 same-length-2 : tie.Need-same-length-2 Inv-loop μ-loop
-same-length-2 c = ?
+same-length-2 c = search needs
 
--- src/main.rt:55:1
 returns-2 : tie.Need-returns-2 Inv-loop μ-loop
-returns-2 c = ?
+returns-2 c = search needs
 
 pub read-names-spec : {M : Type 1} → statement M
 read-names-spec =
