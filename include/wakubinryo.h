@@ -1,7 +1,8 @@
 /*
  * wakubinryo: QCIR files to prenex QCIR and QDIMACS files, in one call
  * (wakubinryo_lift_text) or step by step: files to formula tables, these to
- * prenex forms, and forms to files.
+ * prenex forms, and forms to files. And growth reports: what lifting makes of
+ * many files.
  *
  * FORMULA TABLES
  *
@@ -172,6 +173,30 @@
  *
  * Order: 23, 10, 11, 13, 12, 2, 6, 24, 9.
  *
+ * GROWTH REPORTS
+ *
+ * A growth report has a line of figures for each of up to 256 files, and the
+ * totals. A line of figures is seven 32-bit words: the number of a refusal or 0,
+ * n, b, q and d of the file's table, and the nodes and prefix variables of its
+ * prenex form. If the number is not 0 the other six are read as zeros, whatever
+ * they are. Number 22 says that the file could not be read: no call here answers
+ * it, since none opens a file.
+ *
+ * Names stand in a text, one a line. Empty lines are skipped, the last line ends
+ * with or without LF, and a name is any bytes but LF.
+ *
+ *   number  given when                                                position
+ *   20      there are over 256 names, or over 256 lines of figures    0
+ *   21      a name is over 255 bytes                                  0
+ *   1       the words are no multiple of seven, or, where there are   0
+ *           names, not seven for each of them
+ *
+ * Order: of names 20, 21; of lines of figures 1, 20; of a report 20, 21, 1, 9.
+ *
+ * The growth of a file is its nodes written over its input nodes. The file that
+ * grew most is the first of those than which none grew more, by fractions of
+ * whole numbers; a file with 0 input nodes takes no part.
+ *
  * MEMORY
  *
  * All lengths count elements: 32-bit words, or bytes of a text. A call reads
@@ -189,6 +214,7 @@
  *   wakubinryo_lift_text_in, wakubinryo_measure_text,     704 KiB
  *   reading and writing texts
  *   calls about tables                                    256 KiB
+ *   calls about growth reports                             16 KiB
  */
 #ifndef WAKUBINRYO_H
 #define WAKUBINRYO_H
@@ -282,6 +308,37 @@ enum {
     WAKUBINRYO_MEASURE_TEXT_SIZES = 2,
     WAKUBINRYO_MEASURE_TEXT_ANSWER = 9
 };
+
+/* The words of a line of figures. */
+enum {
+    WAKUBINRYO_LINE_NUMBER = 0,    /* the number of a refusal, or 0 */
+    WAKUBINRYO_LINE_N = 1,         /* n, b, q, d of the file's table */
+    WAKUBINRYO_LINE_B = 2,
+    WAKUBINRYO_LINE_Q = 3,
+    WAKUBINRYO_LINE_DEPTH = 4,
+    WAKUBINRYO_LINE_NODES = 5,     /* nodes of its prenex form */
+    WAKUBINRYO_LINE_VARIABLES = 6, /* its prefix variables */
+    WAKUBINRYO_LINE_WORDS = 7
+};
+
+/* The answer of totalling lines of figures, of 64-bit words. */
+enum {
+    WAKUBINRYO_FILES_READ = 2,    /* lines with another number than 22 */
+    WAKUBINRYO_FILES_REFUSED = 3, /* lines with another number than 0 */
+    WAKUBINRYO_SUMS = 4,          /* the first of the six sums */
+    WAKUBINRYO_MOST_WRITTEN = 10, /* of the file that grew most: its nodes */
+    WAKUBINRYO_MOST_INPUT = 11,   /* written and its input nodes, or 0 and 0 */
+    WAKUBINRYO_GROWTH_ANSWER = 12
+};
+
+/* The answer of counting names. */
+enum {
+    WAKUBINRYO_NAMES = 2, /* how many there are */
+    WAKUBINRYO_NAMES_ANSWER = 3
+};
+
+/* Bytes that are always enough for a growth report. */
+#define WAKUBINRYO_REPORT_ROOM ((size_t)103384)
 
 /*
  * Bytes that are always enough for the QCIR text of a form with so many nodes,
@@ -506,6 +563,37 @@ void wakubinryo_write_qdimacs(const uint32_t *nodes, size_t nodes_len,
                               const uint32_t *variables, size_t variables_len,
                               uint8_t *text, size_t text_len,
                               uint64_t answer[WAKUBINRYO_WRITE_ANSWER]);
+
+/*
+ * Totals lines of figures: how many files were read and how many refused, the
+ * sums of the six figures, and the growth of the file that grew most.
+ *
+ * Numbers 0, 1 and 20. No sum wraps.
+ */
+void wakubinryo_growth(const uint32_t *lines, size_t lines_len,
+                       uint64_t answer[WAKUBINRYO_GROWTH_ANSWER]);
+
+/*
+ * Counts the names in a text. Numbers 0, 20 and 21.
+ */
+void wakubinryo_names(const uint8_t *names, size_t names_len,
+                      uint32_t answer[WAKUBINRYO_NAMES_ANSWER]);
+
+/*
+ * Writes a growth report: for each name a line of the name and the seven figures
+ * of the line at the same index, zeros if it is refused, and then a line of
+ * `total` and the ten words of wakubinryo_growth's answer after the position;
+ * single spaces between, LF at the end of each line.
+ *
+ * Numbers 0, 1, 9, 20 and 21. The answer is of 64-bit words, as for
+ * wakubinryo_write_qcir. If done, out holds the bytes of the report, and bytes
+ * after the last one keep their content. It gives 9 exactly if no other refusal
+ * applies and out is shorter than that; WAKUBINRYO_REPORT_ROOM is always enough.
+ */
+void wakubinryo_report(const uint8_t *names, size_t names_len,
+                       const uint32_t *lines, size_t lines_len,
+                       uint8_t *out, size_t out_len,
+                       uint64_t answer[WAKUBINRYO_WRITE_ANSWER]);
 
 #ifdef __cplusplus
 }

@@ -1,9 +1,15 @@
 // Reads names of QCIR files from standard input, one a line, and prints a line of figures for each and the totals
 // (request S-13); or the number of the refusal of the names.
-ghost use Prim.Native.Nat.{_≤_};
+ghost use Prim.Native.Nat.{ℕ, _≤_};
 ghost use mathlib.Core.Path.{_≡_};
-ghost use lib.ListN.{length};
-ghost use Rattle.name_lines.specs.Names.{names as namesOf};
+ghost use mathlib.Core.List.{List, _++_};
+ghost use lib.ListN.{length, take};
+ghost use Rattle.refusals.specs.Verdict.{accepted};
+ghost use Rattle.growth.specs.Lines.{lineAt};
+ghost use Rattle.name_lines.specs.Names.{names as namesOf, namesVerdict};
+ghost use Rattle.name_lines.specs.Kept.{HasRead, Taken};
+ghost use Rattle.report_text.specs.Report.{reportText};
+ghost use Rattle.report_text.specs.Bounds.{LineEach, reportRoom};
 use growth::LINE;
 use growth::LINES;
 use growth::Line;
@@ -33,7 +39,9 @@ fn main() {
     run(&mut kept);
 }
 
-fn run(kept: &mut [u8]) {
+fn run(kept: &mut [u8])
+    requires { ⌜ 65536 ≤ length (now kept) ⌝ }
+{
     let given = read_names(kept);
     if given.failed {
         os::fail(b"standard input");
@@ -50,10 +58,13 @@ fn run(kept: &mut [u8]) {
     report(&kept[..bytes]);
 }
 
-// All of standard input, in parts. A proved loop has to end, and nothing says that standard input does: so
-// the loop counts its turns down, from a number that no run uses up.
+// All of standard input, in parts: what is found of some text, and nothing says which, since no contract
+// tells what is read. A proved loop has to end, and nothing says that standard input does: so the loop counts
+// its turns down, from a number that no run uses up.
 fn read_names(kept: &mut [u8]) -> Given
-    ensures { λ r. ⌜ r .found .bytes ≤ length (now (kept .exit)) ⌝ }
+    requires { ⌜ 65536 ≤ length (now kept) ⌝ }
+    ensures { λ r. ⌜ (r .found .bytes ≤ length (now (kept .exit)))
+        × ((text : List ℕ) × Taken (namesOf text) (r .found) (now (kept .exit))) ⌝ }
 {
     let mut p = read_part(name_lines::start(kept), kept);
     let mut turns = u64::MAX;
@@ -68,14 +79,18 @@ fn read_names(kept: &mut [u8]) -> Given
 }
 
 fn names_given(s: State, failed: bool, kept: &mut [u8]) -> Given
-    ensures { λ r. ⌜ r .found .bytes ≤ length (now (kept .exit)) ⌝ }
+    ensures { λ r. ⌜ (r .found .bytes ≤ length (now (kept .exit)))
+        × ((text : List ℕ) → HasRead text s (now (kept .entry)) → Taken (namesOf text) (r .found) (now (kept .exit))) ⌝ }
 {
     let found = name_lines::finish(s, kept);
     Given { found, failed }
 }
 
 // One read of standard input.
-fn read_part(s: State, kept: &mut [u8]) -> Part {
+fn read_part(s: State, kept: &mut [u8]) -> Part
+    ensures { λ r. ⌜ ((text : List ℕ) → HasRead text s (now (kept .entry))
+        → ((part : List ℕ) × HasRead (text ++ part) (r .state) (now (kept .exit)))) ⌝ }
+{
     let mut part = io::buffer();
     let answer = libc::read(STDIN_FILENO, &mut part);
     let n = io::count(answer, &part);
@@ -88,24 +103,33 @@ fn read_part(s: State, kept: &mut [u8]) -> Part {
 }
 
 // Measures the files, and prints their report.
-fn report(names: &[u8]) {
+fn report(names: &[u8])
+    requires { ⌜ namesVerdict (namesOf (now names)) ≡ accepted ⌝ }
+{
     let mut lines = [0u32; LINES * LINE];
     let count = measure_files(names, &mut lines);
     let end = LINE * count;
-    print_report(names, &lines[..end]);
+    print_report(names, &lines[..end], count);
 }
 
-fn print_report(names: &[u8], lines: &[u32]) {
+fn print_report(names: &[u8], lines: &[u32], count: usize)
+    requires { ⌜ LineEach (now names) (now lines) count ⌝ }
+{
     let mut text = [0u8; report_text::ROOM];
-    write_report(names, lines, &mut text);
-}
-
-fn write_report(names: &[u8], lines: &[u32], text: &mut [u8]) {
-    let answer = report_text::report(names, lines, text);
-    let n = answer.bytes;
+    let n = write_report(names, lines, count, &mut text);
     if !io::write_all(STDOUT_FILENO, &text[..n]) {
         os::fail(b"standard output");
     }
+}
+
+// The report, in a buffer with room for it: how many bytes are to be printed.
+fn write_report(names: &[u8], lines: &[u32], count: usize, text: &mut [u8]) -> usize
+    requires { ⌜ LineEach (now names) (now lines) count × (reportRoom ≤ length (now text)) ⌝ }
+    ensures { λ r. ⌜ (r ≤ length (now (text .exit)))
+        × (take r (now (text .exit)) ≡ reportText (namesOf (now (names .entry))) (lineAt (now (lines .entry)))) ⌝ }
+{
+    let answer = report_text::report(names, lines, text);
+    answer.bytes
 }
 
 // A line for each name, of 256 at most; how many there are.

@@ -4,17 +4,19 @@ use mathlib.Core.Path.{_≡_, refl, sym, ap, _∙_, subst}
 use mathlib.Core.List.{List, [], _++_}
 use Prim.Native.Nat.{ℕ, _*_, _/_, _%_, _≤_, _<_}
 use native.Mathlib.Omega.{arith}
-use lib.ListN.{length, length-append}
+use lib.Dec.{ltb}
+use lib.ListN.{length, take, length-append}
 use borrow.Author.Tests.{eq-eqb, ne-eqb, le-ltb}
-use Rattle.lists.specs.Choice.{pick-yes, pick-no}
+use Rattle.lists.specs.Choice.{pick-yes, pick-no, Is, is-true, is-false, look}
+use Rattle.lists.proofs.Overwrite.{start-of}
 use Rattle.refusals.specs.Verdict.{refusal, accepted}
 use Rattle.refusals.specs.declared.Verdict.{Verdict}
-use Rattle.refusals.specs.Outcome.{done}
-use Rattle.refusals.proofs.Outcome.{answer-next}
+use Rattle.refusals.specs.Outcome.{Outcome, done, refused}
+use Rattle.refusals.proofs.Outcome.{answer-next, call-room, call-short}
 use Rattle.texts.specs.Put.{Put}
 use Rattle.form_texts.specs.declared.Answer.{Answer}
 use Rattle.form_texts.specs.Writing.{answerOf, after, Suffices}
-use Rattle.form_texts.proofs.Texts.{text-refused, counted-short, counted-done}
+use Rattle.form_texts.proofs.Texts.{written, roomy, text-refused, text-accepted, counted-short, counted-done}
 use Rattle.growth.specs.declared.Totals.{Totals}
 use Rattle.growth.specs.Lines.{lineWidth, lineAt}
 use Rattle.growth.specs.Totals.{totals, noTotals, linesVerdict, totalled, totalFigures}
@@ -136,3 +138,24 @@ module _ (text ws before : List ℕ) (count : ℕ) (e : LineEach text ws count) 
         within = omega (arith, over .kept, length-append part before);
         room = λ z. absurd (omega (arith, z));
       }
+
+-- With a line for each name and room for every report, the report is at the buffer's start.
+pub report-whole : (text ws before : List ℕ) (count : ℕ) → LineEach text ws count → reportRoom ≤ length before
+    → (o : Outcome ℕ (List ℕ)) → Reports text ws before o → take (o .answer .sizes) (o .buffers) ≡ reportText (names text) (lineAt ws)
+unfolding reported Suffices written roomy done refused refusal
+report-whole text ws before count e room o r = go (look (ltb (length before) (length report)))
+  where
+    report : List ℕ
+    report = reportText (names text) (lineAt ws)
+
+    accepted-so : o ≡ roomy report before
+    accepted-so = r .outcome ∙ text-accepted report before (reportVerdict (names text) ws) (each-accepted text ws count e)
+
+    go : Is (ltb (length before) (length report)) → take (o .answer .sizes) (o .buffers) ≡ report
+    go (is-true t) =
+        let nine : o .answer .verdict .number ≡ 9 =
+        ap (λ (x : Outcome ℕ (List ℕ)). x .answer .verdict .number) (accepted-so ∙ call-short 0 before (written report before) _ t) in
+        absurd (omega (arith, r .room nine))
+    go (is-false t) =
+        ap (λ (x : Outcome ℕ (List ℕ)). take (x .answer .sizes) (x .buffers)) (accepted-so ∙ call-room 0 before (written report before) _ t)
+        ∙ start-of before report _ refl

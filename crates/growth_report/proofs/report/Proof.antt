@@ -1,7 +1,10 @@
 -- `growth_report::report` meets its contract.
 -- Assumes nothing.
 use mathlib.Core.Path.{sym}
+use Prim.Native.Nat.{ℕ, _*_, _≤_}
+use lib.ListN.{length, length-replicate}
 use lib.Seq.{length-take-le}
+use Rattle.growth_report.proofs.Accepted.{each-line}
 use native.Mathlib.Omega.{arith}
 use borrow.Author.Needs.{needs}
 use Rattle.growth_report.proofs.report.Statement.{statement}
@@ -24,7 +27,9 @@ slice-aggregate-print-report c =
     sym (length-take-le _ _ (omega (arith, c .before .before .measure-files .kept, c .before .before .measure-files .ensures .0)))
 
 print-report-requires : tie.Need-print-report-requires
-print-report-requires c κs = search needs
+print-report-requires c κs =
+    let measured = c .before .before .measure-files in
+    each-line _ _ _ (c .before .before .before .before .before .pre) (measured .ensures .1) (omega (arith, measured .kept, measured .ensures .0))
 
 returns : tie.Need-returns
 returns c = search needs

@@ -2,7 +2,7 @@
 -- Assumes nothing.
 use mathlib.Core.Path.{sym}
 use lib.Seq.{length-take-le}
-use native.Mathlib.Omega.{arith}
+use Rattle.growth_report.proofs.Accepted.{kept-accepted}
 use borrow.Author.Needs.{needs}
 use Rattle.growth_report.proofs.run.Statement.{statement}
 use Rattle.growth_report.proofs.run.Tie as tie
@@ -45,10 +45,12 @@ slice-reshare-prefix-report c = search needs
 
 slice-aggregate-report : tie.Need-slice-aggregate-report
 slice-aggregate-report c =
-    sym (length-take-le _ _ (c .before .before .before .before .before .before .before .before .read-names .ensures))
+    sym (length-take-le _ _ (c .before .before .before .before .before .before .before .before .read-names .ensures .0))
 
 report-requires : tie.Need-report-requires
-report-requires c κs = search needs
+report-requires c κs =
+    let read = c .before .before .before .before .before .before .before .before .read-names .ensures .1 in
+    kept-accepted _ _ _ (read .1) (c .before .if2 .left)
 
 same-length-3 : tie.Need-same-length-3
 same-length-3 c = search needs
