@@ -176,14 +176,14 @@
  * GROWTH REPORTS
  *
  * A growth report has a line of figures for each of up to 256 files, and the
- * totals. A line of figures is seven 32-bit words: the number of a refusal or 0,
- * n, b, q and d of the file's table, and the nodes and prefix variables of its
- * prenex form. If the number is not 0 the other six are read as zeros, whatever
- * they are. Number 22 says that the file could not be read: no call here answers
- * it, since none opens a file.
+ * totals. A line of figures is seven 32-bit words: the number of a refusal or
+ * 0; n, b, q and d of the file's table; and the nodes and prefix variables of
+ * its prenex form. If the number is not 0 the other six are read as zeros,
+ * whatever they are. Number 22 says that the file could not be read: no call
+ * here answers it, since none opens a file.
  *
- * Names stand in a text, one a line. Empty lines are skipped, the last line ends
- * with or without LF, and a name is any bytes but LF.
+ * Names stand in a text, one a line. Empty lines are skipped, the last line
+ * ends with or without LF, and a name is any bytes but LF.
  *
  *   number  given when                                                position
  *   20      there are over 256 names, or over 256 lines of figures    0
@@ -580,15 +580,17 @@ void wakubinryo_names(const uint8_t *names, size_t names_len,
                       uint32_t answer[WAKUBINRYO_NAMES_ANSWER]);
 
 /*
- * Writes a growth report: for each name a line of the name and the seven figures
- * of the line at the same index, zeros if it is refused, and then a line of
- * `total` and the ten words of wakubinryo_growth's answer after the position;
- * single spaces between, LF at the end of each line.
+ * Writes a growth report: for each name a line of the name and the seven
+ * figures of the line at the same index, the last six as zeros if it is
+ * refused; and then a line of `total` and the ten words of wakubinryo_growth's
+ * answer after the position. Single spaces stand between, and each line ends
+ * in LF.
  *
  * Numbers 0, 1, 9, 20 and 21. The answer is of 64-bit words, as for
  * wakubinryo_write_qcir. If done, out holds the bytes of the report, and bytes
- * after the last one keep their content. It gives 9 exactly if no other refusal
- * applies and out is shorter than that; WAKUBINRYO_REPORT_ROOM is always enough.
+ * after the last one keep their content. It gives 9 exactly if no other
+ * refusal applies and out is shorter than that; WAKUBINRYO_REPORT_ROOM is
+ * always enough.
  */
 void wakubinryo_report(const uint8_t *names, size_t names_len,
                        const uint32_t *lines, size_t lines_len,

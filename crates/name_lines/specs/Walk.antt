@@ -11,7 +11,7 @@ use Rattle.name_lines.specs.Names.{lineEnd, ended, names}
 abbrev pub part : List ℕ → ℕ → ℕ → List ℕ
 part text from end = take (end - from) (drop from text)
 
--- No line end stands from a byte to the next name.
+-- Where the next name begins, or the text ends: nothing but LFs stands from a byte to there.
 pub record Skipped (text : List ℕ) (from r : ℕ) : Type 0 where
   pub same : names (drop from text) ≡ names (drop r text)
   pub after : from ≤ r
