@@ -9,6 +9,7 @@ use lib.Dec.{eqb, ltb}
 use lib.ListN.{length, take, getD, length-append}
 use lib.Seq.{take-suc}
 use borrow.Author.Tests.{eq-eqb}
+use Rattle.lists.proofs.Members.{or-group}
 use Rattle.lists.proofs.Parts.{flatMap-append}
 use Rattle.lists.specs.Choice.{pick, pick-yes, pick-no, Is, is-true, is-false, look}
 use Rattle.name_lines.specs.Names.{lineEnd, ended, names, namesFrom, someLong}
@@ -59,14 +60,10 @@ pub or-false : (x : Bool) → (x || false) ≡ x
 or-false true = refl
 or-false false = refl
 
-pub or-group : (a b c : Bool) → (a || (b || c)) ≡ ((a || b) || c)
-or-group true b c = refl
-or-group false b c = refl
-
 pub long-append : (ns ms : List (List ℕ)) → someLong (ns ++ ms) ≡ (someLong ns || someLong ms)
 unfolding someLong
 long-append [] ms = refl
-long-append (n ∷ ns) ms = ap (λ x. ltb 255 (length n) || x) (long-append ns ms) ∙ or-group (ltb 255 (length n)) (someLong ns) (someLong ms)
+long-append (n ∷ ns) ms = or-group (ltb 255 (length n)) (someLong (ns ++ ms)) (someLong ns) (someLong ms) (long-append ns ms)
 
 pub long-one : (n : List ℕ) → someLong (n ∷ []) ≡ ltb 255 (length n)
 unfolding someLong

@@ -10,11 +10,12 @@ use lib.Dec.{eqb, ltb}
 use lib.ListN.{length, take, drop, getD, length-drop, drop-of-length-le}
 use lib.Seq.{drop-cons, take-suc, getD-drop, length-take-le}
 use borrow.Author.Tests.{eq-eqb, ne-eqb, ltb-true, ltb-false}
+use Rattle.lists.proofs.Members.{or-group}
 use Rattle.lists.specs.Choice.{pick-yes, pick-no, Is, is-true, is-false, look}
 use Rattle.name_lines.specs.declared.Name.{Name}
 use Rattle.name_lines.specs.Names.{lineEnd, ended, names, namesFrom, someLong}
 use Rattle.name_lines.specs.Walk.{part, Skipped, LineEnds, NextName}
-use Rattle.name_lines.proofs.Readings.{or-group, or-false}
+use Rattle.name_lines.proofs.Readings.{or-false}
 
 at-cons : (text : List ℕ) (i : ℕ) → i < length text → drop i text ≡ getD text i 0 ∷ drop (i + 1) text
 at-cons text i l = rw (add-one, drop-cons text i 0)
@@ -150,7 +151,7 @@ module _ (text : List ℕ) (count : ℕ) (long : Bool) (name : Name) (w : Walked
         some-long =
             w .some-long ∙ ap (λ ns. long || someLong ns) this
             ∙ ap (λ n. long || (ltb 255 n || someLong (names (drop (name .end) text)))) size
-            ∙ or-group long (ltb 255 (name .end - name .from)) (someLong (names (drop (name .end) text)));
+            ∙ or-group long _ (ltb 255 (name .end - name .from)) (someLong (names (drop (name .end) text))) refl;
       }
 
   -- where there is none

@@ -70,7 +70,7 @@ fn wide_digit_count(x: u64) -> usize
 }
 
 // Stores a number's digits so that they end before index end, the last digit first.
-fn store_digits(text: &mut [u8], end: usize, x: u64)
+fn store_digits(text: &mut [u8], end: usize, x: u32)
     requires { ⌜ (length (digits x) ≤ end) × (end ≤ length (now text)) ⌝ }
     ensures { λ _. ⌜ now (text .exit) ≡ overwrite (now (text .entry)) (end - length (digits x)) (digits x) ⌝ }
 {
@@ -85,7 +85,29 @@ fn store_digits(text: &mut [u8], end: usize, x: u64)
 }
 
 // A digit in ASCII.
-fn digit(d: u64) -> u8
+fn digit(d: u32) -> u8
+    requires { ⌜ d < 10 ⌝ }
+    ensures { λ r. ⌜ r ≡ 48 + d ⌝ }
+{
+    (48 + d) as u8
+}
+
+// The same of a number of 64 bits, whose divisions take longer.
+fn store_wide_digits(text: &mut [u8], end: usize, x: u64)
+    requires { ⌜ (length (digits x) ≤ end) × (end ≤ length (now text)) ⌝ }
+    ensures { λ _. ⌜ now (text .exit) ≡ overwrite (now (text .entry)) (end - length (digits x)) (digits x) ⌝ }
+{
+    let mut from = end;
+    let mut left = x;
+    while left >= 10 {
+        from -= 1;
+        text[from] = wide_digit(left % 10);
+        left /= 10;
+    }
+    text[from - 1] = wide_digit(left);
+}
+
+fn wide_digit(d: u64) -> u8
     requires { ⌜ d < 10 ⌝ }
     ensures { λ r. ⌜ r ≡ 48 + d ⌝ }
 {
@@ -100,7 +122,7 @@ pub fn put_number(text: &mut [u8], at: usize, x: u32) -> usize
 {
     let next = at + digit_count(x);
     if next <= text.len() {
-        store_digits(text, next, x as u64);
+        store_digits(text, next, x);
     }
     next
 }
@@ -113,7 +135,7 @@ pub fn put_wide_number(text: &mut [u8], at: usize, x: u64) -> usize
 {
     let next = at + wide_digit_count(x);
     if next <= text.len() {
-        store_digits(text, next, x);
+        store_wide_digits(text, next, x);
     }
     next
 }

@@ -14,8 +14,8 @@ wide-digit-count-requires c κs = search needs
 add-next : tie.Need-add-next
 add-next c = search needs
 
-store-digits-requires : tie.Need-store-digits-requires
-store-digits-requires c κs = search needs
+store-wide-digits-requires : tie.Need-store-wide-digits-requires
+store-wide-digits-requires c κs = search needs
 
 same-length : tie.Need-same-length
 same-length c = search needs
@@ -24,7 +24,7 @@ returns : tie.Need-returns
 returns c =
     let at = c .before .before .before .before .before .before .before .args .at in
     let count = c .before .before .before .before .before .wide-digit-count .ensures in (
-      put-stored _ _ _ _ _ (ap (λ n. at + n) (count .0)) (omega arith) (c .before .before .store-digits .ensures),
+      put-stored _ _ _ _ _ (ap (λ n. at + n) (count .0)) (omega arith) (c .before .before .store-wide-digits .ensures),
       omega (arith, count .1),
     )
 
@@ -40,7 +40,7 @@ put-wide-number-spec =
     (tie.spec
     wide-digit-count-requires
     add-next
-    store-digits-requires
+    store-wide-digits-requires
     same-length
     returns
     returns-2)
