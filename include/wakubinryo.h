@@ -39,17 +39,6 @@
  * count); and a list of prefix variables, in which the blocks' ranges follow
  * one another. Block 0 is the outermost. Names in a form may pass 65,535.
  *
- * LEADING BLOCKS
- *
- * A table may have blocks in front already: the root, if it is a block, its
- * body, if that is one, and so on, as long as no name of a block stands in one
- * before it. These are its leading blocks. Of a table that was read from a QCIR
- * text they are at least the text's prefix lines. A form either has them lifted
- * with all others, which renames them, or keeps them: then what is below them is
- * lifted as a table of its own, and they stand in front of its prefix, in their
- * order and with their own names. A name that stands at no variable node is left
- * out, and so is a block that no name is left of.
- *
  * ANSWERS AND REFUSALS
  *
  * An answer is a run of words, each named by its index in the enums below. It
@@ -178,8 +167,7 @@
  *
  *   number  given when                                                position
  *   23      the format is neither WAKUBINRYO_QCIR nor                 0
- *           WAKUBINRYO_QDIMACS, alone or with
- *           WAKUBINRYO_KEEP_PREFIX: nothing else is looked at
+ *           WAKUBINRYO_QDIMACS: nothing else is looked at
  *   24      memory lent for the nodes of the prenex form is shorter   0
  *           than these
  *
@@ -225,8 +213,7 @@
  *   wakubinryo_lift_text                                1,344 KiB
  *   wakubinryo_lift_text_in, wakubinryo_measure_text,     704 KiB
  *   reading and writing texts
- *   wakubinryo_lift_kept                                  384 KiB
- *   other calls about tables                              256 KiB
+ *   calls about tables                                    256 KiB
  *   calls about growth reports                             16 KiB
  */
 #ifndef WAKUBINRYO_H
@@ -300,14 +287,10 @@ enum {
     WAKUBINRYO_WRITE_ANSWER = 3
 };
 
-/*
- * The formats of a text that is written, and a flag that may be added to each:
- * the leading blocks are kept.
- */
+/* The formats of a text that is written. */
 enum {
     WAKUBINRYO_QCIR = 1,
-    WAKUBINRYO_QDIMACS = 2,
-    WAKUBINRYO_KEEP_PREFIX = 4
+    WAKUBINRYO_QDIMACS = 2
 };
 
 /*
@@ -380,14 +363,11 @@ enum {
 
 /*
  * Lifts a QCIR text: reads it, lifts its table and writes the prenex form as a
- * text in a format, WAKUBINRYO_QCIR or WAKUBINRYO_QDIMACS. With
- * WAKUBINRYO_KEEP_PREFIX added to the format, the leading blocks are kept, and
- * the text's own prefix lines are the first of them.
+ * text in a format, WAKUBINRYO_QCIR or WAKUBINRYO_QDIMACS.
  *
  * Numbers 0, 2, 6, 9 to 13 and 23. If done, out holds the bytes of the text,
  * bytes after the last one keep their content, and the sizes are those of
- * wakubinryo_measure_text or, where the leading blocks are kept, of
- * wakubinryo_lift_kept. It gives 9 exactly if no other refusal applies and
+ * wakubinryo_measure_text. It gives 9 exactly if no other refusal applies and
  * out is shorter than the text; WAKUBINRYO_QCIR_ROOM or WAKUBINRYO_QDIMACS_ROOM
  * bytes are always enough.
  *
@@ -397,9 +377,7 @@ enum {
  * the free variables of the file in text makes that file true. The prenex form
  * has at most n + 5 b + 4 q nodes, 2 q + b prefix variables and d + 1 prefix
  * blocks, and its text at most WAKUBINRYO_TEXT_ROOM or WAKUBINRYO_CLAUSES_ROOM
- * of its own sizes. Where the leading blocks are kept, n, b and q may be taken
- * of the gate lines and the output alone. Every text has one answer, and with it
- * one content of out.
+ * of its own sizes. Every text has one answer, and with it one content of out.
  */
 void wakubinryo_lift_text(const uint8_t *text, size_t text_len,
                           uint32_t format,
@@ -425,7 +403,7 @@ void wakubinryo_lift_text_in(const uint8_t *text, size_t text_len,
  *
  * Numbers 0, 2, 6 and 10 to 13. If done, the sizes are those that
  * wakubinryo_measure gives of the table, and those that wakubinryo_lift_text
- * answers in either format, the leading blocks being lifted.
+ * answers in either format.
  */
 void wakubinryo_measure_text(const uint8_t *text, size_t text_len,
                              uint32_t answer[WAKUBINRYO_MEASURE_TEXT_ANSWER]);
@@ -477,31 +455,6 @@ void wakubinryo_lift(const uint32_t *words, size_t words_len,
                      uint32_t *prefix, size_t prefix_len,
                      uint32_t *variables, size_t variables_len,
                      uint32_t answer[WAKUBINRYO_SIZES_ANSWER]);
-
-/*
- * Lifts a table and keeps its leading blocks.
- *
- * Numbers 0 to 9 and 16, buffers and answer as for wakubinryo_lift: n, b, q and d
- * are the table's, and nodes, blocks and variables what is written. It gives 9
- * exactly if the table is accepted and one of the three buffers is shorter than
- * that. Room by wakubinryo_measure's n, b, q and d is always enough: n + 5 b +
- * 4 q nodes, d + 1 prefix blocks and 2 q + b prefix variables; and so are 40,960
- * nodes, 4,097 prefix blocks and 12,288 prefix variables.
- *
- * The form has the table's truth value under every valuation; its free variables
- * are the table's, and no other number's value changes the truth value. Its
- * prefix variables are distinct; no prefix block is empty; neither 14 nor 15
- * refuses it. It begins with the leading blocks, and its other prefix variables
- * are above every number of the table below these. Its nodes are those that
- * wakubinryo_lift writes for that table: at most n + 5 b + 4 q with its n, b
- * and q.
- */
-void wakubinryo_lift_kept(const uint32_t *words, size_t words_len,
-                          const uint32_t *list, size_t list_len,
-                          uint32_t *nodes, size_t nodes_len,
-                          uint32_t *prefix, size_t prefix_len,
-                          uint32_t *variables, size_t variables_len,
-                          uint32_t answer[WAKUBINRYO_SIZES_ANSWER]);
 
 /*
  * Lists a table's free variables: the numbers with a variable node that no

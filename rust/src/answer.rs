@@ -236,18 +236,6 @@ impl Sizes {
         }
     }
 
-    /// The most nodes, prefix blocks and prefix variables that a form of the table
-    /// has, whatever becomes of its prefix, in place of those of one form.
-    pub fn most(self) -> Sizes {
-        let Sizes { n, b, q, depth, .. } = self;
-        Sizes {
-            nodes: n + 5 * b + 4 * q,
-            blocks: depth + 1,
-            entries: 2 * q + b,
-            ..self
-        }
-    }
-
     /// The words of the sizes, in the same order.
     pub fn words(self) -> [u32; 7] {
         [

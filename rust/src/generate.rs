@@ -1,6 +1,5 @@
-//! Tables to try: random accepted ones, the same with blocks in front or with empty
-//! blocks, damaged ones, and the families of the benchmark. The same seed always
-//! gives the same tables.
+//! Tables to try: random accepted ones, the same with empty blocks, damaged ones,
+//! and the families of the benchmark. The same seed always gives the same tables.
 
 use crate::answer::{Reason, Refusal};
 use crate::reference::{Node, HIGHEST, LIMIT, WIDTH};
@@ -353,53 +352,6 @@ pub fn accepted(rng: &mut Rng, profile: &Profile) -> Table {
     table
 }
 
-/// An accepted table with up to so many blocks put on its root. They bind numbers
-/// that stand at its variable nodes or in its ranges, the first that are higher,
-/// and any; now and then one that a block put on before binds, and now and then the
-/// range of another block or its end.
-pub fn with_leading_blocks(rng: &mut Rng, mut table: Table, blocks: usize) -> Table {
-    let leaves = table.where_kind(|kind| kind == 2).into_iter();
-    let ranges = table.blocks().into_iter().flat_map(|i| table.range(i));
-    let mut standing: Vec<u32> = leaves.map(|i| table.node(i)[1]).collect();
-    standing.extend(ranges.map(|at| table.list[at]));
-    let highest = standing.iter().copied().max().unwrap_or(0);
-    let mut bound: usize = table.blocks().iter().map(|&i| table.range(i).len()).sum();
-    let mut before = Vec::new();
-    for _ in 0..blocks.min(LIMIT - table.len()) {
-        let room = LIMIT - bound;
-        let others = table.blocks();
-        let (first, count) = if !others.is_empty() && rng.one_in(30) {
-            let mut range = table.range(rng.pick(&others));
-            if rng.one_in(2) {
-                range.start = rng.between(range.start, range.end - 1);
-            }
-            (range.start, range.len())
-        } else {
-            let first = table.list.len();
-            for _ in 0..rng.pick(&[1, 1, 2, 3, 6]).min(LIMIT - first) {
-                let name = match rng.below(8) {
-                    0 => rng.between(1, HIGHEST as usize) as u32,
-                    1 | 2 => highest + rng.between(1, 12) as u32,
-                    _ if standing.is_empty() => 1,
-                    _ => rng.pick(&standing),
-                };
-                let again = before.contains(&name) && !rng.one_in(40);
-                if is_variable(name) && !again && !table.list[first..].contains(&name) {
-                    table.list.push(name);
-                }
-            }
-            (first, table.list.len() - first)
-        };
-        if (1..=room).contains(&count) {
-            before.extend(&table.list[first..first + count]);
-            bound += count;
-            let root = table.len() as u32 - 1;
-            table.push([rng.pick(&[5, 6]), first as u32, count as u32, root]);
-        }
-    }
-    table
-}
-
 /// A table copied node by node, with empty blocks put on nodes that nothing
 /// names yet.
 struct Stored<'a> {
@@ -579,9 +531,7 @@ pub fn damaged_stored(
     damage(rng, table, reason)
 }
 
-/// An accepted table with the fault named, unless this is 6, put in. None if it had
-/// no place for that fault.
-pub fn damage(rng: &mut Rng, mut table: Table, reason: Reason) -> Option<(Table, Refusal)> {
+fn damage(rng: &mut Rng, mut table: Table, reason: Reason) -> Option<(Table, Refusal)> {
     let mut users = None;
     let position = match reason {
         Reason::PartialNode => {

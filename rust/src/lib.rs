@@ -1,31 +1,25 @@
 //! A safe wrapper over the static libraries wakubinryo_tables, wakubinryo_qcir,
 //! wakubinryo_texts and wakubinryo_reports, and what its tests and its benchmarks
-//! need: an implementation in plain Rust ([`reference`], [`kept`] and, for files,
-//! [`qcir`], [`write_qcir`](mod@write_qcir) and
-//! [`write_qdimacs`](mod@write_qdimacs), for reports [`growth`](mod@growth)),
-//! reading without limits ([`read_back`]), truth values by brute force ([`brute`],
-//! [`circuit`], [`qdimacs`]) and by a solver ([`depqbf`]), alpha-equivalence of two
-//! tables ([`alpha`]) and tables, pairs of them, files and forms to try
-//! ([`generate`], [`generate_alpha`], [`generate_qcir`], [`generate_forms`],
-//! [`comparators`], [`boxes`]). The tool's names, words and plots are in
-//! [`name_lines`], [`words`] and [`growth_plot`].
+//! need: an implementation in plain Rust ([`reference`] and, for files, [`qcir`],
+//! [`write_qcir`](mod@write_qcir) and [`write_qdimacs`](mod@write_qdimacs), for
+//! reports [`growth`](mod@growth)), reading without limits ([`read_back`]), truth values by brute force
+//! ([`brute`], [`circuit`], [`qdimacs`]), alpha-equivalence of two tables
+//! ([`alpha`]) and tables, pairs of them, files and forms to try ([`generate`],
+//! [`generate_alpha`], [`generate_qcir`], [`generate_forms`]). The tool's names,
+//! words and plots are in [`name_lines`], [`words`] and [`growth_plot`].
 //!
 //! [`lift_text`] goes from the bytes of a QCIR file to those of its prenex form
 //! in one call. Its steps, [`read_qcir`], [`prenex_form`] and [`qcir_text`] or
 //! [`qdimacs_text`], are calls too, for callers that want the table or the form.
-//! [`lift_text_with`] and [`kept_form`] leave the quantifiers that stand in front
-//! already as they are ([`Prefix::Kept`]).
 //! [`report()`] writes what became of many files, measured by [`measure_text`].
 //! A formula table is a slice of words, four to a node, and a list of variable
 //! numbers. See `include/wakubinryo.h` for what each call promises.
 
 pub mod alpha;
 pub mod answer;
-pub mod boxes;
 pub mod brute;
 pub mod circuit;
 pub mod comparators;
-pub mod depqbf;
 pub mod form_check;
 pub mod generate;
 pub mod generate_alpha;
@@ -33,7 +27,6 @@ pub mod generate_forms;
 pub mod generate_qcir;
 pub mod growth;
 pub mod growth_plot;
-pub mod kept;
 pub mod name_lines;
 pub mod plot;
 pub mod qcir;
@@ -61,19 +54,6 @@ mod ffi {
             answer: *mut u32,
         );
         pub fn wakubinryo_lift(
-            words: *const u32,
-            words_len: usize,
-            list: *const u32,
-            list_len: usize,
-            nodes: *mut u32,
-            nodes_len: usize,
-            prefix: *mut u32,
-            prefix_len: usize,
-            variables: *mut u32,
-            variables_len: usize,
-            answer: *mut u32,
-        );
-        pub fn wakubinryo_lift_kept(
             words: *const u32,
             words_len: usize,
             list: *const u32,
@@ -186,23 +166,7 @@ pub mod raw {
         }
     }
 
-    /// A call that lifts a table.
-    type LiftTable = unsafe extern "C" fn(
-        *const u32,
-        usize,
-        *const u32,
-        usize,
-        *mut u32,
-        usize,
-        *mut u32,
-        usize,
-        *mut u32,
-        usize,
-        *mut u32,
-    );
-
-    fn lift_table(
-        call: LiftTable,
+    pub fn lift(
         words: &[u32],
         list: &[u32],
         nodes: &mut [u32],
@@ -213,7 +177,7 @@ pub mod raw {
         // SAFETY: the call reads and writes the slices lent, no more, and
         // exclusive borrows don't overlap.
         unsafe {
-            call(
+            ffi::wakubinryo_lift(
                 words.as_ptr(),
                 words.len(),
                 list.as_ptr(),
@@ -227,30 +191,6 @@ pub mod raw {
                 answer.as_mut_ptr(),
             )
         }
-    }
-
-    pub fn lift(
-        words: &[u32],
-        list: &[u32],
-        nodes: &mut [u32],
-        prefix: &mut [u32],
-        variables: &mut [u32],
-        answer: &mut SizesAnswer,
-    ) {
-        let call = ffi::wakubinryo_lift;
-        lift_table(call, words, list, nodes, prefix, variables, answer)
-    }
-
-    pub fn lift_kept(
-        words: &[u32],
-        list: &[u32],
-        nodes: &mut [u32],
-        prefix: &mut [u32],
-        variables: &mut [u32],
-        answer: &mut SizesAnswer,
-    ) {
-        let call = ffi::wakubinryo_lift_kept;
-        lift_table(call, words, list, nodes, prefix, variables, answer)
     }
 
     pub fn free_variables(
@@ -346,8 +286,7 @@ pub mod raw {
         write_text(ffi::wakubinryo_write_qdimacs, form, text, answer)
     }
 
-    /// The format is given by its number, with the flag of a prefix that is kept;
-    /// any number is taken.
+    /// The format is given by its number; any number is taken.
     pub fn lift_text(text: &[u8], format: u32, out: &mut [u8], answer: &mut LiftTextAnswer) {
         // SAFETY: as above.
         unsafe {
@@ -465,22 +404,6 @@ pub fn lift(
     sizes(answer)
 }
 
-/// Writes a table's prenex form with its prefix kept ([`Prefix::Kept`]) into the
-/// same buffers. Refused as [`lift`] refuses, by 9 if a buffer is shorter than
-/// this form. The sizes are the table's and those of this form, which are no
-/// larger than [`Sizes::most`] says.
-pub fn lift_kept(
-    words: &[u32],
-    list: &[u32],
-    nodes: &mut [u32],
-    prefix: &mut [u32],
-    variables: &mut [u32],
-) -> Result<Sizes, Refusal> {
-    let mut answer = SizesAnswer::default();
-    raw::lift_kept(words, list, nodes, prefix, variables, &mut answer);
-    sizes(answer)
-}
-
 /// Writes the numbers with a variable node that no block above it covers,
 /// ascending and once each, and says how many they are.
 pub fn free_variables(words: &[u32], list: &[u32], names: &mut [u32]) -> Result<u32, Refusal> {
@@ -523,13 +446,6 @@ impl PrenexForm {
             variables: vec![0; sizes.entries as usize],
         }
     }
-
-    /// Cuts buffers to these sizes, where they are larger.
-    pub fn truncate(&mut self, sizes: &Sizes) {
-        self.nodes.truncate(WIDTH * sizes.nodes as usize);
-        self.prefix.truncate(3 * sizes.blocks as usize);
-        self.variables.truncate(sizes.entries as usize);
-    }
 }
 
 /// Measures, allocates and lifts.
@@ -542,20 +458,6 @@ pub fn prenex_form(words: &[u32], list: &[u32]) -> Result<PrenexForm, Refusal> {
         &mut form.prefix,
         &mut form.variables,
     )?;
-    Ok(form)
-}
-
-/// Measures, allocates and lifts with the prefix kept.
-pub fn kept_form(words: &[u32], list: &[u32]) -> Result<PrenexForm, Refusal> {
-    let mut form = PrenexForm::with_sizes(&measure(words, list)?.most());
-    let sizes = lift_kept(
-        words,
-        list,
-        &mut form.nodes,
-        &mut form.prefix,
-        &mut form.variables,
-    )?;
-    form.truncate(&sizes);
     Ok(form)
 }
 
@@ -671,14 +573,6 @@ impl Format {
         }
     }
 
-    /// The same with the flag for what becomes of the prefix.
-    pub const fn number_with(self, prefix: Prefix) -> u32 {
-        match prefix {
-            Prefix::Lifted => self.number(),
-            Prefix::Kept => self.number() | KEEP_PREFIX,
-        }
-    }
-
     /// Bytes enough for what lifting any text writes in this format.
     pub const fn room(self) -> usize {
         // No table's form has more nodes, prefix blocks or variables.
@@ -688,26 +582,6 @@ impl Format {
             Format::Qdimacs => qdimacs_room(nodes, blocks, entries),
         }
     }
-}
-
-/// The flag beside a format's number for a prefix that is kept.
-const KEEP_PREFIX: u32 = 4;
-
-/// What lifting does with the quantifiers that stand in front already: the
-/// blocks from a table's root down, as long as no name stands in one before. Of
-/// a file these are its prefix lines at least.
-#[derive(Clone, Copy, Debug, PartialEq, Eq, Hash)]
-pub enum Prefix {
-    /// They are lifted as all others, under new names: document 01's form.
-    Lifted,
-    /// They stay in front in their order, with those of their names that stand at
-    /// a variable node, and what is below them is lifted as a table of its own.
-    /// The form has no more nodes and variables than the other.
-    Kept,
-}
-
-impl Prefix {
-    pub const ALL: [Prefix; 2] = [Prefix::Lifted, Prefix::Kept];
 }
 
 /// The text that lifting writes.
@@ -729,19 +603,8 @@ pub struct LiftedText {
 ///
 /// It takes 1.3 MiB of stack; [`lift_text`] takes less.
 pub fn lift_text_into(text: &[u8], format: Format, out: &mut [u8]) -> Result<WrittenText, Refusal> {
-    lift_text_into_with(text, format, Prefix::Lifted, out)
-}
-
-/// Does what [`lift_text_into`] does, with the prefix lifted or kept. All that is
-/// said there holds of either; the sizes are those of the form that is written.
-pub fn lift_text_into_with(
-    text: &[u8],
-    format: Format,
-    prefix: Prefix,
-    out: &mut [u8],
-) -> Result<WrittenText, Refusal> {
     let mut answer = LiftTextAnswer::default();
-    raw::lift_text(text, format.number_with(prefix), out, &mut answer);
+    raw::lift_text(text, format.number(), out, &mut answer);
     written_text(answer)
 }
 
@@ -762,16 +625,10 @@ pub const NODES_ROOM: usize = WIDTH * MOST_NODES;
 /// Allocates room, also for the form's nodes, and does what [`lift_text_into`]
 /// does. It is never refused by 9.
 pub fn lift_text(text: &[u8], format: Format) -> Result<LiftedText, Refusal> {
-    lift_text_with(text, format, Prefix::Lifted)
-}
-
-/// Does what [`lift_text`] does, with the prefix lifted or kept.
-pub fn lift_text_with(text: &[u8], format: Format, prefix: Prefix) -> Result<LiftedText, Refusal> {
     let mut nodes = vec![0; NODES_ROOM];
     let mut out = vec![0; format.room()];
     let mut answer = LiftTextAnswer::default();
-    let number = format.number_with(prefix);
-    raw::lift_text_in(text, number, &mut nodes, &mut out, &mut answer);
+    raw::lift_text_in(text, format.number(), &mut nodes, &mut out, &mut answer);
     let WrittenText { bytes, sizes } = written_text(answer)?;
     out.truncate(bytes);
     out.shrink_to_fit();

@@ -57,22 +57,22 @@ impl NumberSet {
 
 /// Whether a table may have blocks that bind nothing.
 #[derive(Clone, Copy, PartialEq)]
-pub(crate) enum EmptyBlocks {
+enum EmptyBlocks {
     Refused,
     Allowed,
 }
 
 /// A table that is not refused, and what checking it finds out on its way.
-pub(crate) struct Summary<'a> {
-    pub(crate) table: &'a [Node],
+struct Summary<'a> {
+    table: &'a [Node],
     /// The highest number at a variable node or in a range, 0 if none.
-    pub(crate) highest: u32,
-    pub(crate) blocks: u32,
+    highest: u32,
+    blocks: u32,
     /// How many of the blocks are empty.
-    pub(crate) empty: u32,
+    empty: u32,
     /// The sum of the blocks' counts.
-    pub(crate) bound: u32,
-    pub(crate) depth: u32,
+    bound: u32,
+    depth: u32,
 }
 
 impl Summary<'_> {
@@ -85,7 +85,7 @@ impl Summary<'_> {
     }
 
     /// The sizes of a table without empty blocks, and of its form.
-    pub(crate) fn sizes(&self) -> Sizes {
+    fn sizes(&self) -> Sizes {
         let n = self.table.len() as u32;
         let (b, q, depth) = (self.blocks, self.bound, self.depth);
         let mut sizes = Sizes {
@@ -106,68 +106,10 @@ impl Summary<'_> {
         }
         sizes
     }
-
-    /// Writes the form of a table without empty blocks into room for it.
-    pub(crate) fn write_form(&self, list: &[u32], room: Room) {
-        let Room {
-            nodes,
-            prefix,
-            variables,
-        } = room;
-        if self.blocks == 0 {
-            nodes.copy_from_slice(self.table);
-            return;
-        }
-        let root_count = self.root_count();
-        let kept = self.table.len() - usize::from(root_count.is_some());
-        let mut blocks = write_matrix(self, list, &mut nodes[..kept]);
-        // The root has the highest index, so a root block is the last.
-        let root = root_count.and_then(|_| blocks.pop());
-        let levels = by_level(&blocks, prefix.len() - 1);
-        let outermost = root.as_ref().map_or(FOR_ALL, |root| root.kind);
-
-        write_definitions(
-            &levels,
-            outermost,
-            Nodes {
-                out: nodes,
-                len: kept,
-            },
-        );
-        write_prefix(&levels, outermost, root.as_ref(), prefix, variables);
-    }
-}
-
-/// The parts of three buffers that a form takes.
-pub(crate) struct Room<'a> {
-    pub(crate) nodes: &'a mut [Node],
-    pub(crate) prefix: &'a mut [[u32; 3]],
-    pub(crate) variables: &'a mut [u32],
-}
-
-impl Room<'_> {
-    /// For a form of these sizes; refused if a buffer is shorter.
-    pub(crate) fn new<'a>(
-        sizes: &Sizes,
-        nodes: &'a mut [u32],
-        prefix: &'a mut [u32],
-        variables: &'a mut [u32],
-    ) -> Result<Room<'a>, Refusal> {
-        let nodes = nodes.as_chunks_mut::<WIDTH>().0;
-        let prefix = prefix.as_chunks_mut::<3>().0;
-        let too_short = Reason::BufferTooShort.at(0);
-        Ok(Room {
-            nodes: nodes.get_mut(..sizes.nodes as usize).ok_or(too_short)?,
-            prefix: prefix.get_mut(..sizes.blocks as usize).ok_or(too_short)?,
-            variables: variables
-                .get_mut(..sizes.entries as usize)
-                .ok_or(too_short)?,
-        })
-    }
 }
 
 /// Tests a table for refusals 1 to 8, and for 16 if empty blocks are refused.
-pub(crate) fn check<'a>(
+fn check<'a>(
     words: &'a [u32],
     list: &[u32],
     empty_blocks: EmptyBlocks,
@@ -358,8 +300,37 @@ pub fn lift(
 ) -> Result<Sizes, Refusal> {
     let summary = check(words, list, EmptyBlocks::Refused)?;
     let sizes = summary.sizes();
-    let room = Room::new(&sizes, nodes, prefix, variables)?;
-    summary.write_form(list, room);
+    let nodes_len = WIDTH * sizes.nodes as usize;
+    let prefix_len = 3 * sizes.blocks as usize;
+    let variables_len = sizes.entries as usize;
+    if nodes.len() < nodes_len || prefix.len() < prefix_len || variables.len() < variables_len {
+        return Err(Reason::BufferTooShort.at(0));
+    }
+    if sizes.b == 0 {
+        nodes[..words.len()].copy_from_slice(words);
+        return Ok(sizes);
+    }
+    let nodes = nodes[..nodes_len].as_chunks_mut::<4>().0;
+    let prefix = prefix[..prefix_len].as_chunks_mut::<3>().0;
+    let variables = &mut variables[..variables_len];
+
+    let root_count = summary.root_count();
+    let kept = summary.table.len() - usize::from(root_count.is_some());
+    let mut blocks = write_matrix(&summary, list, &mut nodes[..kept]);
+    // The root has the highest index, so a root block is the last.
+    let root = root_count.and_then(|_| blocks.pop());
+    let levels = by_level(&blocks, sizes.blocks as usize - 1);
+    let outermost = root.as_ref().map_or(FOR_ALL, |root| root.kind);
+
+    write_definitions(
+        &levels,
+        outermost,
+        Nodes {
+            out: nodes,
+            len: kept,
+        },
+    );
+    write_prefix(&levels, outermost, root.as_ref(), prefix, variables);
     Ok(sizes)
 }
 

@@ -2,7 +2,7 @@
 //! the formats that are written.
 
 use crate::form_check::Limits;
-use crate::{write_qcir, write_qdimacs, Format, Prefix, PrenexForm, Refusal};
+use crate::{write_qcir, write_qdimacs, Format, PrenexForm, Refusal};
 use std::env;
 use std::time::Duration;
 
@@ -93,19 +93,9 @@ const WRITERS: [Writer; 2] = [
     },
 ];
 
-/// What the command line says of the prefix: kept if it has the tool's option.
-pub fn prefix_asked_for() -> Prefix {
-    match env::args().any(|argument| argument == KEEP_PREFIX) {
-        true => Prefix::Kept,
-        false => Prefix::Lifted,
-    }
-}
-
-const KEEP_PREFIX: &str = "--keep-prefix";
-
 /// The formats to time: the one that the command line names, or both.
 pub fn writers_asked_for() -> Vec<Writer> {
-    let argument = env::args().skip(1).find(|argument| argument != KEEP_PREFIX);
+    let argument = env::args().nth(1);
     let is_asked = |writer: &Writer| argument.as_deref().is_none_or(|a| a == writer.argument);
     let asked: Vec<Writer> = WRITERS.into_iter().filter(is_asked).collect();
     assert!(!asked.is_empty(), "neither qcir nor qdimacs: {argument:?}");

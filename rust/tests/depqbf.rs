@@ -5,58 +5,83 @@
 mod common;
 mod programs;
 
+use common::each;
 use common::forms::{form_is_satisfiable, table_is_satisfiable};
-use common::{each, form_with};
 use programs::repository;
 use std::fs;
-use std::io::{self, Write};
+use std::io::{self, ErrorKind, Write};
+use std::process::{Command, Stdio};
 use std::sync::OnceLock;
-use std::time::Duration;
-use wakubinryo::generate::{accepted, with_leading_blocks, Profile as TableProfile, Rng};
+use std::thread::sleep;
+use std::time::{Duration, Instant};
+use wakubinryo::brute;
+use wakubinryo::generate::{accepted, Profile as TableProfile, Rng};
 use wakubinryo::generate_forms::{good_form, Profile};
 use wakubinryo::generate_qcir::{circuit, Profile as FileProfile};
-use wakubinryo::{brute, depqbf};
-use wakubinryo::{lift_text_with, measure, qdimacs_text, read_qcir, Format, Prefix, Table};
+use wakubinryo::{lift_text, prenex_form, qdimacs_text, read_qcir, Format};
 
 /// Longer than any answer here takes: most take some milliseconds.
 const LIMIT: Duration = Duration::from_secs(30);
 
+fn depqbf() -> Command {
+    let mut command = Command::new("depqbf");
+    command.stdout(Stdio::null()).stderr(Stdio::null());
+    command
+}
+
 fn is_here() -> bool {
     static HERE: OnceLock<bool> = OnceLock::new();
-    *HERE.get_or_init(|| {
-        let is_here = depqbf::is_here();
-        if !is_here {
+    *HERE.get_or_init(|| match depqbf().arg("--version").status() {
+        Err(e) if e.kind() == ErrorKind::NotFound => {
             // Not by a macro: what macros print is held back if a test passes.
             let line = b"depqbf is not on the PATH: no file has gone through it\n";
             let _ = io::stderr().write_all(line);
+            false
         }
-        is_here
+        run => run.is_ok(),
     })
 }
 
 /// Whether DepQBF says that a file is true.
 fn answer(text: &[u8]) -> bool {
-    depqbf::answer(text, LIMIT)
-        .unwrap_or_else(|| panic!("no answer in {LIMIT:?}: {}", String::from_utf8_lossy(text)))
+    let child = depqbf().stdin(Stdio::piped()).spawn();
+    let mut child = child.expect("depqbf can be run");
+    let mut input = child.stdin.take().expect("a pipe");
+    input.write_all(text).expect("depqbf reads");
+    drop(input);
+    let start = Instant::now();
+    let status = loop {
+        if let Some(status) = child.try_wait().expect("a child") {
+            break status;
+        }
+        if start.elapsed() > LIMIT {
+            child.kill().expect("a child");
+            child.wait().expect("a child");
+            panic!("no answer in {LIMIT:?}: {}", String::from_utf8_lossy(text));
+        }
+        sleep(Duration::from_micros(500));
+    };
+    match status.code() {
+        Some(10) => true,
+        Some(20) => false,
+        _ => panic!("{status}: {}", String::from_utf8_lossy(text)),
+    }
 }
 
-/// Sends so many files through DepQBF, each given with its truth value, or two for
-/// one value.
-fn assert_answers<const FILES: usize>(
-    name: &str,
-    files: u64,
-    one: impl Fn(&mut Rng) -> ([Vec<u8>; FILES], bool),
-) {
+/// Sends so many files through DepQBF, each given with its truth value.
+fn assert_answers(name: &str, files: u64, one: impl Fn(&mut Rng) -> (Vec<u8>, bool)) {
     if !is_here() {
         return;
     }
     let mut counts = [0; 2];
     each(name, files, |rng, _| {
-        let (texts, expected) = one(rng);
-        for text in texts {
-            let text_shown = String::from_utf8_lossy(&text);
-            assert_eq!(answer(&text), expected, "{text_shown}");
-        }
+        let (text, expected) = one(rng);
+        assert_eq!(
+            answer(&text),
+            expected,
+            "{}",
+            String::from_utf8_lossy(&text)
+        );
         counts[usize::from(expected)] += 1;
     });
     assert!(counts.iter().all(|&c| c > files / 5), "{counts:?}");
@@ -68,16 +93,8 @@ fn random_forms() {
         let profile = Profile::tiny(rng);
         let form = good_form(rng, &profile);
         let expected = form_is_satisfiable(&form).expect("few variables");
-        ([qdimacs_text(&form).expect("written")], expected)
+        (qdimacs_text(&form).expect("written"), expected)
     });
-}
-
-/// The clauses of a table's forms, the prefix being lifted and kept.
-fn lifted_table(table: &Table) -> [Vec<u8>; 2] {
-    Prefix::ALL.map(|prefix| {
-        let form = form_with(prefix, table).expect("accepted");
-        qdimacs_text(&form).expect("written")
-    })
 }
 
 /// The tables are small: DepQBF often takes long over a lift with more than
@@ -87,22 +104,9 @@ fn lifts_of_random_tables() {
     assert_answers("tables for DepQBF", 200, |rng| {
         let profile = TableProfile::tiny(rng);
         let table = accepted(rng, &profile);
-        (lifted_table(&table), table_is_satisfiable(&table))
-    });
-}
-
-/// Tables with up to three blocks put in front. Few variables are bound.
-#[test]
-fn lifts_of_tables_with_blocks_in_front() {
-    assert_answers("blocks in front for DepQBF", 100, |rng| loop {
-        let profile = TableProfile::tiny(rng);
-        let table = accepted(rng, &profile);
-        let blocks = rng.between(1, 3);
-        let table = with_leading_blocks(rng, table, blocks);
-        let sizes = measure(&table.words, &table.list).expect("accepted");
-        if sizes.q <= 7 {
-            return (lifted_table(&table), table_is_satisfiable(&table));
-        }
+        let form = prenex_form(&table.words, &table.list).expect("accepted");
+        let text = qdimacs_text(&form).expect("written");
+        (text, table_is_satisfiable(&table))
     });
 }
 
@@ -121,13 +125,10 @@ fn lifts_of_random_files() {
     });
 }
 
-/// The clauses of a QCIR file by the call from text to text, the prefix being
-/// lifted and kept.
-fn lifted(text: &[u8]) -> [Vec<u8>; 2] {
-    Prefix::ALL.map(|prefix| {
-        let lifted = lift_text_with(text, Format::Qdimacs, prefix);
-        lifted.expect("accepted").text
-    })
+/// The clauses of a QCIR file, by the call from text to text.
+fn lifted(text: &[u8]) -> Vec<u8> {
+    let lifted = lift_text(text, Format::Qdimacs);
+    lifted.expect("accepted").text
 }
 
 /// The boxes of two examples can be filled, those of the third can't.
@@ -142,8 +143,8 @@ fn lifts_of_the_examples() {
         let text = fs::read(file).expect("the example");
         let table = read_qcir(&text).expect("accepted");
         assert_eq!(table_is_satisfiable(&table), expected);
-        for clauses in lifted(&text) {
-            assert!(!is_here() || answer(&clauses) == expected, "{name}");
+        if is_here() {
+            assert_eq!(answer(&lifted(&text)), expected);
         }
     }
 }

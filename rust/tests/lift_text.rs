@@ -1,16 +1,16 @@
-//! From text to text in one call, the prefix being lifted or kept: the library
-//! against the reference's reader, lifters and writers on many texts, good and
-//! damaged, and against its own calls step by step. The largest texts are in
-//! limits.rs.
+//! From text to text in one call: the library against the reference's reader,
+//! lifter and writers on many texts, good and damaged, and against its own calls
+//! step by step. The largest texts are in limits.rs.
 
 mod common;
 mod programs;
 
 use common::files;
 use common::forms::prefill;
-use common::texts::{assert_lent, assert_library, assert_other_ways, assert_refused};
-use common::texts::{assert_same_both_ways, assert_same_lifting, both_ways};
-use common::texts::{lift_text_by_steps, reference_lift_text, ways, Lifted, UNKNOWN_FORMATS};
+use common::texts::{
+    assert_lent, assert_library, assert_other_ways, assert_refused, assert_same_lifting,
+};
+use common::texts::{lift_text_by_steps, reference_lift_text, Lifted};
 use common::vectors::each_read_vector;
 use common::{each, Prefill, TOO_SHORT};
 use programs::{refused, repository, run, tool, Left};
@@ -20,28 +20,22 @@ use wakubinryo::qcir::LONGEST;
 use wakubinryo::words::{self, figures};
 use wakubinryo::Reason::{BufferTooShort, MalformedText, UnknownFormat};
 use wakubinryo::{brute, qdimacs, read_back};
-use wakubinryo::{lift_text_with, measure_text, Format, Prefix, Refusal};
+use wakubinryo::{lift_text, measure_text, Format, Refusal};
 
 const TEXT: &[u8] = b"#QCIR-G14\nfree(1)\noutput(4)\n3=exists(2;2)\n4=xor(1,-3)\n";
 
-/// Holds the library to the reference, both ways: the call, its wrapper, and the
-/// calls step by step.
+/// Holds the library to the reference: the call, its wrapper, and the calls step
+/// by step.
 fn assert_all(text: &[u8], prefill: Prefill, spare: usize) -> Result<Lifted, Refusal> {
-    both_ways(|prefix| {
-        let lifted = assert_same_lifting(text, prefix, prefill, spare);
-        assert_other_ways(text, prefix, prefill, &lifted);
-        assert_lent(text, prefix, prefill, spare, &lifted);
-        lifted
-    })
+    let lifted = assert_same_lifting(text, prefill, spare);
+    assert_other_ways(text, prefill, &lifted);
+    assert_lent(text, prefill, spare, &lifted);
+    lifted
 }
 
 #[test]
 fn numbers_and_rooms_of_the_formats() {
     assert_eq!(Format::ALL.map(Format::number), [1, 2]);
-    for (prefix, numbers) in [(Prefix::Lifted, [1, 2]), (Prefix::Kept, [5, 6])] {
-        let number = |format: Format| format.number_with(prefix);
-        assert_eq!(Format::ALL.map(number), numbers);
-    }
     assert_eq!(Format::ALL.map(Format::room), [1_396_774, 2_711_620]);
 }
 
@@ -92,17 +86,17 @@ fn damaged_files() {
 
 #[test]
 fn files_with_names_exchanged() {
-    files::files_with_names_exchanged(6_000, assert_same_both_ways);
+    files::files_with_names_exchanged(6_000, assert_same_lifting);
 }
 
 #[test]
 fn files_at_the_limits_of_tables() {
-    files::files_at_the_limits_of_tables(30, assert_same_both_ways);
+    files::files_at_the_limits_of_tables(30, assert_same_lifting);
 }
 
 #[test]
 fn families() {
-    files::families(3, assert_same_both_ways);
+    files::families(3, assert_same_lifting);
 }
 
 /// A text of 65,536 bytes is read, one of 65,537 refused before it is looked at.
@@ -113,7 +107,7 @@ fn files_at_the_limit_of_length() {
         let (_, text) = good_file(rng, gates);
         let longest = with_length(rng, &text, LONGEST).expect("shorter");
         let lifted = assert_all(&longest, prefill(number), 3);
-        assert_eq!(lifted, reference_lift_text(&text, Prefix::Lifted));
+        assert_eq!(lifted, reference_lift_text(&text));
         for length in [LONGEST + 1, 2 * LONGEST] {
             let longer = with_length(rng, &text, length).expect("shorter");
             let lifted = assert_all(&longer, prefill(number), 3);
@@ -133,30 +127,30 @@ fn short_buffers() {
     each("short buffers", 40, |rng, number| {
         let gates = rng.between(0, 6);
         let (_, text) = good_file(rng, gates);
-        for (format, prefix) in ways() {
-            let lifted = reference_lift_text(&text, prefix);
+        let lifted = reference_lift_text(&text);
+        for format in Format::ALL {
             let exact = lifted.as_ref().expect("accepted").text(format).len();
             if exact > 600 {
                 continue;
             }
             for len in 0..exact + 20 {
-                assert_library(&text, format, prefix, len, prefill(number), &lifted);
+                assert_library(&text, format, len, prefill(number), &lifted);
             }
             lengths += exact;
         }
     });
-    assert!(lengths > 8_000, "only {lengths} lengths that are too short");
+    assert!(lengths > 4_000, "only {lengths} lengths that are too short");
 }
 
 /// A buffer of the room that is always enough, and a longer one.
 #[test]
 fn long_buffers() {
     files::good_files(24, |_, text, prefill, spare| {
-        for (format, prefix) in ways() {
-            let lifted = reference_lift_text(text, prefix);
-            assert!(lifted.is_ok());
+        let lifted = reference_lift_text(text);
+        assert!(lifted.is_ok());
+        for format in Format::ALL {
             for len in [format.room(), format.room() + 70_000 + spare] {
-                assert_library(text, format, prefix, len, prefill, &lifted);
+                assert_library(text, format, len, prefill, &lifted);
             }
         }
     });
@@ -168,7 +162,7 @@ fn unknown_formats() {
     let mut texts = vec![TEXT.to_vec(), vec![b'#'; LONGEST + 1]];
     texts.extend(refused().into_iter().map(|(text, _)| text.into_bytes()));
     for text in &texts {
-        for format in UNKNOWN_FORMATS {
+        for format in [0, 3, 4, 5, 6, 257, 1 << 16 | 2, 1 << 31 | 1, u32::MAX] {
             for len in [0, 1, 300] {
                 for prefill in Prefill::ALL {
                     assert_refused(text, format, len, prefill, UnknownFormat.at(0));
@@ -185,17 +179,15 @@ fn refusals_of_reading_come_first() {
         let text = text.as_bytes();
         let refusal = measure_text(text).expect_err("refused");
         assert_ne!(refusal.reason, BufferTooShort);
-        for (format, prefix) in ways() {
-            let number = format.number_with(prefix);
+        for format in Format::ALL {
             for len in [0, 1, 300] {
-                assert_refused(text, number, len, Prefill::Counting, refusal);
+                assert_refused(text, format.number(), len, Prefill::Counting, refusal);
             }
         }
         assert_eq!(assert_all(text, Prefill::Pattern, 300), Err(refusal));
     }
-    for (format, prefix) in ways() {
-        let number = format.number_with(prefix);
-        assert_refused(TEXT, number, 0, Prefill::Zeros, TOO_SHORT);
+    for format in Format::ALL {
+        assert_refused(TEXT, format.number(), 0, Prefill::Zeros, TOO_SHORT);
     }
 }
 
@@ -203,39 +195,32 @@ fn refusals_of_reading_come_first() {
 /// if some valuation makes the file true, by brute force.
 #[test]
 fn the_texts_have_the_files_truth() {
-    // By prefix and satisfiability.
-    let mut compared = [[0; 2]; 2];
+    let mut compared = [0; 2];
     each("truth of lifted texts", 2_500, |rng, _| {
         let profile = Profile::tiny(rng);
         let circuit = circuit(rng, &profile);
         let layout = Layout::random(rng);
         let text = spelled(rng, &circuit, layout);
-        if circuit.free.len() > 6 {
+        let [qcir, clauses] = Format::ALL.map(|format| {
+            let lifted = lift_text(&text, format);
+            lifted.expect("accepted").text
+        });
+        let back = read_back::circuit(&qcir).expect("a file");
+        if back.bound_count() > 8 || circuit.free.len() > 6 {
             return;
         }
-        for prefix in Prefix::ALL {
-            let [qcir, clauses] = Format::ALL.map(|format| {
-                let lifted = lift_text_with(&text, format, prefix);
-                lifted.expect("accepted").text
-            });
-            let back = read_back::circuit(&qcir).expect("a file");
-            if back.bound_count() > 8 {
-                continue;
-            }
-            let mut satisfiable = false;
-            for mut valuation in brute::valuations(&circuit.free) {
-                let value = circuit.value(&mut valuation);
-                assert_eq!(back.value(&mut valuation), value, "under {valuation:?}");
-                satisfiable |= value;
-            }
-            let problem = qdimacs::read(&clauses).expect("a file");
-            assert_eq!(problem.fault(), None);
-            assert_eq!(problem.value(), satisfiable);
-            compared[prefix as usize][usize::from(satisfiable)] += 1;
+        let mut satisfiable = false;
+        for mut valuation in brute::valuations(&circuit.free) {
+            let value = circuit.value(&mut valuation);
+            assert_eq!(back.value(&mut valuation), value, "under {valuation:?}");
+            satisfiable |= value;
         }
+        let problem = qdimacs::read(&clauses).expect("a file");
+        assert_eq!(problem.fault(), None);
+        assert_eq!(problem.value(), satisfiable);
+        compared[usize::from(satisfiable)] += 1;
     });
-    let many = |&c: &u32| c > 300;
-    assert!(compared.as_flattened().iter().all(many), "{compared:?}");
+    assert!(compared.iter().all(|&c| c > 300), "{compared:?}");
 }
 
 /// A call keeps nothing: after another text, and in threads at once, a text has
@@ -244,9 +229,9 @@ fn the_texts_have_the_files_truth() {
 fn calls_at_once() {
     let calls = || {
         files::good_files(100, |_, text, _, _| {
-            for (format, prefix) in ways() {
-                let lifted = lift_text_by_steps(text, prefix).expect("accepted");
-                let text = lift_text_with(text, format, prefix).expect("accepted").text;
+            let lifted = lift_text_by_steps(text).expect("accepted");
+            for format in Format::ALL {
+                let text = lift_text(text, format).expect("accepted").text;
                 assert!(text == lifted.text(format));
             }
         });
@@ -269,14 +254,10 @@ fn left(text: &[u8], answer: Result<Vec<u8>, Refusal>) -> Left {
 #[test]
 fn the_tool_prints_what_the_calls_answer() {
     let assert_printed = |text: &[u8]| {
-        for (format, prefix) in ways() {
-            let name = ["qcir", "qdimacs"][format as usize];
-            let mut arguments = vec!["lift", "--format", name];
-            if prefix == Prefix::Kept {
-                arguments.push("--keep-prefix");
-            }
-            let lifted = lift_text_with(text, format, prefix).map(|lifted| lifted.text);
-            assert_eq!(run(tool(), &arguments, text), left(text, lifted));
+        for (name, format) in [("qcir", Format::Qcir), ("qdimacs", Format::Qdimacs)] {
+            let lifted = lift_text(text, format).map(|lifted| lifted.text);
+            let printed = run(tool(), &["lift", "--format", name], text);
+            assert_eq!(printed, left(text, lifted));
         }
         let measured = measure_text(text).map(|sizes| figures(&sizes).into_bytes());
         assert_eq!(run(tool(), &["measure"], text), left(text, measured));

@@ -4,12 +4,11 @@
 mod common;
 
 use common::forms::FORMATS;
-use common::texts::{assert_library, assert_same_lifting, library_measure_text, ways};
+use common::texts::{assert_library, assert_same_lifting, library_measure_text};
 use common::texts::{library_lift_text_in, reference_lift_text, sizes_of, LIBRARY_LIFT_TEXT};
 use common::{assert_free_variables, assert_same, each, library_measure, some_nodes, Case};
-use common::{reference_form, reference_form_with, reference_free_variables, reference_left};
-use common::{reference_table, Prefill, TOO_SHORT};
-use common::{LIBRARY_FREE_VARIABLES, LIBRARY_LIFT, LIBRARY_LIFT_KEPT, LIBRARY_REMOVE};
+use common::{reference_form, reference_free_variables, reference_left, Prefill, TOO_SHORT};
+use common::{LIBRARY_FREE_VARIABLES, LIBRARY_LIFT, LIBRARY_REMOVE};
 use std::thread;
 use wakubinryo::answer::{count_words, lift_text_words, size_words, text_words};
 use wakubinryo::answer::{measure_text_words, WrittenText};
@@ -19,7 +18,7 @@ use wakubinryo::generate::{every_fourth_empty, parity_chain, Profile, Rng, Table
 use wakubinryo::generate_forms::FAMILIES;
 use wakubinryo::generate_qcir::{self, largest_lift, with_length};
 use wakubinryo::qcir::LONGEST;
-use wakubinryo::{read_qcir, Format, Prefix, PrenexForm, Sizes, NODES_ROOM, WIDTH};
+use wakubinryo::{read_qcir, Format, PrenexForm, Sizes, NODES_ROOM, WIDTH};
 
 #[test]
 fn the_largest_form() {
@@ -94,11 +93,11 @@ fn the_largest_texts() {
     let text = largest_lift();
     let longest = with_length(&mut Rng::new(1), &text, LONGEST).expect("shorter");
     for (text, prefill) in [(text, Prefill::Counting), (longest, Prefill::Pattern)] {
-        for (format, prefix) in ways() {
-            let lifted = assert_same_lifting(&text, prefix, prefill, 9);
-            assert_library(&text, format, prefix, format.room(), prefill, &lifted);
+        let lifted = assert_same_lifting(&text, prefill, 9);
+        for format in Format::ALL {
+            assert_library(&text, format, format.room(), prefill, &lifted);
         }
-        let lifted = reference_lift_text(&text, Prefix::Lifted).expect("accepted");
+        let lifted = lifted.expect("accepted");
         // 4,095 + 5 * 4,094 + 4 * 4,095 nodes and 1 + 2 * 4,095 + 4,094
         // variables: the root block adds none but its own variable.
         let expected = [4096, 4095, 4096, 4095, 40_945, 4095, 12_285];
@@ -109,13 +108,11 @@ fn the_largest_texts() {
 }
 
 /// The stack that include/wakubinryo.h says a thread must have for a call about
-/// tables, for one that keeps the leading blocks, for one that reads or writes a
-/// text or lifts one in lent memory, and for one that lifts a text in memory of
-/// its own.
+/// tables, for one that reads or writes a text or lifts one in lent memory, and
+/// for one that lifts a text in memory of its own.
 const STACK: usize = 256 * 1024;
-const STACK_OF_KEEPING: usize = 256 * 1024;
-const STACK_OF_TEXTS: usize = 720 * 1024;
-const STACK_OF_LIFTING_A_TEXT: usize = 1424 * 1024;
+const STACK_OF_TEXTS: usize = 704 * 1024;
+const STACK_OF_LIFTING_A_TEXT: usize = 1_344 * 1024;
 
 /// Makes calls in a thread with no more stack than this.
 fn with_stack<T: Send + 'static>(stack: usize, calls: impl FnOnce() -> T + Send + 'static) -> T {
@@ -125,36 +122,25 @@ fn with_stack<T: Send + 'static>(stack: usize, calls: impl FnOnce() -> T + Send 
 
 #[test]
 fn stack_of_the_calls() {
-    let (_, prefix_lines) = reference_table(&largest_lift());
-    for table in [largest_form(), most_free_variables(), prefix_lines] {
-        let (sizes, _) = reference_form(&table);
+    for table in [largest_form(), most_free_variables()] {
+        let (sizes, expected) = reference_form(&table);
         let (count, expected_names) = reference_free_variables(&table);
+        let mut form = PrenexForm::with_sizes(&sizes.expect("accepted"));
         let mut names = vec![0; expected_names.len()];
-        let own = table.clone();
         let given = with_stack(STACK, move || {
-            let measured = library_measure(&own);
-            let listed = LIBRARY_FREE_VARIABLES(&own, &mut names);
-            (measured, listed, names)
+            let measured = library_measure(&table);
+            let PrenexForm {
+                nodes,
+                prefix,
+                variables,
+            } = &mut form;
+            let lifted = LIBRARY_LIFT(&table, nodes, prefix, variables);
+            let listed = LIBRARY_FREE_VARIABLES(&table, &mut names);
+            (measured, lifted, form, listed, names)
         });
-        assert!(given == (size_words(sizes), count_words(count), expected_names));
-        for (lift, prefix, stack) in [
-            (LIBRARY_LIFT, Prefix::Lifted, STACK),
-            (LIBRARY_LIFT_KEPT, Prefix::Kept, STACK_OF_KEEPING),
-        ] {
-            let (sizes, expected) = reference_form_with(prefix, &table);
-            let mut form = PrenexForm::with_sizes(&sizes.expect("accepted"));
-            let own = table.clone();
-            let given = with_stack(stack, move || {
-                let PrenexForm {
-                    nodes,
-                    prefix,
-                    variables,
-                } = &mut form;
-                let lifted = lift(&own, nodes, prefix, variables);
-                (lifted, form)
-            });
-            assert!(given == (size_words(sizes), expected), "{prefix:?}");
-        }
+        let sizes = size_words(sizes);
+        let counts = count_words(count);
+        assert!(given == (sizes, sizes, expected, counts, expected_names));
     }
 }
 
@@ -198,29 +184,27 @@ fn stack_of_lifting_a_text() {
     let mut texts = vec![largest_lift()];
     texts.extend(generate_qcir::FAMILIES.map(|(_, family)| family(LONGEST)));
     for text in texts {
-        for (format, prefix) in ways() {
-            let lifted = reference_lift_text(&text, prefix);
+        let lifted = reference_lift_text(&text);
+        let sizes = sizes_of(&lifted);
+        for format in Format::ALL {
             let expected = lifted.as_ref().map_or(vec![], |l| l.text(format).to_vec());
             let bytes = expected.len();
-            let written = sizes_of(&lifted).map(|sizes| WrittenText { bytes, sizes });
-            let answer = lift_text_words(written);
-            let number = format.number_with(prefix);
+            let answer = lift_text_words(sizes.map(|sizes| WrittenText { bytes, sizes }));
             let buffers = || (text.clone(), vec![0; bytes]);
             let (own, mut out) = buffers();
             let given = with_stack(STACK_OF_LIFTING_A_TEXT, move || {
-                let answer = LIBRARY_LIFT_TEXT(&own, number, &mut out);
+                let answer = LIBRARY_LIFT_TEXT(&own, format.number(), &mut out);
                 (answer, out)
             });
-            assert!(given == (answer, expected.clone()), "{number}");
+            assert!(given == (answer, expected.clone()), "{format:?}");
             let (lent, mut out) = buffers();
             let given = with_stack(STACK_OF_TEXTS, move || {
                 let mut nodes = vec![0; NODES_ROOM];
-                let answer = library_lift_text_in(&lent, number, &mut nodes, &mut out);
+                let answer = library_lift_text_in(&lent, format.number(), &mut nodes, &mut out);
                 (answer, out)
             });
-            assert!(given == (answer, expected), "{number} in lent memory");
+            assert!(given == (answer, expected), "{format:?} in lent memory");
         }
-        let sizes = sizes_of(&reference_lift_text(&text, Prefix::Lifted));
         let read = text.clone();
         let table = with_stack(STACK_OF_TEXTS, move || read_qcir(&read).map(|_| ()));
         assert_eq!(table, sizes.map(|_| ()));

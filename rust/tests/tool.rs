@@ -73,7 +73,6 @@ fn help_and_version() {
             "report [--plot FILE.svg] [FILE..]",
             "--format qcir",
             "--format qdimacs",
-            "--keep-prefix",
             "-o",
             "--version",
             "the same truth value",
@@ -119,38 +118,6 @@ fn formats() {
     assert_done(run(tool(), &arguments, b""), "");
     let written = fs::read_to_string(&out).expect("written");
     assert_eq!(written, lifted_to("qdimacs"));
-}
-
-/// The prefix lines of the example stay in front.
-#[test]
-fn prefix_kept() {
-    let folder = folder("prefix_kept");
-    let out = folder.join("out");
-    let (file, out_name) = (
-        example_called("adder_box.qcir"),
-        out.to_str().expect("UTF-8"),
-    );
-    for (format, lines) in [
-        (
-            "qcir",
-            "\nforall(11, 12)\nexists(21)\nforall(1, 2, 3)\noutput(",
-        ),
-        ("qdimacs", "\na 11 12 0\ne 21 0\na 1 2 3 0\ne 22 "),
-    ] {
-        let arguments = ["lift", "--keep-prefix", "--format", format, &file];
-        let left = run(tool(), &arguments, b"");
-        assert_eq!((left.status, &*left.error), (Some(0), ""));
-        let first_line = left.output.find('\n').expect("a header");
-        assert!(left.output[first_line..].starts_with(lines), "{left:?}");
-        for arguments in [
-            ["--format", format, &file, "-o", out_name, "--keep-prefix"],
-            ["--keep-prefix", "-o", out_name, &file, "--format", format],
-        ] {
-            let arguments = [&["lift"], &arguments[..]].concat();
-            assert_done(run(tool(), &arguments, b""), "");
-            assert_eq!(fs::read_to_string(&out).expect("written"), left.output);
-        }
-    }
 }
 
 /// What was lifted is read again; none of its gates is quantified.
@@ -326,12 +293,8 @@ fn refusals() {
             let left = run(tool(), &[command, name, "-o", out], b"");
             assert_failed(left, 1, error);
         }
-        for arguments in [
-            &["lift", "--format", "qdimacs", name][..],
-            &["lift", "--keep-prefix", name],
-        ] {
-            assert_failed(run(tool(), arguments, b""), 1, error);
-        }
+        let left = run(tool(), &["lift", "--format", "qdimacs", name], b"");
+        assert_failed(left, 1, error);
     }
     assert_eq!(files(&folder), ["in"]);
     // A file that stands is left as it is.
@@ -450,19 +413,6 @@ fn bad_usage() {
             "--format twice",
         ),
         (&["measure", "--format", "qcir"], "--format without lift"),
-        (
-            &["lift", "--keep-prefix", "a", "--keep-prefix"],
-            "--keep-prefix twice",
-        ),
-        (
-            &["measure", "--keep-prefix", "a"],
-            "--keep-prefix without lift",
-        ),
-        (
-            &["--keep-prefix", "same", "a", "b"],
-            "--keep-prefix without lift",
-        ),
-        (&["report", "--keep-prefix"], "--keep-prefix without lift"),
         (&["same"], "same without two files"),
         (&["same", "a"], "same without two files"),
         (&["same", "-"], "same without two files"),

@@ -1,14 +1,15 @@
-//! Truth, size and shape of the library's prenex forms; shape and size of those
-//! with the prefix kept are in kept.rs.
+//! Truth, size and shape of the library's prenex forms.
 
 mod common;
 
-use common::forms::assert_same_truth;
-use common::{assert_within_bounds, each, form_with, Case};
+use common::{each, Case};
 use std::collections::BTreeSet;
 use wakubinryo::brute;
 use wakubinryo::generate::{accepted, largest_form, Profile, Table, FAMILIES};
-use wakubinryo::{free_variables, measure, prenex_form, Prefix, PrenexForm, WIDTH};
+use wakubinryo::{free_variables, measure, prenex_form, PrenexForm, WIDTH};
+
+/// The number of variables that brute force is asked to go through.
+const MOST: usize = 16;
 
 /// The free variables that the library lists, which are those of the
 /// definition.
@@ -21,22 +22,47 @@ fn listed(table: &Table) -> BTreeSet<u32> {
     expected
 }
 
-/// Compares table and forms, the prefix being lifted and kept, and gives the
-/// numbers on which their values depend. None if there were too many variables.
-fn assert_truth_is_kept(table: &Table) -> Option<BTreeSet<u32>> {
-    let [lifted, kept] = Prefix::ALL.map(|prefix| {
-        let form = form_with(prefix, table).expect("accepted");
-        assert_same_truth(table, &form)
-    });
-    // The form with the prefix kept has no more variables.
-    assert!(kept.is_some() >= lifted.is_some());
-    lifted
+/// Compares the values of table and form under all valuations of the free
+/// variables, and gives the numbers on which they depend. None if there were
+/// too many variables.
+fn assert_same_truth(table: &Table) -> Option<BTreeSet<u32>> {
+    let form = prenex_form(&table.words, &table.list).expect("accepted");
+    let free = listed(table);
+    let at_nodes = brute::variables_at_nodes(&table.words);
+    let of_table: Vec<u32> = at_nodes.iter().copied().collect();
+    let of_form: Vec<u32> = brute::variables_at_nodes(&form.nodes).into_iter().collect();
+    if of_table.len() > MOST || of_form.len() > MOST {
+        return None;
+    }
+    let table_truth = brute::table_function(&table.words, &table.list, &of_table);
+    let form_truth = brute::form_function(&form.nodes, &form.prefix, &form.variables, &of_form);
+    let over: Vec<u32> = free.iter().copied().collect();
+    for valuation in brute::valuations(&over) {
+        assert_eq!(
+            table_truth.value(&valuation),
+            form_truth.value(&valuation),
+            "under {valuation:?}: {table:?}"
+        );
+    }
+    // What is given to a number that is not listed changes neither value.
+    let of_both = of_table.into_iter().chain(of_form);
+    let relevant: BTreeSet<u32> = of_both
+        .filter(|&variable| {
+            let relevant = table_truth.depends_on(variable);
+            assert_eq!(relevant, form_truth.depends_on(variable));
+            relevant
+        })
+        .collect();
+    assert!(relevant.is_subset(&free), "{relevant:?}: {table:?}");
+    Some(relevant)
 }
 
 /// Size bounds and shape of the form that the library writes.
 fn assert_well_formed(table: &Table) {
     let sizes = measure(&table.words, &table.list).expect("accepted");
-    assert_within_bounds(&sizes);
+    assert!(sizes.nodes <= sizes.n + 5 * sizes.b + 4 * sizes.q);
+    assert!(sizes.entries <= 2 * sizes.q + sizes.b);
+    assert!(sizes.blocks <= sizes.depth + 1);
     assert_eq!(sizes.blocks == 0, sizes.b == 0);
 
     let PrenexForm {
@@ -101,7 +127,7 @@ fn truth_is_kept() {
         assert_well_formed(&table);
         let bound = brute::variables_in_ranges(&table.words, &table.list);
         free_and_bound += u32::from(!listed(&table).is_disjoint(&bound));
-        if let Some(relevant) = assert_truth_is_kept(&table) {
+        if let Some(relevant) = assert_same_truth(&table) {
             compared += 1;
             let sizes = measure(&table.words, &table.list).expect("accepted");
             with_blocks += u32::from(sizes.b > 1);
@@ -144,11 +170,11 @@ fn truth_is_kept_below_every_operator() {
                     let l = side(left, kinds[0], 0);
                     let r = side(right, kinds[1], 1);
                     let body = table.push([4, truth_table, l, r]);
-                    assert!(assert_truth_is_kept(&table).is_some());
+                    assert!(assert_same_truth(&table).is_some());
                     // The same below a quantifier over what was free.
                     table.list.push(1);
                     table.push([kinds[1], 2, 1, body]);
-                    assert!(assert_truth_is_kept(&table).is_some());
+                    assert!(assert_same_truth(&table).is_some());
                 }
             }
         }

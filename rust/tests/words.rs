@@ -12,54 +12,29 @@ use std::path::{Path, PathBuf};
 use wakubinryo::generate_qcir::largest_lift;
 use wakubinryo::measure_text;
 
-/// A Rattle program with its arguments before the file's name, and the tool's that
-/// ask for the same.
+/// A Rattle program, and the tool's arguments before the file's name that ask for
+/// the same.
 struct Program {
     path: PathBuf,
     arguments: &'static [&'static str],
-    of_tool: &'static [&'static str],
 }
 
 impl Program {
     /// What the tool says of a file.
     fn tool_on(&self, name: &str) -> Left {
-        run(tool(), &[self.of_tool, &[name]].concat(), b"")
-    }
-
-    /// What the program says with these arguments too.
-    fn said(&self, arguments: &[&str], input: &[u8]) -> (String, String) {
-        said(run(
-            &self.path,
-            &[self.arguments, arguments].concat(),
-            input,
-        ))
-    }
-
-    /// What it says of a file, with so many KiB of stack.
-    fn said_with_stack(&self, stack: usize, name: &str) -> (String, String) {
-        let path = self.path.to_str().expect("UTF-8");
-        let command = format!("ulimit -s {stack}; exec \"$0\" \"$@\"");
-        let arguments = [&["-c", &command, path], self.arguments, &[name]].concat();
-        said(run(Path::new("sh"), &arguments, b""))
+        run(tool(), &[self.arguments, &[name]].concat(), b"")
     }
 }
 
-fn programs() -> [Program; 5] {
-    let programs: [(&str, &[&str], &[&str]); 5] = [
-        ("measure_qcir", &[], &["measure"]),
-        ("lift_qcir", &[], &["lift"]),
-        ("lift_qdimacs", &[], &["lift", "--format", "qdimacs"]),
-        ("lift_qcir", &["--keep-prefix"], &["lift", "--keep-prefix"]),
-        (
-            "lift_qdimacs",
-            &["--keep-prefix"],
-            &["lift", "--keep-prefix", "--format", "qdimacs"],
-        ),
+fn programs() -> [Program; 3] {
+    let programs: [(&str, &[&str]); 3] = [
+        ("measure_qcir", &["measure"]),
+        ("lift_qcir", &["lift"]),
+        ("lift_qdimacs", &["lift", "--format", "qdimacs"]),
     ];
-    programs.map(|(name, arguments, of_tool)| Program {
+    programs.map(|(name, arguments)| Program {
         path: rattle_program(name),
         arguments,
-        of_tool,
     })
 }
 
@@ -78,9 +53,11 @@ fn refusals_agree() {
         for program in programs() {
             let expected = said(program.tool_on(name));
             assert_eq!(expected, (String::new(), error.to_string()));
-            assert_eq!(program.said(&[name], b""), expected);
-            assert_eq!(program.said(&["-"], text.as_bytes()), expected);
-            assert_eq!(program.said(&[], text.as_bytes()), expected);
+            let path = &program.path;
+            assert_eq!(said(run(path, &[name], b"")), expected);
+            assert_eq!(said(run(path, &["-"], text.as_bytes())), expected);
+            let nothing: [&str; 0] = [];
+            assert_eq!(said(run(path, &nothing, text.as_bytes())), expected);
         }
     }
 }
@@ -98,7 +75,7 @@ fn answers_agree() {
         for program in programs() {
             let expected = program.tool_on(name);
             assert_eq!(expected.status, Some(0));
-            assert_eq!(program.said(&[name], b""), said(expected));
+            assert_eq!(said(run(&program.path, &[name], b"")), said(expected));
         }
     }
 }
@@ -112,7 +89,7 @@ fn answers_to_generated_files_agree() {
         fs::write(&file, text).expect("written");
         for program in programs() {
             let expected = said(program.tool_on(name));
-            assert_eq!(program.said(&[name], b""), expected);
+            assert_eq!(said(run(&program.path, &[name], b"")), expected);
         }
     };
     files::good_files(40, |_, text, _, _| assert_agree(text));
@@ -125,6 +102,13 @@ fn answers_to_generated_files_agree() {
 /// The usual stack, in KiB.
 const STACK: usize = 8192;
 
+/// What a program says of a file, with so many KiB of stack.
+fn said_with_stack(path: &Path, stack: usize, name: &str) -> (String, String) {
+    let path = path.to_str().expect("UTF-8");
+    let command = format!("ulimit -s {stack}; exec \"$0\" \"$1\"");
+    said(run(Path::new("sh"), &["-c", &command, path, name], b""))
+}
+
 /// A lifting program with too little stack says so and lifts nothing.
 #[test]
 fn a_small_stack() {
@@ -132,14 +116,14 @@ fn a_small_stack() {
     let name = file.to_str().expect("UTF-8");
     let [measure, lifts @ ..] = programs();
     let expected = said(measure.tool_on(name));
-    assert_eq!(measure.said_with_stack(1024, name), expected);
+    assert_eq!(said_with_stack(&measure.path, 1024, name), expected);
     for program in lifts {
         let message = "lifting needs 4608 KiB of stack: ulimit -s 4608\n";
         for stack in [64, 1024, 4096, 4607] {
-            let left = program.said_with_stack(stack, name);
+            let left = said_with_stack(&program.path, stack, name);
             assert_eq!(left, (String::new(), message.to_string()));
         }
-        let left = program.said_with_stack(4608, name);
+        let left = said_with_stack(&program.path, 4608, name);
         assert_eq!(left, said(program.tool_on(name)));
     }
 }
@@ -154,8 +138,8 @@ fn the_largest_form() {
         let expected = program.tool_on(name);
         assert_eq!(expected.status, Some(0));
         for stack in [4608, STACK] {
-            let left = program.said_with_stack(stack, name);
-            assert!(left == said(expected.clone()), "{:?}", program.of_tool);
+            let left = said_with_stack(&program.path, stack, name);
+            assert!(left == said(expected.clone()), "{}", program.path.display());
         }
     }
 }
@@ -169,7 +153,7 @@ fn file_errors_agree() {
         for program in programs() {
             let expected = program.tool_on(name);
             assert_eq!(expected.status, Some(2));
-            assert_eq!(program.said(&[name], b""), said(expected));
+            assert_eq!(said(run(&program.path, &[name], b"")), said(expected));
         }
     }
 }

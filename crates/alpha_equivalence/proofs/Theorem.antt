@@ -23,7 +23,7 @@ use Rattle.prenex_form.specs.Scope.{binder}
 use Rattle.prenex_form.specs.Names.{highest_number, new_name}
 use Rattle.prenex_form.specs.Sizes.{sizes}
 use Rattle.prenex_form.proofs.Theorem.{prenex, same_list}
-use Rattle.prenex.specs.Outcome.{no_sizes, measured, FormBuffers, written_form, too_short, written, form_outcome, lifted}
+use Rattle.prenex.specs.Outcome.{no_sizes, measured, FormBuffers, written_form, too_short, written, lifted}
 use Rattle.prenex.proofs.Form.{lifted_left}
 use Rattle.file_to_file.specs.FileToFile.{lifted_text}
 use Rattle.file_to_file.specs.FileToClauses.{lifted_clauses}
@@ -116,16 +116,16 @@ equal_files text text' before before' o o' r z r' z' e f g s s' v =
 
 -- what lifting an accepted table answers
 answered : (ws ls : List ℕ) → verdict ws ls ≡ accepted → (before : FormBuffers)
-    → (lifted ws ls before).answer ≡ pick (too_short (written_form (table_of ws ls)) before) (refused (refusal 9 0) no_sizes) (done (sizes (table_of ws ls)))
-unfolding lifted form_outcome accepted
+    → (lifted ws ls before).answer ≡ pick (too_short (table_of ws ls) before) (refused (refusal 9 0) no_sizes) (done (sizes (table_of ws ls)))
+unfolding lifted accepted
 answered ws ls h before =
     ap (λ (o : Outcome Sizes FormBuffers). o.answer) (call_next no_sizes before _ (verdict ws ls) (ap (λ v. v.number) h))
-    ∙ go (look (too_short (written_form (table_of ws ls)) before))
+    ∙ go (look (too_short (table_of ws ls) before))
   where
-    go : Is (too_short (written_form (table_of ws ls)) before)
-        → (unless_short (too_short (written_form (table_of ws ls)) before) no_sizes before
-        (record { answer = done (sizes (table_of ws ls)); buffers = written (written_form (table_of ws ls)) before })).answer
-        ≡ pick (too_short (written_form (table_of ws ls)) before) (refused (refusal 9 0) no_sizes) (done (sizes (table_of ws ls)))
+    go : Is (too_short (table_of ws ls) before)
+        → (unless_short (too_short (table_of ws ls) before) no_sizes before
+        (record { answer = done (sizes (table_of ws ls)); buffers = written (table_of ws ls) before })).answer
+        ≡ pick (too_short (table_of ws ls) before) (refused (refusal 9 0) no_sizes) (done (sizes (table_of ws ls)))
     go (is_true s) = ap (λ (o : Outcome Sizes FormBuffers). o.answer) (call_short no_sizes before _ _ s) ∙ sym (pick_yes _ _ _ s)
     go (is_false s) = ap (λ (o : Outcome Sizes FormBuffers). o.answer) (call_room no_sizes before _ _ s) ∙ sym (pick_no _ _ _ s)
 
@@ -141,7 +141,7 @@ module _ (ws ls ws' ls' : List ℕ) (h : verdict ws ls ≡ accepted) (h' : verdi
 
   module _ (w : WrittenAlike (table_of ws ls) (table_of ws' ls')) where
     -- in buffers of the same lengths both have room, or neither has
-    short_alike : (before before' : FormBuffers) → SameLengths before before' → too_short (written_form (table_of ws ls)) before ≡ too_short (written_form (table_of ws' ls')) before'
+    short_alike : (before before' : FormBuffers) → SameLengths before before' → too_short (table_of ws ls) before ≡ too_short (table_of ws' ls') before'
     unfolding too_short
     short_alike before before' s =
         let nodes = ap (λ (form : FormBuffers). length form.nodes) w.form in

@@ -32,31 +32,21 @@ struct Place {
     column: usize,
 }
 
-// Whether the program's first argument is this flag.
-pub fn has_flag(flag: &[u8]) -> bool {
-    let mut first = io::buffer();
-    let length = os::arg(1, &mut first);
-    if os::errno() != 0 {
-        return false;
-    }
-    check::same(&first[..length], flag)
-}
-
-// Reads the file that the argument at index `last` names, and no further one may be there; if that is `-`
-// or missing, standard input. What goes wrong is said here, the program's usage among it.
-pub fn read_input(usage: &[u8], last: usize, text: &mut [u8]) -> Input
+// Reads the file that the program's only argument names; if that is `-` or there is none, standard
+// input. What goes wrong is said here, the program's usage among it.
+pub fn read_input(usage: &[u8], text: &mut [u8]) -> Input
     ensures { IsPrefixLen result.length text.new }
 {
     let count = os::arg_count();
-    if count <= last {
+    if count < 2 {
         return read_open(STDIN_FILENO, b"standard input", text);
     }
-    if last < count - 1 {
+    if 2 < count {
         say(usage);
         return nothing(text);
     }
     let mut path = io::buffer();
-    let length = os::arg(last, &mut path);
+    let length = os::arg(1, &mut path);
     if os::errno() != 0 {
         os::fail(b"the file's name");
         return nothing(text);
@@ -76,7 +66,7 @@ fn nothing(text: &[u8]) -> Input
 fn read_named(path: &[u8], text: &mut [u8]) -> Input
     ensures { IsPrefixLen result.length text.new }
 {
-    if check::same(path, b"-") {
+    if is_dash(path) {
         return read_open(STDIN_FILENO, b"standard input", text);
     }
     let fd = os::open_read(path);
@@ -87,6 +77,13 @@ fn read_named(path: &[u8], text: &mut [u8]) -> Input
     let input = read_open(fd, path, text);
     libc::close(fd);
     input
+}
+
+fn is_dash(path: &[u8]) -> bool {
+    if path.len() == 1 {
+        return path[0] == b'-';
+    }
+    false
 }
 
 // Reads what is open, and says under this name that it could not be read.

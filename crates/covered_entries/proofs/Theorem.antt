@@ -22,7 +22,7 @@ use Rattle.acceptance.specs.Limits.{TableLimits, table_limits, stored_limits}
 use Rattle.acceptance.specs.Verdict.{partial_node, too_large, range_past_end, bad_variable, node_fault, not_named_once, tree_refusal, verdict_within}
 use Rattle.empty_blocks.specs.Removal.{without_empty_blocks}
 use Rattle.prenex_form.specs.Sizes.{sizes}
-use Rattle.prenex.specs.Outcome.{no_sizes, measured, written_form, too_short, written, form_outcome, lifted}
+use Rattle.prenex.specs.Outcome.{no_sizes, measured, too_short, written, lifted}
 use Rattle.free_variables.specs.Outcome.{listing, listed}
 use Rattle.remove_empty_blocks.specs.Outcome.{storing, removed}
 use Rattle.covered_entries.specs.CoveredEntries.{SameRanges, CoveredAlone, SameOutcomes, ByRanges}
@@ -124,14 +124,14 @@ module _ (ws ls ls' : List ℕ) (s : SameRanges ws ls ls') where
       go (is_false p) = rw (verdict_same lim, table_same p)
 
   outcomes : SameOutcomes ws ls ls'
-  unfolding measured lifted form_outcome listed removed answer_unless_refused unless_refused
+  unfolding measured lifted listed removed answer_unless_refused unless_refused
   outcomes =
       record {
         same_verdict = verdict_same;
         same_nodes = λ i h. node_same ws ls ls' i (λ b. cc (s.same-range i h b));
         same_measured = call_same table_limits (λ t. done (sizes t)) (λ v. refused v no_sizes);
         same_lifted = λ before. call_same table_limits
-            (λ t. unless_short (too_short (written_form t) before) no_sizes before (record { answer = done (sizes t); buffers = written (written_form t) before }))
+            (λ t. unless_short (too_short t before) no_sizes before (record { answer = done (sizes t); buffers = written t before }))
             (λ v. record { answer = refused v no_sizes; buffers = before });
         same_listed = λ names. call_same table_limits (λ t. listing names (free_variables t)) (λ v. record { answer = refused v 0; buffers = names });
         same_removed = λ nodes. call_same stored_limits (λ t. storing nodes (without_empty_blocks ws)) (λ v. record { answer = refused v 0; buffers = nodes });

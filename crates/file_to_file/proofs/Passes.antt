@@ -15,11 +15,11 @@ use Rattle.lists.proofs.Members.{all_mem, all_intro}
 use Rattle.lists.proofs.Parts.{sum_grows}
 use Rattle.formula.specs.Node.{Table}
 use Rattle.formula.specs.Words.{is_block_kind, range}
-use Rattle.formula.specs.Form.{prefix_width, block_at, blocks_from, blocks_of, prefix_names}
+use Rattle.formula.specs.Form.{prefix_width, block_at, blocks_from, blocks_of}
 use Rattle.acceptance.specs.Verdict.{is_number_to}
 use Rattle.prenex_form.specs.Promise.{highest_name, PrenexOf}
 use Rattle.prenex_form.proofs.Theorem.{matrix_accepted}
-use Rattle.form_check.specs.Accepted.{AcceptedForm}
+use Rattle.form_check.specs.Accepted.{AcceptedForm, prefix_names}
 use Rattle.form_check.proofs.Accepted.{holds_form}
 use Rattle.file_to_file.specs.FileToFile.{LiftPasses}
 

@@ -10,10 +10,9 @@ use Rattle.formula.specs.Valuation.{Valuation}
 use Rattle.formula.specs.Form.{form_truth}
 use Rattle.refusals.specs.Verdict.{refusal}
 use Rattle.refusals.specs.Outcome.{Outcome, refused}
-use Rattle.prenex_form.specs.Promise.{PrenexOf}
+use Rattle.prenex_form.specs.Matrix.{written_nodes}
+use Rattle.prenex_form.specs.Prefix.{written_prefix, written_variables}
 use Rattle.prenex_form.proofs.Theorem.{prenex}
-use Rattle.qcir_form.specs.File.{form_text}
-use Rattle.qdimacs_form.specs.Clauses.{clauses_text}
 use Rattle.qcir.specs.File.{File}
 use Rattle.qcir.specs.Spelling.{Spells}
 use Rattle.qcir.specs.Meaning.{file_truth}
@@ -41,47 +40,47 @@ was_read text before _ (spelled l f s) zero =
     record { file = f; spells = s; table = done_table text f before.words before.list s zero }
 
 module _ (text ws ls : List ℕ) (r : Read text ws ls) where
-  -- Whatever prenex form of the table is written.
-  module _ (ns ps xs : List ℕ) (p : PrenexOf (table_of ws ls) ns ps xs) where
-    -- It has the truth value of the file, under every valuation.
-    form_truth_lem : (v : Valuation) → form_truth ns ps xs v ≡ file_truth r.file v
-    form_truth_lem v = p.same_truth v ∙ r.table.truth-kept r.file r.spells v
+  abbrev nodes : List ℕ
+  nodes = written_nodes (table_of ws ls)
 
-    pub text_of_form : SameTruth text (form_text ns ps xs)
-    text_of_form =
-        let written = text_written ns ps xs (lift_passes (table_of ws ls) ns ps xs p) in
-        record {
-          source = r.file;
-          source_spelled = r.spells;
-          target = written.file;
-          target_spelled = written.spells;
-          target_only = written.only;
-          same_truth = λ v. written.same_truth v ∙ form_truth_lem v;
-        }
+  abbrev prefix : List ℕ
+  prefix = written_prefix (table_of ws ls)
 
-    pub clauses_of_form : SameAnswer text (clauses_text ns ps xs)
-    clauses_of_form =
-        let written = clauses_written ns ps xs (lift_passes (table_of ws ls) ns ps xs p) in
-        record {
-          source = r.file;
-          source_spelled = r.spells;
-          target = written.problem;
-          target_said = written.says;
-          target_only = written.only;
-          truth = λ v. (
-            λ h. let u = (written.truth v).0 h in (u.0, sym (form_truth_lem u.0) ∙ u.1),
-            λ u. (written.truth v).1 (u.0, form_truth_lem u.0 ∙ u.1),
-          );
-        }
+  abbrev variables : List ℕ
+  variables = written_variables (table_of ws ls)
 
-  -- A lift.
-  from_table : SameTruth text (lifted_text ws ls)
+  -- A lift has the truth value of the file, under every valuation.
+  lifted_truth : (v : Valuation) → form_truth nodes prefix variables v ≡ file_truth r.file v
+  lifted_truth v = (prenex ws ls r.table.accepts).same_truth v ∙ r.table.truth-kept r.file r.spells v
+
+  pub from_table : SameTruth text (lifted_text ws ls)
   unfolding lifted_text
-  from_table = text_of_form _ _ _ (prenex ws ls r.table.accepts)
+  from_table =
+      let written = text_written nodes prefix variables (lift_passes (table_of ws ls) _ _ _ (prenex ws ls r.table.accepts)) in
+      record {
+        source = r.file;
+        source_spelled = r.spells;
+        target = written.file;
+        target_spelled = written.spells;
+        target_only = written.only;
+        same_truth = λ v. written.same_truth v ∙ lifted_truth v;
+      }
 
-  clauses_from_table : SameAnswer text (lifted_clauses ws ls)
+  pub clauses_from_table : SameAnswer text (lifted_clauses ws ls)
   unfolding lifted_clauses
-  clauses_from_table = clauses_of_form _ _ _ (prenex ws ls r.table.accepts)
+  clauses_from_table =
+      let written = clauses_written nodes prefix variables (lift_passes (table_of ws ls) _ _ _ (prenex ws ls r.table.accepts)) in
+      record {
+        source = r.file;
+        source_spelled = r.spells;
+        target = written.problem;
+        target_said = written.says;
+        target_only = written.only;
+        truth = λ v. (
+          λ h. let u = (written.truth v).0 h in (u.0, sym (lifted_truth u.0) ∙ u.1),
+          λ u. (written.truth v).1 (u.0, lifted_truth u.0 ∙ u.1),
+        );
+      }
 
 pub file_to_file : FileToFile
 file_to_file text before o reading zero = from_table text _ _ (was_read text before o reading zero)

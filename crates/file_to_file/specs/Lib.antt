@@ -1,3 +1,2 @@
 pub mod FileToFile
 pub mod FileToClauses
-pub mod PrefixLines

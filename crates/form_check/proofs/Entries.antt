@@ -12,9 +12,9 @@ use Rattle.lists.specs.Members.{mem, all}
 use Rattle.lists.proofs.Members.{all_mem, mem-get_or, mem_nil, mem_append, mem_left, mem_right}
 use Rattle.lists.proofs.Sums.{distinct_few, distinct_below}
 use Rattle.formula.specs.Words.{range}
-use Rattle.formula.specs.Form.{prefix_width, block_at, blocks_from, blocks_of, prefix_names}
+use Rattle.formula.specs.Form.{prefix_width, block_at, blocks_from, blocks_of}
 use Rattle.acceptance.specs.Verdict.{is_number_to}
-use Rattle.form_check.specs.Accepted.{AcceptedForm}
+use Rattle.form_check.specs.Accepted.{prefix_names, AcceptedForm}
 use Rattle.form_check.proofs.Names.{names_are, pass_names}
 use Rattle.form_check.proofs.Flags.{name_below}
 

@@ -16,12 +16,13 @@ use Rattle.lists.specs.Members.{mem, all, maximum}
 use Rattle.lists.proofs.Search.{lowest_le}
 use Rattle.lists.proofs.Stores.{set_cases}
 use Rattle.formula.specs.Words.{is_block_kind, range, block_words}
-use Rattle.formula.specs.Form.{Block, prefix_width, block_at, blocks_of, binds, prefix_names}
+use Rattle.formula.specs.Form.{Block, prefix_width, block_at, blocks_of, binds}
 use Rattle.formula.specs.Truth.{digit}
 use Rattle.formula.proofs.Prefix.{binds_mem}
 use Rattle.refusals.specs.Verdict.{refusal, accepted}
 use Rattle.acceptance.specs.Verdict.{is_number_to, range_past_end}
 use Rattle.form_check.specs.Verdict.{form_limits, repeats, names_before, bad_block, prefix_verdict}
+use Rattle.form_check.specs.Accepted.{prefix_names}
 use Rattle.form_check.specs.declared.BlockWords.{BlockWords}
 use Rattle.form_check.specs.Steps.{NamesFlagged, new_name, new_names, pushed, block_words_at, fitting_block}
 use Rattle.form_check.proofs.Names.{names_next, names_are}

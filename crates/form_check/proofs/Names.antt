@@ -14,8 +14,9 @@ use Rattle.lists.specs.Members.{mem, all, distinct}
 use Rattle.lists.specs.Parts.{up_to}
 use Rattle.lists.proofs.Members.{mem_append, eqb_swap, all_mem, all_intro}
 use Rattle.lists.proofs.Parts.{mem-up_to, mem_up_to_from}
-use Rattle.formula.specs.Form.{prefix_width, block_at, blocks_from, blocks_of, prefix_names}
+use Rattle.formula.specs.Form.{prefix_width, block_at, blocks_from, blocks_of}
 use Rattle.form_check.specs.Verdict.{repeats, names_before}
+use Rattle.form_check.specs.Accepted.{prefix_names}
 
 -- An element may be put first: that changes nothing in whether all are distinct.
 

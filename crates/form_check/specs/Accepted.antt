@@ -1,14 +1,19 @@
 -- What holds of every form that neither 14 nor 15 refuses. Crates above cite this record (proofs/Accepted.antt makes it of the verdict,
 -- and the verdict of it) and never the verdict's text.
 -- Assumes nothing.
-use Rattle.std.specs.Prelude.{true, List, [], ◌≡◌, ℕ, ◌+◌, ◌*◌, ◌/◌, ◌<◌, ◌≤◌, length, get_or}
+use Rattle.std.specs.Prelude.{true, ◌≡◌, ℕ, ◌+◌, ◌*◌, ◌/◌, ◌<◌, ◌≤◌, length, get_or}
+use mathlib.Core.List.{List, [], flat_map}
 use Rattle.lists.specs.Members.{all, distinct}
 use Rattle.formula.specs.Words.{is_block_kind}
-use Rattle.formula.specs.Form.{prefix_width, blocks_of, prefix_names}
+use Rattle.formula.specs.Form.{Block, prefix_width, blocks_of}
 use Rattle.acceptance.specs.Limits.{TableLimits}
 use Rattle.acceptance.specs.Verdict.{is_number_to}
 use Rattle.acceptance.specs.Accepted.{AcceptedWithin}
 use Rattle.form_check.specs.Verdict.{form_limits}
+
+-- The variables of prefix blocks, in the prefix's order.
+unfoldable pub prefix_names : List Block → List ℕ
+prefix_names bs = flat_map (λ (b : Block). b.variables) bs
 
 pub record AcceptedFormWithin (lim : TableLimits) (ns ps xs : List ℕ) : Type 0 where
   -- the nodes are a tree of constants, variables, not nodes and operators within their ranges

@@ -4,7 +4,7 @@ ghost use Rattle.std.specs.Prelude.{true, not, List, [], ◌∷◌, ◌≡◌, �
 ghost use Rattle.lists.specs.Search.{lowest};
 ghost use Rattle.lists.specs.Members.{maximum};
 ghost use Rattle.formula.specs.Words.{range};
-ghost use Rattle.formula.specs.Form.{prefix_width, blocks_of, binds, prefix_names};
+ghost use Rattle.formula.specs.Form.{prefix_width, blocks_of, binds};
 ghost use Rattle.formula.specs.Truth.{digit};
 ghost use Rattle.refusals.specs.Verdict.{refusal};
 ghost use Rattle.form_check.specs.Verdict.{
@@ -14,6 +14,7 @@ ghost use Rattle.form_check.specs.Verdict.{
   prefix_verdict,
   form_verdict,
 };
+ghost use Rattle.form_check.specs.Accepted.{prefix_names};
 ghost use Rattle.form_check.specs.Steps.{
   NamesFlagged,
   new_name,

@@ -59,7 +59,7 @@ pub coincidence : (t : Table) (v u : Valuation) → ((x : ℕ) → free t x ≡ 
 unfolding truth free
 coincidence t v u same = value_only t t.size (t.size - 1) v u same
 
-pub quantify_only : (bs : List Block) (p : ℕ → Bool) (f : Valuation → Bool) → Only p f
+quantify_only : (bs : List Block) (p : ℕ → Bool) (f : Valuation → Bool) → Only p f
     → Only (λ x. p x && not (binds bs x)) (quantify bs f)
 unfolding quantify binds
 quantify_only [] p f only v u same = only v u (λ x h. same x (and_both (p x) true h refl))

@@ -1,4 +1,3 @@
-pub mod Blocks
 pub mod Coincidence
 pub mod Meaning
 pub mod Nodes

@@ -1,8 +1,7 @@
 -- The truth value of a prenex form (document 01, "Truth and size": the written form): nodes, a prefix of three words a
 -- block, and a list of variables, of any length and with names of any size.
 -- Assumes nothing.
-use Rattle.std.specs.Prelude.{Bool, false, not, ◌&&◌, ◌||◌, ℕ, zero, suc, ◌+◌, ◌*◌, ◌/◌, eqb, length, get_or}
-use mathlib.Core.List.{List, [], ◌∷◌, flat_map}
+use Rattle.std.specs.Prelude.{Bool, false, not, ◌&&◌, ◌||◌, List, [], ◌∷◌, ℕ, zero, suc, ◌+◌, ◌*◌, ◌/◌, eqb, length, get_or}
 use Rattle.lists.specs.Choice.{pick}
 use Rattle.lists.specs.Members.{mem}
 use Rattle.formula.specs.Node.{Quantifier, exists, for_all}
@@ -41,15 +40,6 @@ blocks_from ps xs j (suc m) = block_at ps xs j ∷ blocks_from ps xs (suc j) m
 
 unfoldable pub blocks_of : List ℕ → List ℕ → List Block
 blocks_of ps xs = blocks_from ps xs 0 (length ps / prefix_width)
-
--- The variables of prefix blocks, in the prefix's order.
-unfoldable pub prefix_names : List Block → List ℕ
-prefix_names bs = flat_map (λ (b : Block). b.variables) bs
-
--- The blocks that bind a variable.
-unfoldable pub filled_blocks : List Block → List Block
-filled_blocks [] = []
-filled_blocks (b ∷ bs) = pick (eqb (length b.variables) 0) (filled_blocks bs) (b ∷ filled_blocks bs)
 
 -- The words of prefix blocks: "kind 5 or 6, first, count, with stretches following one another in the output list", whose
 -- first stretch begins at entry s.

@@ -1,11 +1,7 @@
-// Reads a QCIR text, from the file that its last argument names or from standard input, and prints the QDIMACS
-// text of its prenex form; or says on standard error why the text is refused. With --keep-prefix the
-// blocks in front of the table are kept.
+// Reads a QCIR text, from the file that its argument names or from standard input, and prints the QDIMACS
+// text of its prenex form; or says on standard error why the text is refused.
 use form_writer::Format;
 
 fn main() {
-    lift_program::run(
-        b"usage: lift_qdimacs [--keep-prefix] [FILE]\n",
-        Format::Qdimacs,
-    );
+    lift_program::run(b"usage: lift_qdimacs [FILE]\n", Format::Qdimacs);
 }

@@ -17,8 +17,9 @@ use Rattle.refusals.specs.declared.Verdict.{Verdict}
 use Rattle.refusals.proofs.Outcome.{answer_next, call_next, call_room, call_short}
 use Rattle.acceptance.specs.Verdict.{verdict}
 use Rattle.prenex_form.specs.declared.Sizes.{Sizes}
-use Rattle.lift_kept.specs.Outcome.{form_as}
-use Rattle.lift_kept.proofs.Ways.{form_as_lem}
+use Rattle.prenex_form.specs.Matrix.{written_nodes}
+use Rattle.prenex_form.specs.Prefix.{written_prefix, written_variables}
+use Rattle.prenex_form.proofs.Theorem.{prenex}
 use Rattle.prenex.specs.declared.Answer.{Answer as Measure}
 use Rattle.prenex.specs.Outcome.{no_sizes, measured}
 use Rattle.form_check.specs.Verdict.{form_verdict}
@@ -29,8 +30,8 @@ use Rattle.qcir.specs.FromText.{limits, refused_text}
 use Rattle.qcir.specs.Reading.{Written as ReadSizes, Buffers, buffers, Reading, TableWritten}
 use Rattle.file_to_file.proofs.Passes.{lift_passes}
 use Rattle.text_answers.specs.declared.Answer.{Answer}
-use Rattle.text_answers.specs.declared.Target.{Target}
-use Rattle.lift_text.specs.Targets.{lifted_as}
+use Rattle.form_writer.specs.declared.Format.{Format}
+use Rattle.lift_text.specs.Formats.{lifted_as}
 use Rattle.text_answers.specs.Answers.{TextSizes, no_text_sizes, answer_of, of_writing}
 use Rattle.lift_text.specs.Lifting.{after, written_as, Lifting, LiftsText}
 use Rattle.lift_text.specs.Memory.{Lent, lent, after_in, text_of, beside, written_in, LiftingIn, LiftsTextIn}
@@ -41,7 +42,7 @@ use Rattle.lift_text.proofs.Texts.{read_refused, read_done}
 use Rattle.lift_text.proofs.Memory.{no_memory, has_memory, never_memory, lifts_in}
 use Rattle.lift_text.proofs.Measuring.{measures_text}
 
-module _ (ws ls : List ℕ) (ok : verdict ws ls ≡ accepted) (target : Target) (nodes nodes' out : List ℕ) where
+module _ (ws ls : List ℕ) (ok : verdict ws ls ≡ accepted) (format : Format) (nodes nodes' out : List ℕ) where
   abbrev before : Lent
   before = lent nodes out
 
@@ -51,43 +52,43 @@ module _ (ws ls : List ℕ) (ok : verdict ws ls ≡ accepted) (target : Target) 
   handed r v w held e a = ap (λ (b : AnswerWith TextSizes). record { answer = b; buffers = held }) (a ∙ ap (λ (u : Verdict). refused u no_text_sizes) e)
 
   -- There is no memory for the nodes.
-  pub short_memory : Short ws ls ok target.prefix nodes nodes' → (r : Answer) (v : Verdict) → v ≡ refusal 24 0 → answer_of r ≡ refused v no_text_sizes
-      → after_in r (lent nodes' out) ≡ written_in target (lent nodes out) ws ls
+  pub short_memory : Short ws ls ok nodes nodes' → (r : Answer) (v : Verdict) → v ≡ refusal 24 0 → answer_of r ≡ refused v no_text_sizes
+      → after_in r (lent nodes' out) ≡ written_in format (lent nodes out) ws ls
   short_memory s r v e a =
-      ap (λ (l : List ℕ). after_in r (lent l out)) s.unchanged ∙ handed r v _ before e a ∙ sym (no_memory target before ws ls s.no_room)
+      ap (λ (l : List ℕ). after_in r (lent l out)) s.unchanged ∙ handed r v _ before e a ∙ sym (no_memory format before ws ls s.no_room)
 
-  module _ (m : Measure) (prefix' variables' out' : List ℕ) (l : Lifts ws ls ok target.prefix m nodes nodes' prefix' variables') (a : TextAnswer)
+  module _ (m : Measure) (prefix' variables' out' : List ℕ) (l : Lifts ws ls ok m nodes nodes' prefix' variables') (a : TextAnswer)
       (w : text_after a out' ≡ text_outcome (form_verdict (take (width * m.sizes.nodes) nodes') (take (prefix_width * m.sizes.blocks) prefix') (take m.sizes.entries variables'))
-      (text_as target.format (take (width * m.sizes.nodes) nodes') (take (prefix_width * m.sizes.blocks) prefix') (take m.sizes.entries variables')) out) where
+      (text_as format (take (width * m.sizes.nodes) nodes') (take (prefix_width * m.sizes.blocks) prefix') (take m.sizes.entries variables')) out) where
     -- The writer wrote the text of the form, ..
-    text_is : text_after a out' ≡ text_outcome accepted (lifted_as target ws ls) out
+    text_is : text_after a out' ≡ text_outcome accepted (lifted_as format ws ls) out
     text_is =
-        let form = form_as target.prefix ws ls in
-        w ∙ (λ i. text_outcome (form_verdict (l.nodes_are i) (l.prefix_is i) (l.variables_are i)) (text_as target.format (l.nodes_are i) (l.prefix_is i) (l.variables_are i)) out)
-        ∙ ap (λ (v : Verdict). text_outcome v (text_as target.format form.nodes form.prefix form.variables) out) (lift_passes (table_of ws ls) _ _ _ (form_as_lem target.prefix ws ls ok))
-        ∙ ap (λ (x : List ℕ). text_outcome accepted x out) (lifted_as_lem target ws ls)
+        let t = table_of ws ls in
+        w ∙ (λ i. text_outcome (form_verdict (l.nodes_are i) (l.prefix_is i) (l.variables_are i)) (text_as format (l.nodes_are i) (l.prefix_is i) (l.variables_are i)) out)
+        ∙ ap (λ (v : Verdict). text_outcome v (text_as format (written_nodes t) (written_prefix t) (written_variables t)) out) (lift_passes t _ _ _ (prenex ws ls ok))
+        ∙ ap (λ (x : List ℕ). text_outcome accepted x out) (lifted_as_lem format ws ls)
 
     -- .. or had no room for it.
-    text_short : length out < length (lifted_as target ws ls) → text_after a out' ≡ record { answer = refused (refusal 9 0) 0; buffers = out }
+    text_short : length out < length (lifted_as format ws ls) → text_after a out' ≡ record { answer = refused (refusal 9 0) 0; buffers = out }
     unfolding text_outcome accepted
     text_short h = text_is ∙ call_next 0 out _ accepted refl ∙ call_short 0 out _ _ (lt-ltb _ _ h)
 
-    text_done : length (lifted_as target ws ls) ≤ length out → text_after a out' ≡ record { answer = done (length (lifted_as target ws ls)); buffers = overwrite out 0 (lifted_as target ws ls) }
+    text_done : length (lifted_as format ws ls) ≤ length out → text_after a out' ≡ record { answer = done (length (lifted_as format ws ls)); buffers = overwrite out 0 (lifted_as format ws ls) }
     unfolding text_outcome accepted
     text_done h = text_is ∙ call_next 0 out _ accepted refl ∙ call_room 0 out _ _ (le-ltb _ _ h)
 
-    pub text_call : (r : Answer) → answer_of r ≡ of_writing a m.sizes → after_in r (lent nodes' out') ≡ written_in target (lent nodes out) ws ls
+    pub text_call : (r : Answer) → answer_of r ≡ of_writing a m.sizes → after_in r (lent nodes' out') ≡ written_in format (lent nodes out) ws ls
     unfolding text_answer_of refusal refused done accepted refused_text of_writing
-    text_call r e = go (look (ltb (length out) (length (lifted_as target ws ls))))
+    text_call r e = go (look (ltb (length out) (length (lifted_as format ws ls))))
       where
-        go : Is (ltb (length out) (length (lifted_as target ws ls))) → after_in r (lent nodes' out') ≡ written_in target (lent nodes out) ws ls
+        go : Is (ltb (length out) (length (lifted_as format ws ls))) → after_in r (lent nodes' out') ≡ written_in format (lent nodes out) ws ls
         go (is_true t) =
             let h = ltb-true _ _ t in
             let d = text_short h in
             let n : a.number ≡ 9 = ap (λ (o : Outcome ℕ (List ℕ)). o.answer.verdict.number) d in
             let b = e ∙ pick_no _ _ _ (ne_eqb a.number 0 (λ z. omega (arith, n, z))) in
             (λ i. record { answer = b i; buffers = lent (l.nodes_over i) (d i).buffers })
-            ∙ sym (has_memory target before ws ls l.room ∙ ap (beside _) (is_short target out ws ls h))
+            ∙ sym (has_memory format before ws ls l.room ∙ ap (beside _) (is_short format out ws ls h))
         go (is_false t) =
             let h = ltb-false _ _ t in
             let d = text_done h in
@@ -97,67 +98,67 @@ module _ (ws ls : List ℕ) (ok : verdict ws ls ≡ accepted) (target : Target) 
               answer = done (record { bytes = (d i).answer.sizes; table = l.sizes_are i });
               buffers = lent (l.nodes_over i) (d i).buffers;
             })
-            ∙ sym (has_memory target before ws ls l.room ∙ ap (beside _) (is_done_lem target out ws ls h))
+            ∙ sym (has_memory format before ws ls l.room ∙ ap (beside _) (is_done_lem format out ws ls h))
 
 -- What is left of the text where lent memory is there for the form's nodes, and where it is not.
-module _ (ws ls : List ℕ) (ok : verdict ws ls ≡ accepted) (target : Target) (nodes out : List ℕ) (o : Outcome TextSizes Lent) (e : o ≡ written_in target (lent nodes out) ws ls) where
-  with_room : length (form_as target.prefix ws ls).nodes ≤ length nodes → text_of o ≡ written_as target out ws ls
-  with_room h = ap text_of (e ∙ has_memory target (lent nodes out) ws ls h)
+module _ (ws ls : List ℕ) (ok : verdict ws ls ≡ accepted) (format : Format) (nodes out : List ℕ) (o : Outcome TextSizes Lent) (e : o ≡ written_in format (lent nodes out) ws ls) where
+  with_room : length (written_nodes (table_of ws ls)) ≤ length nodes → text_of o ≡ written_as format out ws ls
+  with_room h = ap text_of (e ∙ has_memory format (lent nodes out) ws ls h)
 
   -- Memory for every form's nodes is there.
-  pub text_alone : length nodes ≡ 163840 → text_of o ≡ written_as target out ws ls
-  text_alone many = with_room (omega (arith, nodes_most ws ls ok target.prefix, many))
+  pub text_alone : length nodes ≡ 163840 → text_of o ≡ written_as format out ws ls
+  text_alone many = with_room (omega (arith, nodes_most ws ls ok, many))
 
   -- Less of it is there, or the call is refused by 24.
-  pub text_unless : (o.answer.verdict.number ≡ 24 → ⊥) → text_of o ≡ written_as target out ws ls
+  pub text_unless : (o.answer.verdict.number ≡ 24 → ⊥) → text_of o ≡ written_as format out ws ls
   unfolding refused_text refused refusal
-  text_unless n = go (look (ltb (length nodes) (length (form_as target.prefix ws ls).nodes)))
+  text_unless n = go (look (ltb (length nodes) (length (written_nodes (table_of ws ls)))))
     where
-      go : Is (ltb (length nodes) (length (form_as target.prefix ws ls).nodes)) → text_of o ≡ written_as target out ws ls
-      go (is_true t) = absurd (n (ap (λ (q : Outcome TextSizes Lent). q.answer.verdict.number) (e ∙ no_memory target (lent nodes out) ws ls (ltb-true _ _ t))))
+      go : Is (ltb (length nodes) (length (written_nodes (table_of ws ls)))) → text_of o ≡ written_as format out ws ls
+      go (is_true t) = absurd (n (ap (λ (q : Outcome TextSizes Lent). q.answer.verdict.number) (e ∙ no_memory format (lent nodes out) ws ls (ltb-true _ _ t))))
       go (is_false t) = with_room (ltb-false _ _ t)
 
   pub text_kept : o.answer.verdict.number ≡ 24 → o.buffers.out ≡ out
   unfolding refused_text
-  text_kept z = go (look (ltb (length nodes) (length (form_as target.prefix ws ls).nodes)))
+  text_kept z = go (look (ltb (length nodes) (length (written_nodes (table_of ws ls)))))
     where
-      go : Is (ltb (length nodes) (length (form_as target.prefix ws ls).nodes)) → o.buffers.out ≡ out
-      go (is_true t) = ap (λ (q : Outcome TextSizes Lent). q.buffers.out) (e ∙ no_memory target (lent nodes out) ws ls (ltb-true _ _ t))
+      go : Is (ltb (length nodes) (length (written_nodes (table_of ws ls)))) → o.buffers.out ≡ out
+      go (is_true t) = ap (λ (q : Outcome TextSizes Lent). q.buffers.out) (e ∙ no_memory format (lent nodes out) ws ls (ltb-true _ _ t))
       go (is_false t) =
-          absurd (never_memory target (lent nodes out) ws ls (sym (ap (λ (q : Outcome TextSizes Lent). q.answer.verdict.number) (e ∙ has_memory target (lent nodes out) ws ls (ltb-false _ _ t))) ∙ z))
+          absurd (never_memory format (lent nodes out) ws ls (sym (ap (λ (q : Outcome TextSizes Lent). q.answer.verdict.number) (e ∙ has_memory format (lent nodes out) ws ls (ltb-false _ _ t))) ∙ z))
 
 -- What `lift_text`, `lift_text_in` and `measure_text` owe, where reading refused and where it is done.
-module _ (target : Target) (text before words list : List ℕ) (wide : length words ≡ 16384) (long : length list ≡ 4096) where
+module _ (format : Format) (text before words list : List ℕ) (wide : length words ≡ 16384) (long : length list ≡ 4096) where
   pub refused_lift : (o : Outcome ReadSizes Buffers) → Reading limits text (buffers words list) o → (o.answer.verdict.number ≡ 0 → ⊥)
-      → (r : Answer) → answer_of r ≡ refused o.answer.verdict no_text_sizes → LiftsText target text before (after r before)
+      → (r : Answer) → answer_of r ≡ refused o.answer.verdict no_text_sizes → LiftsText format text before (after r before)
   unfolding refused_text
   refused_lift o reading n r e =
-      lifts_text target text before _
-      (subst (λ (a : AnswerWith TextSizes). Lifting target text before (record { answer = a; buffers = before })) (sym e)
-      (read_refused words list wide long text no_text_sizes before (written_as target before) o reading n))
+      lifts_text format text before _
+      (subst (λ (a : AnswerWith TextSizes). Lifting format text before (record { answer = a; buffers = before })) (sym e)
+      (read_refused words list wide long text no_text_sizes before (written_as format before) o reading n))
 
   pub done_lift : (o : Outcome ReadSizes Buffers) → Reading limits text (buffers words list) o → o.answer.verdict.number ≡ 0
-      → (p : Outcome TextSizes (List ℕ)) → p ≡ written_as target before (take o.answer.sizes.words o.buffers.words) (take o.answer.sizes.entries o.buffers.list)
-      → LiftsText target text before p
+      → (p : Outcome TextSizes (List ℕ)) → p ≡ written_as format before (take o.answer.sizes.words o.buffers.words) (take o.answer.sizes.entries o.buffers.list)
+      → LiftsText format text before p
   done_lift o reading z p e =
-      lifts_text target text before p
-      (subst (Lifting target text before) (sym e) (read_done words list wide long text no_text_sizes before (written_as target before) o reading z).goes_on)
+      lifts_text format text before p
+      (subst (Lifting format text before) (sym e) (read_done words list wide long text no_text_sizes before (written_as format before) o reading z).goes_on)
 
-module _ (target : Target) (text : List ℕ) (before : Lent) (words list : List ℕ) (wide : length words ≡ 16384) (long : length list ≡ 4096) where
+module _ (format : Format) (text : List ℕ) (before : Lent) (words list : List ℕ) (wide : length words ≡ 16384) (long : length list ≡ 4096) where
   pub refused_call : (o : Outcome ReadSizes Buffers) → Reading limits text (buffers words list) o → (o.answer.verdict.number ≡ 0 → ⊥)
-      → (r : Answer) → answer_of r ≡ refused o.answer.verdict no_text_sizes → LiftsTextIn target text before (after_in r before)
+      → (r : Answer) → answer_of r ≡ refused o.answer.verdict no_text_sizes → LiftsTextIn format text before (after_in r before)
   unfolding refused_text
   refused_call o reading n r e =
-      lifts_in target text before _
-      (subst (λ (a : AnswerWith TextSizes). LiftingIn target text before (record { answer = a; buffers = before })) (sym e)
-      (read_refused words list wide long text no_text_sizes before (written_in target before) o reading n))
+      lifts_in format text before _
+      (subst (λ (a : AnswerWith TextSizes). LiftingIn format text before (record { answer = a; buffers = before })) (sym e)
+      (read_refused words list wide long text no_text_sizes before (written_in format before) o reading n))
 
   pub done_call : (o : Outcome ReadSizes Buffers) → Reading limits text (buffers words list) o → o.answer.verdict.number ≡ 0
-      → (p : Outcome TextSizes Lent) → p ≡ written_in target before (take o.answer.sizes.words o.buffers.words) (take o.answer.sizes.entries o.buffers.list)
-      → LiftsTextIn target text before p
+      → (p : Outcome TextSizes Lent) → p ≡ written_in format before (take o.answer.sizes.words o.buffers.words) (take o.answer.sizes.entries o.buffers.list)
+      → LiftsTextIn format text before p
   done_call o reading z p e =
-      lifts_in target text before p
-      (subst (LiftingIn target text before) (sym e) (read_done words list wide long text no_text_sizes before (written_in target before) o reading z).goes_on)
+      lifts_in format text before p
+      (subst (LiftingIn format text before) (sym e) (read_done words list wide long text no_text_sizes before (written_in format before) o reading z).goes_on)
 
 module _ (text words list : List ℕ) (wide : length words ≡ 16384) (long : length list ≡ 4096) where
   pub refused_measure : (o : Outcome ReadSizes Buffers) → Reading limits text (buffers words list) o → (o.answer.verdict.number ≡ 0 → ⊥)

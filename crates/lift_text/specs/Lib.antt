@@ -1,4 +1,4 @@
-pub mod Targets
+pub mod Formats
 pub mod Lifting
 pub mod Memory
 pub mod Measuring

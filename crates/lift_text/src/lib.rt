@@ -8,11 +8,12 @@ ghost use Rattle.lift_text.specs.Memory.{lent, after_in, written_in, LiftsTextIn
 ghost use Rattle.lift_text.specs.Measuring.{MeasuresText};
 
 use acceptance::LIMIT;
+use form_writer::Format;
 use formula::WIDTH;
 use prefix_writer::PREFIX_WIDTH;
 use prenex::Answer as Measure;
 use refusals::{ACCEPTED, MEMORY_TOO_SHORT};
-use text_answers::{Answer, Target};
+use text_answers::Answer;
 
 // The most nodes, prefix blocks and prefix variables of a prenex form.
 const NODES: usize = 10 * LIMIT;
@@ -35,8 +36,8 @@ pub const TEXT: usize = 64 * (NODES + 1) + 4 * BLOCKS + 6 * ENTRIES;
 //
 // The contract rules out a call that takes the list of the table for its words, and one that hands on
 // words beyond those of the form's nodes.
-pub fn lift_text(text: &[u8], target: Target, out: &mut [u8]) -> Answer
-    ensures { LiftsText target text.now out.old (after result out.new) }
+pub fn lift_text(text: &[u8], format: Format, out: &mut [u8]) -> Answer
+    ensures { LiftsText format text.now out.old (after result out.new) }
 {
     let mut words = [0u32; WIDTH * LIMIT];
     let mut list = [0u32; LIMIT];
@@ -47,7 +48,7 @@ pub fn lift_text(text: &[u8], target: Target, out: &mut [u8]) -> Answer
     }
     let n = read.words as usize;
     let m = read.entries as usize;
-    lift_table(&words[..n], &list[..m], target, out)
+    lift_table(&words[..n], &list[..m], format, out)
 }
 
 // The same with lent memory for the form's nodes, for callers with a small stack; 24 if that is too
@@ -55,8 +56,8 @@ pub fn lift_text(text: &[u8], target: Target, out: &mut [u8]) -> Answer
 //
 // The contract rules out a call that answers done where the text has no room, and one that answers
 // another number of bytes than it wrote.
-pub fn lift_text_in(text: &[u8], target: Target, nodes: &mut [u32], out: &mut [u8]) -> Answer
-    ensures { LiftsTextIn target text.now (lent nodes.old out.old)
+pub fn lift_text_in(text: &[u8], format: Format, nodes: &mut [u32], out: &mut [u8]) -> Answer
+    ensures { LiftsTextIn format text.now (lent nodes.old out.old)
         (after_in result (lent nodes.new out.new)) }
 {
     let mut words = [0u32; WIDTH * LIMIT];
@@ -68,46 +69,46 @@ pub fn lift_text_in(text: &[u8], target: Target, nodes: &mut [u32], out: &mut [u
     }
     let n = read.words as usize;
     let m = read.entries as usize;
-    lift_table_in(&words[..n], &list[..m], target, nodes, out)
+    lift_table_in(&words[..n], &list[..m], format, nodes, out)
 }
 
 // Lifts a table that was read and writes its form, in memory of its own: in less of it where few
 // variables are bound, since clearing it is much of what a small text costs.
-fn lift_table(words: &[u32], list: &[u32], target: Target, out: &mut [u8]) -> Answer
+fn lift_table(words: &[u32], list: &[u32], format: Format, out: &mut [u8]) -> Answer
     requires { verdict words.now list.now ≡ accepted }
     ensures { after result out.new
-        ≡ written_as target out.old words.now list.now }
+        ≡ written_as format out.old words.now list.now }
 {
     if FEW_BOUND < list.len() {
-        return lift_large(words, list, target, out);
+        return lift_large(words, list, format, out);
     }
-    let answer = lift_small(words, list, target, out);
+    let answer = lift_small(words, list, format, out);
     let verdict = answer.verdict;
     if verdict.number != MEMORY_TOO_SHORT {
         return answer;
     }
-    lift_large(words, list, target, out)
+    lift_large(words, list, format, out)
 }
 
 // In memory for a small form's nodes; 24 if it is none.
-fn lift_small(words: &[u32], list: &[u32], target: Target, out: &mut [u8]) -> Answer
+fn lift_small(words: &[u32], list: &[u32], format: Format, out: &mut [u8]) -> Answer
     requires { verdict words.now list.now ≡ accepted }
     ensures done { (result.verdict.number ≡ 24 → ⊥) → after result out.new
-        ≡ written_as target out.old words.now list.now }
+        ≡ written_as format out.old words.now list.now }
     ensures short { result.verdict.number ≡ 24 → out.new ≡ out.old }
 {
     let mut nodes = [0u32; WIDTH * SMALL_FORM];
-    lift_table_in(words, list, target, &mut nodes, out)
+    lift_table_in(words, list, format, &mut nodes, out)
 }
 
 // In memory for every form's nodes.
-fn lift_large(words: &[u32], list: &[u32], target: Target, out: &mut [u8]) -> Answer
+fn lift_large(words: &[u32], list: &[u32], format: Format, out: &mut [u8]) -> Answer
     requires { verdict words.now list.now ≡ accepted }
     ensures { after result out.new
-        ≡ written_as target out.old words.now list.now }
+        ≡ written_as format out.old words.now list.now }
 {
     let mut nodes = [0u32; WIDTH * NODES];
-    lift_table_in(words, list, target, &mut nodes, out)
+    lift_table_in(words, list, format, &mut nodes, out)
 }
 
 // In lent memory for the form's nodes. Several functions call this, so that the compiler keeps it out of
@@ -115,19 +116,18 @@ fn lift_large(words: &[u32], list: &[u32], target: Target, out: &mut [u8]) -> An
 fn lift_table_in(
     words: &[u32],
     list: &[u32],
-    target: Target,
+    format: Format,
     nodes: &mut [u32],
     out: &mut [u8],
 ) -> Answer
     requires { verdict words.now list.now ≡ accepted }
     ensures { after_in result (lent nodes.new out.new)
-        ≡ written_in target (lent nodes.old out.old)
+        ≡ written_in format (lent nodes.old out.old)
         words.now list.now }
 {
     let mut prefix = [0u32; PREFIX_WIDTH * BLOCKS];
     let mut variables = [0u32; ENTRIES];
-    let way = target.prefix;
-    let lifted = lift_kept::lift_as(words, list, way, nodes, &mut prefix, &mut variables);
+    let lifted = prenex::lift_accepted(words, list, nodes, &mut prefix, &mut variables);
     let verdict = lifted.verdict;
     if verdict.number != ACCEPTED {
         return text_answers::refused(refusals::refusal(MEMORY_TOO_SHORT, 0));
@@ -136,7 +136,6 @@ fn lift_table_in(
     let n = WIDTH * (sizes.nodes as usize);
     let b = PREFIX_WIDTH * (sizes.blocks as usize);
     let e = sizes.entries as usize;
-    let format = target.format;
     let written = form_writer::write(&nodes[..n], &prefix[..b], &variables[..e], format, out);
     text_answers::of_writing(written, sizes)
 }

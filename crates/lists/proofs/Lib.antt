@@ -5,4 +5,3 @@ pub mod Overwrite
 pub mod Stores
 pub mod Passing
 pub mod Sums
-pub mod Keep

@@ -92,7 +92,7 @@ pub get_or-place : (x : ℕ) (xs : List ℕ) (d : ℕ) → mem x xs ≡ true →
 get_or-place x [] d h = clash h (mem_nil x)
 get_or-place x (y ∷ ys) d h = get_or_place_cons x y ys d (found x y ys h) (get_or-place x ys d)
 
-pub distinct_head : (x : ℕ) (xs : List ℕ) → distinct (x ∷ xs) ≡ true → mem x xs ≡ false
+distinct_head : (x : ℕ) (xs : List ℕ) → distinct (x ∷ xs) ≡ true → mem x xs ≡ false
 unfolding distinct
 distinct_head x xs u = not-true (mem x xs) (and_left (not (mem x xs)) (distinct xs) u)
 
@@ -100,7 +100,7 @@ pub distinct_tail : (x : ℕ) (xs : List ℕ) → distinct (x ∷ xs) ≡ true �
 unfolding distinct
 distinct_tail x xs u = and_right (not (mem x xs)) (distinct xs) u
 
-pub distinct_cons : (x : ℕ) (xs : List ℕ) → mem x xs ≡ false → distinct xs ≡ true → distinct (x ∷ xs) ≡ true
+distinct_cons : (x : ℕ) (xs : List ℕ) → mem x xs ≡ false → distinct xs ≡ true → distinct (x ∷ xs) ≡ true
 unfolding distinct
 distinct_cons x xs m u = and_both (not (mem x xs)) (distinct xs) (ap not m) u
 
@@ -173,14 +173,6 @@ times_positive x (y ∷ ys) h = times_positive_cons x y ys (found x y ys h) (tim
 pub distinct_append : (xs ys : List ℕ) → distinct xs ≡ true → distinct ys ≡ true → ((x : ℕ) → mem x xs ≡ true → mem x ys ≡ true → ⊥) → distinct (xs ++ ys) ≡ true
 distinct_append [] ys p q apart = q
 distinct_append (x ∷ xs) ys p q apart = distinct_cons x (xs ++ ys) (mem_neither x xs ys (distinct_head x xs p) (absent (mem x ys) (apart x (mem_head x xs)))) (distinct_append xs ys (distinct_tail x xs p) q (λ z m. apart z (mem_tail z x xs m)))
-
--- What repeats nothing begins with what repeats nothing.
-pub distinct_left : (xs ys : List ℕ) → distinct (xs ++ ys) ≡ true → distinct xs ≡ true
-unfolding distinct
-distinct_left [] ys h = refl
-distinct_left (x ∷ xs) ys h =
-    distinct_cons x xs (or_neither_left (mem x xs) (mem x ys) (sym (mem_append x xs ys) ∙ distinct_head x (xs ++ ys) h))
-    (distinct_left xs ys (distinct_tail x (xs ++ ys) h))
 
 pub times_append : (x : ℕ) (xs ys : List ℕ) → times x (xs ++ ys) ≡ times x xs + times x ys
 unfolding times

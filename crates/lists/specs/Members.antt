@@ -14,11 +14,6 @@ unfoldable pub all : (ℕ → Bool) → List ℕ → Bool
 all p [] = true
 all p (y ∷ ys) = p y && all p ys
 
--- the elements that pass the test
-unfoldable pub keep : (ℕ → Bool) → List ℕ → List ℕ
-keep p [] = []
-keep p (y ∷ ys) = pick (p y) (y ∷ keep p ys) (keep p ys)
-
 -- no element stands twice
 unfoldable pub distinct : List ℕ → Bool
 distinct [] = true

@@ -5,7 +5,7 @@ use refusals::ACCEPTED;
 
 fn main() {
     let mut text = [0u8; command_line::ROOM];
-    let input = command_line::read_input(b"usage: measure_qcir [FILE]\n", 1, &mut text);
+    let input = command_line::read_input(b"usage: measure_qcir [FILE]\n", &mut text);
     let length = input.length;
     if !input.failed {
         show_answer(&text[..length]);

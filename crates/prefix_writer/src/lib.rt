@@ -132,7 +132,7 @@ fn write_block(
 }
 
 // Writes the words of prefix block j.
-pub fn write_words(prefix: &mut [u32], j: usize, kind: u32, first: usize, count: usize)
+fn write_words(prefix: &mut [u32], j: usize, kind: u32, first: usize, count: usize)
     requires { (prefix_width * j + prefix_width ≤ length prefix.old) × (first < 4294967296) × (count < 4294967296) }
     ensures { prefix.new ≡ overwrite prefix.old (prefix_width * j) (kind ∷ first ∷ count ∷ []) }
 {

@@ -3,11 +3,12 @@
 use mathlib.Core.Path.{◌≡◌, sym, ◌∙◌, ap}
 use mathlib.Core.Bool.{true, false, ◌||◌}
 use mathlib.Core.List.{List}
-use Prim.Native.Nat.{ℕ, ◌≤◌, ◌<◌}
+use Prim.Native.Nat.{ℕ, ◌<◌}
 use lib.Dec.{ltb}
 use lib.ListN.{length}
 use borrow.Author.Tests.{lt-ltb, le-ltb}
 use Rattle.lists.specs.Choice.{or_neither, or_left, or_right}
+use Rattle.formula.specs.Node.{Table}
 use Rattle.formula.specs.Words.{table_of}
 use Rattle.refusals.specs.declared.Verdict.{Verdict}
 use Rattle.refusals.specs.Verdict.{refusal, accepted}
@@ -16,33 +17,12 @@ use Rattle.refusals.proofs.Outcome.{answer_next, answer_refused, call_next, call
 use Rattle.acceptance.specs.Verdict.{verdict}
 use Rattle.acceptance.proofs.Accepted.{number_zero}
 use Rattle.prenex_form.specs.declared.Sizes.{Sizes}
+use Rattle.prenex_form.specs.Matrix.{written_nodes}
+use Rattle.prenex_form.specs.Prefix.{written_prefix, written_variables}
 use Rattle.prenex_form.specs.Sizes.{sizes}
 use Rattle.prenex.specs.declared.Answer.{Answer}
 use Rattle.prenex.specs.Arrays.{Room, Written}
-use Rattle.prenex.specs.Outcome.{no_sizes, answer_of, measured, FormBuffers, buffers, written_form, too_short, written, form_outcome, lifted, after}
-
--- What is answered where a form was to be written, by the verdict and the room.
-module _ (form : FormBuffers) (s : Sizes) (before : FormBuffers) (v : Verdict) where
-  pub form_refused : (v.number ≡ 0 → ⊥) → (r : Answer) → answer_of r ≡ refused v no_sizes → after r before ≡ form_outcome v form s before
-  unfolding form_outcome
-  form_refused n r e =
-      ap (λ (a : AnswerWith Sizes). record { answer = a; buffers = before }) e ∙ sym (call_refused no_sizes before _ v n)
-
-  pub form-short : v.number ≡ 0 → too_short form before ≡ true → (r : Answer) → answer_of r ≡ refused (refusal 9 0) no_sizes
-      → after r before ≡ form_outcome v form s before
-  unfolding form_outcome
-  form-short z t r e =
-      ap (λ (a : AnswerWith Sizes). record { answer = a; buffers = before }) e
-      ∙ sym (call_short no_sizes before _ (too_short form before) t)
-      ∙ sym (call_next no_sizes before _ v z)
-
-  pub form-done : v.number ≡ 0 → too_short form before ≡ false → (r : Answer) → answer_of r ≡ done s → (held : FormBuffers) → held ≡ written form before
-      → after r held ≡ form_outcome v form s before
-  unfolding form_outcome
-  form-done z t r e held w =
-      (λ i. record { answer = e i; buffers = w i })
-      ∙ sym (call_room no_sizes before _ (too_short form before) t)
-      ∙ sym (call_next no_sizes before _ v z)
+use Rattle.prenex.specs.Outcome.{no_sizes, answer_of, measured, FormBuffers, buffers, too_short, written, lifted, after}
 
 -- The checker's answer v to the table of ws and ls.
 module _ (ws ls : List ℕ) (v : Verdict) (is : v ≡ verdict ws ls) where
@@ -61,43 +41,38 @@ module _ (ws ls : List ℕ) (v : Verdict) (is : v ≡ verdict ws ls) where
     unfolding measured
     measured-refused = handed-on ∙ sym (answer_refused (verdict ws ls) no_sizes _ (λ z. n (number_is ∙ z)))
 
-    -- whatever form was to be written
-    pub refused-form : (form : FormBuffers) (s : Sizes) (before : FormBuffers) → after r before ≡ form_outcome (verdict ws ls) form s before
-    refused-form form s before = form_refused form s before (verdict ws ls) (λ z. n (number_is ∙ z)) r handed-on
-
     pub lifted-refused : (before : FormBuffers) → after r before ≡ lifted ws ls before
     unfolding lifted
-    lifted-refused before = refused-form _ _ before
+    lifted-refused before =
+        ap (λ (a : AnswerWith Sizes). record { answer = a; buffers = before }) handed-on
+        ∙ sym (call_refused no_sizes before _ (verdict ws ls) (λ z. n (number_is ∙ z)))
 
 -- Room.
 
-pub room_for : (form before : FormBuffers) → length form.nodes ≤ length before.nodes → length form.prefix ≤ length before.prefix
-    → length form.variables ≤ length before.variables → too_short form before ≡ false
+pub room_enough : (ws ls nodes prefix variables : List ℕ) → Room ws ls nodes prefix variables → too_short (table_of ws ls) (buffers nodes prefix variables) ≡ false
 unfolding too_short
-room_for form before n p v = or_neither _ _ (or_neither _ _ (le-ltb _ _ n) (le-ltb _ _ p)) (le-ltb _ _ v)
+room_enough ws ls nodes prefix variables room =
+    or_neither _ _ (or_neither _ _ (le-ltb _ _ room.nodes_fit) (le-ltb _ _ room.prefix_fits)) (le-ltb _ _ room.variables_fit)
 
-pub room_enough : (ws ls nodes prefix variables : List ℕ) → Room ws ls nodes prefix variables → too_short (written_form (table_of ws ls)) (buffers nodes prefix variables) ≡ false
-room_enough ws ls nodes prefix variables room = room_for _ _ room.nodes_fit room.prefix_fits room.variables_fit
-
-module _ (form before : FormBuffers) where
-  pub short-nodes : length before.nodes < length form.nodes → too_short form before ≡ true
+module _ (t : Table) (before : FormBuffers) where
+  pub short-nodes : length before.nodes < length (written_nodes t) → too_short t before ≡ true
   unfolding too_short
   short-nodes h = or_left _ _ (or_left _ _ (lt-ltb _ _ h))
 
-  pub short-prefix : length before.prefix < length form.prefix → too_short form before ≡ true
+  pub short-prefix : length before.prefix < length (written_prefix t) → too_short t before ≡ true
   unfolding too_short
-  short-prefix h = or_left _ _ (or_right (ltb (length before.nodes) (length form.nodes)) _ (lt-ltb _ _ h))
+  short-prefix h = or_left _ _ (or_right (ltb (length before.nodes) (length (written_nodes t))) _ (lt-ltb _ _ h))
 
-  pub short-variables : length before.variables < length form.variables → too_short form before ≡ true
+  pub short-variables : length before.variables < length (written_variables t) → too_short t before ≡ true
   unfolding too_short
   short-variables h =
       or_right
-      (ltb (length before.nodes) (length form.nodes) || ltb (length before.prefix) (length form.prefix)) _
+      (ltb (length before.nodes) (length (written_nodes t)) || ltb (length before.prefix) (length (written_prefix t))) _
       (lt-ltb _ _ h)
 
 -- An accepted table.
 module _ (ws ls : List ℕ) (ok : verdict ws ls ≡ accepted) where
-  pub zero_number : (verdict ws ls).number ≡ 0
+  zero_number : (verdict ws ls).number ≡ 0
   unfolding accepted
   zero_number = ap (λ (w : Verdict). w.number) ok
 
@@ -106,10 +81,13 @@ module _ (ws ls : List ℕ) (ok : verdict ws ls ≡ accepted) where
   measured-done r s e f = e ∙ ap done f ∙ sym (answer_next (verdict ws ls) no_sizes _ zero_number)
 
   -- refused for want of room
-  pub lifted-short : (before : FormBuffers) → too_short (written_form (table_of ws ls)) before ≡ true → (r : Answer) → answer_of r ≡ refused (refusal 9 0) no_sizes
+  pub lifted-short : (before : FormBuffers) → too_short (table_of ws ls) before ≡ true → (r : Answer) → answer_of r ≡ refused (refusal 9 0) no_sizes
       → after r before ≡ lifted ws ls before
   unfolding lifted
-  lifted-short before s r e = form-short _ _ before (verdict ws ls) zero_number s r e
+  lifted-short before s r e =
+      ap (λ (a : AnswerWith Sizes). record { answer = a; buffers = before }) e
+      ∙ sym (call_short no_sizes before _ (too_short (table_of ws ls) before) s)
+      ∙ sym (call_next no_sizes before _ (verdict ws ls) zero_number)
 
   -- done
   pub lifted-done : (nodes prefix variables : List ℕ) → Room ws ls nodes prefix variables → (r : Answer) (s : Sizes) → answer_of r ≡ done s → s ≡ sizes (table_of ws ls)
@@ -117,5 +95,10 @@ module _ (ws ls : List ℕ) (ok : verdict ws ls ≡ accepted) where
       → after r (buffers nodes' prefix' variables') ≡ lifted ws ls (buffers nodes prefix variables)
   unfolding lifted written
   lifted-done nodes prefix variables room r s e f nodes' prefix' variables' w =
-      form-done _ _ (buffers nodes prefix variables) (verdict ws ls) zero_number (room_enough ws ls nodes prefix variables room) r (e ∙ ap done f) _
-      (λ i. record { nodes = w.nodes_are i; prefix = w.prefix_is i; variables = w.variables_are i })
+      let g = e ∙ ap done f in
+      let before = buffers nodes prefix variables in
+      let p : after r (buffers nodes' prefix' variables') ≡ record { answer = done (sizes (table_of ws ls)); buffers = written (table_of ws ls) before }
+      = λ i. record { answer = g i; buffers = record { nodes = w.nodes_are i; prefix = w.prefix_is i; variables = w.variables_are i } } in
+      p
+      ∙ sym (call_room no_sizes before _ (too_short (table_of ws ls) before) (room_enough ws ls nodes prefix variables room))
+      ∙ sym (call_next no_sizes before _ (verdict ws ls) zero_number)

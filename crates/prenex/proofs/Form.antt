@@ -6,13 +6,12 @@ use mathlib.Core.List.{List}
 use Prim.Native.Nat.{ℕ, ◌*◌}
 use native.Mathlib.Omega.{arith}
 use lib.Dec.{eqb}
-use lib.ListN.{take}
+use lib.ListN.{length, take}
 use borrow.Author.Tests.{eqb-true, eqb-false}
 use Rattle.lists.specs.Choice.{Is, is_true, is_false, look}
 use Rattle.lists.proofs.Overwrite.{start_of}
 use Rattle.formula.specs.Words.{width, table_of}
 use Rattle.formula.specs.Form.{prefix_width}
-use Rattle.refusals.specs.declared.Verdict.{Verdict}
 use Rattle.refusals.specs.Verdict.{refusal, accepted}
 use Rattle.refusals.specs.Outcome.{AnswerWith, Outcome, refused, done}
 use Rattle.refusals.proofs.Outcome.{answer_next, answer_refused, call_next, call_refused, call_room, call_short}
@@ -22,77 +21,21 @@ use Rattle.prenex_form.specs.declared.Sizes.{Sizes}
 use Rattle.prenex_form.specs.Matrix.{written_nodes}
 use Rattle.prenex_form.specs.Prefix.{written_prefix, written_variables}
 use Rattle.prenex_form.specs.Sizes.{sizes}
-use Rattle.prenex_form.specs.Promise.{SizesOf}
-use Rattle.prenex_form.proofs.Theorem.{prenex, prenex_new, sizes_written}
-use Rattle.prenex.specs.Outcome.{no_sizes, measured, FormBuffers, written_form, too_short, written, form_outcome, lifted, SizesWritten, form_left, FormWritten, LiftOf}
+use Rattle.prenex_form.specs.Promise.{PrenexOf, SizesOf}
+use Rattle.prenex_form.proofs.Theorem.{prenex, sizes_written}
+use Rattle.prenex.specs.Outcome.{no_sizes, measured, FormBuffers, written_form, too_short, written, lifted, SizesWritten, form_left, FormWritten}
 
 -- the verdict's number in an answer
 abbrev number : AnswerWith Sizes → ℕ
 number a = a.verdict.number
 
--- A form that was to be written of a table with this verdict, where it is done.
-module _ (v : Verdict) (form : FormBuffers) (s : Sizes) (before : FormBuffers) (o : Outcome Sizes FormBuffers)
-    (e : o ≡ form_outcome v form s before) (z : o.answer.verdict.number ≡ 0) where
-  abbrev outcome : Outcome Sizes FormBuffers
-  outcome = record { answer = done s; buffers = written form before }
-
-  pub outcome_done : (v.number ≡ 0) × (o ≡ outcome)
-  unfolding form_outcome refused refusal
-  outcome_done = by_verdict (look (eqb v.number 0))
-    where
-      by_room : v.number ≡ 0 → Is (too_short form before) → (v.number ≡ 0) × (o ≡ outcome)
-      by_room n (is_true t) =
-          let f = e ∙ call_next no_sizes before _ v n ∙ call_short no_sizes before _ (too_short form before) t in
-          let g : o.answer.verdict.number ≡ 9 = ap (λ (p : Outcome Sizes FormBuffers). p.answer.verdict.number) f in
-          absurd (omega arith)
-      by_room n (is_false t) = (n, e ∙ call_next no_sizes before _ v n ∙ call_room no_sizes before _ (too_short form before) t)
-
-      by_verdict : Is (eqb v.number 0) → (v.number ≡ 0) × (o ≡ outcome)
-      by_verdict (is_true t) = by_room (eqb-true _ 0 t) (look (too_short form before))
-      by_verdict (is_false t) =
-          let n = eqb-false _ 0 t in
-          absurd (n (sym (ap (λ (p : Outcome Sizes FormBuffers). p.answer.verdict.number) (e ∙ call_refused no_sizes before _ v n)) ∙ z))
-
-  -- its sizes
-  pub sizes_answered : o.answer.sizes ≡ s
-  unfolding done
-  sizes_answered = ap (λ (p : Outcome Sizes FormBuffers). p.answer.sizes) outcome_done.1
-
-  -- what is left of it in the buffers is the form, if these are its sizes
-  pub form_left_lem : SizesOf s form.nodes form.prefix form.variables → form_left o ≡ form
-  unfolding written
-  form_left_lem m =
-      let d = outcome_done.1 in
-      let a = sizes_answered in
-      let n : take (width * o.answer.sizes.nodes) o.buffers.nodes ≡ form.nodes =
-      ap (λ (k : ℕ). take k o.buffers.nodes) (ap (λ (y : Sizes). width * y.nodes) a)
-      ∙ ap (take (width * s.nodes)) (ap (λ (p : Outcome Sizes FormBuffers). p.buffers.nodes) d)
-      ∙ start_of before.nodes form.nodes _ m.nodes_measured in
-      let p : take (prefix_width * o.answer.sizes.blocks) o.buffers.prefix ≡ form.prefix =
-      ap (λ (k : ℕ). take k o.buffers.prefix) (ap (λ (y : Sizes). prefix_width * y.blocks) a)
-      ∙ ap (take (prefix_width * s.blocks)) (ap (λ (p : Outcome Sizes FormBuffers). p.buffers.prefix) d)
-      ∙ start_of before.prefix form.prefix _ m.blocks_measured in
-      let x : take o.answer.sizes.entries o.buffers.variables ≡ form.variables =
-      ap (λ (k : ℕ). take k o.buffers.variables) (ap (λ (y : Sizes). y.entries) a)
-      ∙ ap (take s.entries) (ap (λ (p : Outcome Sizes FormBuffers). p.buffers.variables) d)
-      ∙ start_of before.variables form.variables _ m.entries-measured in
-      rw (n, p, x) refl
-
--- What is promised of sizes and form, by what holds of these.
-module _ (ws ls : List ℕ) (form : FormBuffers) (s : Sizes) (m : SizesOf s form.nodes form.prefix form.variables)
-    (before : FormBuffers) (o : Outcome Sizes FormBuffers) (e : o ≡ form_outcome (verdict ws ls) form s before) where
-  pub outcome_sizes : SizesWritten form o.answer
-  unfolding SizesWritten
-  outcome_sizes z = rw (sizes_answered (verdict ws ls) form s before o e z) m
-
-  pub outcome_form : (Owed : FormBuffers → Type 0) → (verdict ws ls ≡ accepted → Owed form) → FormWritten Owed o
-  unfolding FormWritten
-  outcome_form Owed owed z =
-      subst Owed (sym (form_left_lem (verdict ws ls) form s before o e z m))
-      (owed (number_zero ws ls (outcome_done (verdict ws ls) form s before o e z).0))
-
 module _ (ws ls : List ℕ) where
-  pub measured_sizes : (a : AnswerWith Sizes) → a ≡ measured ws ls → SizesWritten (written_form (table_of ws ls)) a
+  -- the sizes of a table, as they are answered
+  sizes_are : (s : Sizes) → s ≡ sizes (table_of ws ls)
+      → SizesOf s (written_nodes (table_of ws ls)) (written_prefix (table_of ws ls)) (written_variables (table_of ws ls))
+  sizes_are s e = rw e (sizes_written (table_of ws ls))
+
+  pub measured_sizes : (a : AnswerWith Sizes) → a ≡ measured ws ls → SizesWritten (table_of ws ls) a
   unfolding measured refused done SizesWritten
   measured_sizes a e z = go (look (eqb (verdict ws ls).number 0))
     where
@@ -100,23 +43,66 @@ module _ (ws ls : List ℕ) where
           → SizesOf a.sizes (written_nodes (table_of ws ls)) (written_prefix (table_of ws ls)) (written_variables (table_of ws ls))
       go (is_true t) =
           let n = eqb-true _ 0 t in
-          rw (ap (λ (b : AnswerWith Sizes). b.sizes) (e ∙ answer_next (verdict ws ls) no_sizes _ n)) (sizes_written (table_of ws ls))
+          sizes_are a.sizes (ap (λ (b : AnswerWith Sizes). b.sizes) (e ∙ answer_next (verdict ws ls) no_sizes _ n))
       go (is_false f) =
           let n = eqb-false _ 0 f in absurd (n (sym (ap number (e ∙ answer_refused (verdict ws ls) no_sizes _ n)) ∙ z))
 
-  module _ (before : FormBuffers) (o : Outcome Sizes FormBuffers) (e : o ≡ lifted ws ls before) where
-    outcome_is : o ≡ form_outcome (verdict ws ls) (written_form (table_of ws ls)) (sizes (table_of ws ls)) before
-    unfolding lifted
-    outcome_is = e
+  module _ (before : FormBuffers) (o : Outcome Sizes FormBuffers) (e : o ≡ lifted ws ls before) (z : o.answer.verdict.number ≡ 0) where
+    -- a lift that is done
+    lifted_is : (verdict ws ls ≡ accepted) × (o ≡ record { answer = done (sizes (table_of ws ls)); buffers = written (table_of ws ls) before })
+    unfolding lifted refused refusal
+    lifted_is = by_verdict (look (eqb (verdict ws ls).number 0))
+      where
+        by_room : (verdict ws ls).number ≡ 0 → Is (too_short (table_of ws ls) before)
+            → (verdict ws ls ≡ accepted) × (o ≡ record { answer = done (sizes (table_of ws ls)); buffers = written (table_of ws ls) before })
+        by_room n (is_true s) =
+            let f = e ∙ call_next no_sizes before _ (verdict ws ls) n ∙ call_short no_sizes before _ (too_short (table_of ws ls) before) s in
+            let g : o.answer.verdict.number ≡ 9 = ap (λ (p : Outcome Sizes FormBuffers). p.answer.verdict.number) f in
+            absurd (omega arith)
+        by_room n (is_false s) =
+            (number_zero ws ls n, e ∙ call_next no_sizes before _ (verdict ws ls) n ∙ call_room no_sizes before _ (too_short (table_of ws ls) before) s)
 
-    pub lifted_sizes : SizesWritten (written_form (table_of ws ls)) o.answer
-    lifted_sizes = outcome_sizes ws ls (written_form (table_of ws ls)) (sizes (table_of ws ls)) (sizes_written (table_of ws ls)) before o outcome_is
+        by_verdict : Is (eqb (verdict ws ls).number 0)
+            → (verdict ws ls ≡ accepted) × (o ≡ record { answer = done (sizes (table_of ws ls)); buffers = written (table_of ws ls) before })
+        by_verdict (is_true t) = by_room (eqb-true _ 0 t) (look (too_short (table_of ws ls) before))
+        by_verdict (is_false f) =
+            let n = eqb-false _ 0 f in
+            absurd (n (sym (ap (λ (p : Outcome Sizes FormBuffers). p.answer.verdict.number) (e ∙ call_refused no_sizes before _ (verdict ws ls) n)) ∙ z))
 
-    -- what is left of it in the buffers is the written form
-    pub lifted_left : o.answer.verdict.number ≡ 0 → form_left o ≡ written_form (table_of ws ls)
-    lifted_left z = form_left_lem (verdict ws ls) (written_form (table_of ws ls)) (sizes (table_of ws ls)) before o outcome_is z (sizes_written (table_of ws ls))
+    -- its sizes
+    sizes_answered : o.answer.sizes ≡ sizes (table_of ws ls)
+    unfolding done
+    sizes_answered = ap (λ (p : Outcome Sizes FormBuffers). p.answer.sizes) lifted_is.1
 
-    pub lifted_form : FormWritten (LiftOf (table_of ws ls)) o
-    lifted_form =
-        outcome_form ws ls (written_form (table_of ws ls)) (sizes (table_of ws ls)) (sizes_written (table_of ws ls)) before o outcome_is
-        (LiftOf (table_of ws ls)) (λ ok. (prenex ws ls ok, prenex_new ws ls ok))
+  pub lifted_sizes : (before : FormBuffers) (o : Outcome Sizes FormBuffers) → o ≡ lifted ws ls before → SizesWritten (table_of ws ls) o.answer
+  unfolding SizesWritten
+  lifted_sizes before o e z = sizes_are o.answer.sizes (sizes_answered before o e z)
+
+  -- what is left of it in the buffers is the written form
+  pub lifted_left : (before : FormBuffers) (o : Outcome Sizes FormBuffers) → o ≡ lifted ws ls before → o.answer.verdict.number ≡ 0
+      → form_left o ≡ written_form (table_of ws ls)
+  unfolding written
+  lifted_left before o e z =
+      let t = table_of ws ls in
+      let d = lifted_is before o e z in
+      let m = sizes_written t in
+      let s = sizes_answered before o e z in
+      let n : take (width * o.answer.sizes.nodes) o.buffers.nodes ≡ written_nodes t =
+      ap (λ (k : ℕ). take k o.buffers.nodes) (ap (λ (y : Sizes). width * y.nodes) s)
+      ∙ ap (take (width * (sizes t).nodes)) (ap (λ (p : Outcome Sizes FormBuffers). p.buffers.nodes) d.1)
+      ∙ start_of before.nodes (written_nodes t) _ m.nodes_measured in
+      let p : take (prefix_width * o.answer.sizes.blocks) o.buffers.prefix ≡ written_prefix t =
+      ap (λ (k : ℕ). take k o.buffers.prefix) (ap (λ (y : Sizes). prefix_width * y.blocks) s)
+      ∙ ap (take (prefix_width * (sizes t).blocks)) (ap (λ (p : Outcome Sizes FormBuffers). p.buffers.prefix) d.1)
+      ∙ start_of before.prefix (written_prefix t) _ m.blocks_measured in
+      let v : take o.answer.sizes.entries o.buffers.variables ≡ written_variables t =
+      ap (λ (k : ℕ). take k o.buffers.variables) (ap (λ (y : Sizes). y.entries) s)
+      ∙ ap (take (sizes t).entries) (ap (λ (p : Outcome Sizes FormBuffers). p.buffers.variables) d.1)
+      ∙ start_of before.variables (written_variables t) _ m.entries-measured in
+      rw (n, p, v) refl
+
+  pub lifted_form : (before : FormBuffers) (o : Outcome Sizes FormBuffers) → o ≡ lifted ws ls before → FormWritten (table_of ws ls) o
+  unfolding FormWritten
+  lifted_form before o e z =
+      subst (λ form. PrenexOf (table_of ws ls) form.nodes form.prefix form.variables) (sym (lifted_left before o e z))
+      (prenex ws ls (lifted_is before o e z).0)

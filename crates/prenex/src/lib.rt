@@ -22,12 +22,10 @@ ghost use Rattle.prenex.specs.Outcome.{
   answer_of,
   measured,
   buffers,
-  written_form,
   after,
   lifted,
   SizesWritten,
   FormWritten,
-  LiftOf,
 };
 
 use acceptance::LIMIT;
@@ -50,7 +48,7 @@ pub struct Answer {
 // that answers done and sizes of 0.
 pub fn measure(words: &[u32], list: &[u32]) -> Answer
     ensures answer { answer_of result ≡ measured words.now list.now }
-    ensures sizes { SizesWritten (written_form (table_in words.entry list.entry)) (answer_of result) }
+    ensures sizes { SizesWritten (table_in words.entry list.entry) (answer_of result) }
 {
     let verdict = table_check::check(words, list);
     if verdict.number != ACCEPTED {
@@ -76,14 +74,13 @@ pub fn refused(verdict: Verdict) -> Answer
 }
 
 // An output buffer is too short.
-pub fn short() -> Answer
+fn short() -> Answer
     ensures { answer_of result ≡ refused_of (refusal_of 9 0) no_sizes }
 {
     refused(refusals::refusal(BUFFER_TOO_SHORT, 0))
 }
 
-// The sizes of what was measured or written.
-pub fn done(sizes: Sizes) -> Answer
+fn done(sizes: Sizes) -> Answer
     ensures { answer_of result ≡ done_of sizes }
 {
     let verdict = refusals::accepted();
@@ -137,8 +134,8 @@ pub fn lift(
     ensures outcome { after result (buffers nodes.new prefix.new variables.new)
         ≡ lifted words.now list.now
         (buffers nodes.old prefix.old variables.old) }
-    ensures sizes { SizesWritten (written_form (table_in words.entry list.entry)) (answer_of result) }
-    ensures form { FormWritten (LiftOf (table_in words.entry list.entry))
+    ensures sizes { SizesWritten (table_in words.entry list.entry) (answer_of result) }
+    ensures form { FormWritten (table_in words.entry list.entry)
         (after result (buffers nodes.new prefix.new variables.new)) }
 {
     let fault = table_check::check(words, list);

@@ -46,7 +46,7 @@ and_not false b h = clash h refl
 
 -- the free numbers of a tree
 
-pub stands_variable : (x : ℕ) (nd : Node) → stands_at x nd ≡ true → nd ≡ variable x
+stands_variable : (x : ℕ) (nd : Node) → stands_at x nd ≡ true → nd ≡ variable x
 unfolding stands_at
 stands_variable x (constant b) h = clash h refl
 stands_variable x (variable y) h = ap variable (sym (eqb-true x y h))
@@ -141,7 +141,7 @@ free_by_binder t tree = up_to_cong _ _ (suc (highest_variable t)) (λ x h. ap (�
 
 -- what the prefix binds
 
-pub binds_append : (bs cs : List Block) (x : ℕ) → binds (bs ++ cs) x ≡ (binds bs x || binds cs x)
+binds_append : (bs cs : List Block) (x : ℕ) → binds (bs ++ cs) x ≡ (binds bs x || binds cs x)
 unfolding binds
 binds_append [] cs x = refl
 binds_append (b ∷ bs) cs x = or_group (mem x b.variables) (binds (bs ++ cs) x) (binds bs x) (binds cs x) (binds_append bs cs x)

@@ -37,7 +37,7 @@ pub is_number_lem : (m x : ℕ) → 1 ≤ x → x ≤ m → is_number_to m x ≡
 unfolding is_number_to
 is_number_lem m x h k = and_both _ _ (le-leb 1 x h) (le-leb x m k)
 
-pub number_mono : (m k x : ℕ) → m ≤ k → is_number_to m x ≡ true → is_number_to k x ≡ true
+number_mono : (m k x : ℕ) → m ≤ k → is_number_to m x ≡ true → is_number_to k x ≡ true
 number_mono m k x l h = is_number_lem k x (number_from m x h) (omega (arith, number_le m x h))
 
 maximum_le : (m : ℕ) (xs : List ℕ) → all (is_number_to m) xs ≡ true → maximum xs ≤ m

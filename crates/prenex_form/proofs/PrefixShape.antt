@@ -15,17 +15,15 @@ use Rattle.lists.specs.Parts.{up_to, sum}
 use Rattle.lists.proofs.Members.{mem_head}
 use Rattle.lists.proofs.Parts.{sum_cong, sum_positive, length_each, get_or_each}
 use Rattle.formula.specs.Node.{Quantifier, exists, for_all, Table, is_block}
-use Rattle.formula.specs.Form.{Block, kind_of, prefix_names, prefix_words}
+use Rattle.formula.specs.Form.{Block, kind_of, prefix_words}
 use Rattle.formula.specs.Tree.{Tree, NoEmptyBlocks}
-use Rattle.formula.proofs.Blocks.{Filled}
-use Rattle.formula.proofs.Prefix.{length-prefix_words}
 use Rattle.prenex_form.specs.Names.{new_names, copies, definition_variable}
 use Rattle.prenex_form.specs.Levels.{blocks_at, levels}
 use Rattle.prenex_form.specs.Matrix.{kept}
 use Rattle.prenex_form.specs.Prefix.{block_count, leading, prefix_block, prefix_blocks, written_prefix, written_variables}
 use Rattle.prenex_form.proofs.Paths.{kept_inner, inner_level, level_le_levels}
 use Rattle.prenex_form.proofs.NameLaws.{length-new_names, length_copies}
-use Rattle.prenex_form.proofs.PrefixNames.{sum_first}
+use Rattle.prenex_form.proofs.PrefixNames.{prefix_length, sum_first}
 use Rattle.prenex_form.proofs.Written.{level_some, level_filled}
 
 -- the count of block k
@@ -100,61 +98,29 @@ words_count d s (b ∷ bs) (suc j) h =
     let c = length b.variables in
     shift (kind_of b.quantifier) s c (prefix_words (s + c) bs) j 2 ∙ words_count d (s + c) bs j (le_of_suc-le-suc h)
 
--- the words of any blocks, each of which binds a variable
-module _ (bs : List Block) where
-  abbrev words : List ℕ
-  words = prefix_words 0 bs
-
-  pub words_blocks : length words / 3 ≡ length bs
-  words_blocks = rw (length-prefix_words 0 bs) (mul-div_cancel_left (length bs) (omega arith))
-
-  pub words_whole : length words ≡ 3 * (length words / 3)
-  words_whole = length-prefix_words 0 bs ∙ ap (λ m. 3 * m) (sym words_blocks)
-
-  pub words_kinds_from : (j : ℕ) → j < length words / 3 → 5 ≤ get_or words (3 * j) 0
-  words_kinds_from j h = words_kind (λ k. 5 ≤ k) kind_from_lem 0 bs j (rw words_blocks at h)
-
-  pub words_kinds_to : (j : ℕ) → j < length words / 3 → get_or words (3 * j) 0 ≤ 6
-  words_kinds_to j h = words_kind (λ k. k ≤ 6) kind_to 0 bs j (rw words_blocks at h)
-
-  pub words_ranges_follow : (j : ℕ) → j < length words / 3 → get_or words (3 * j + 1) 0 ≡ sum (λ k. get_or words (3 * k + 2) 0) j
-  words_ranges_follow j h = words_follow 0 bs j (rw words_blocks at h) ∙ omega arith
-
-  pub words_ranges_fill : sum (λ k. get_or words (3 * k + 2) 0) (length words / 3) ≡ length (prefix_names bs)
-  unfolding prefix_names
-  words_ranges_fill = rw words_blocks (words_fill 0 bs)
-
-  pub words_filled : Filled bs → (j : ℕ) → j < length words / 3 → 0 < get_or words (3 * j + 2) 0
-  words_filled filled j h =
-      let d : Block = record { quantifier = exists; variables = [] } in
-      let l : j < length bs = rw words_blocks at h in
-      rw (words_count d 0 bs j l) (filled d j l)
-
 module _ (t : Table) where
   pub prefix_count_lem : length (written_prefix t) / 3 ≡ length (prefix_blocks t)
-  unfolding written_prefix
-  prefix_count_lem = words_blocks (prefix_blocks t)
+  prefix_count_lem = rw (prefix_length t) (mul-div_cancel_left (length (prefix_blocks t)) (omega arith))
 
   pub prefix_whole : length (written_prefix t) ≡ 3 * (length (written_prefix t) / 3)
-  unfolding written_prefix
-  prefix_whole = words_whole (prefix_blocks t)
+  prefix_whole = prefix_length t ∙ ap (λ m. 3 * m) (sym prefix_count_lem)
 
   pub prefix_kinds_from : (j : ℕ) → j < length (written_prefix t) / 3 → 5 ≤ get_or (written_prefix t) (3 * j) 0
   unfolding written_prefix
-  prefix_kinds_from = words_kinds_from (prefix_blocks t)
+  prefix_kinds_from j h = words_kind (λ k. 5 ≤ k) kind_from_lem 0 (prefix_blocks t) j (rw prefix_count_lem at h)
 
   pub prefix_kinds_to : (j : ℕ) → j < length (written_prefix t) / 3 → get_or (written_prefix t) (3 * j) 0 ≤ 6
   unfolding written_prefix
-  prefix_kinds_to = words_kinds_to (prefix_blocks t)
+  prefix_kinds_to j h = words_kind (λ k. k ≤ 6) kind_to 0 (prefix_blocks t) j (rw prefix_count_lem at h)
 
   pub prefix_follow : (j : ℕ) → j < length (written_prefix t) / 3
       → get_or (written_prefix t) (3 * j + 1) 0 ≡ sum (λ k. get_or (written_prefix t) (3 * k + 2) 0) j
   unfolding written_prefix
-  prefix_follow = words_ranges_follow (prefix_blocks t)
+  prefix_follow j h = words_follow 0 (prefix_blocks t) j (rw prefix_count_lem at h) ∙ omega arith
 
   pub prefix_fill : sum (λ k. get_or (written_prefix t) (3 * k + 2) 0) (length (written_prefix t) / 3) ≡ length (written_variables t)
-  unfolding written_prefix written_variables prefix_names
-  prefix_fill = words_ranges_fill (prefix_blocks t)
+  unfolding written_prefix written_variables
+  prefix_fill = rw prefix_count_lem (words_fill 0 (prefix_blocks t))
 
 -- a part for each number of the list, none empty
 parts_some : (g : ℕ → List ℕ) (is : List ℕ) → 0 < length is → ((i : ℕ) → mem i is ≡ true → 0 < length (g i)) → 0 < length (flat_map g is)
@@ -207,21 +173,23 @@ module _ (t : Table) (tree : Tree t) where
           length-append (flat_map own bs) (flat_map (copies t) (blocks_at t (suc (suc j)))),
         )
 
-    pub blocks_filled : Filled (prefix_blocks t)
+    blocks_some : (j : ℕ) → j < length (prefix_blocks t) → 0 < length (get_or (prefix_blocks t) j (prefix_block t 0)).variables
     unfolding prefix_blocks
-    blocks_filled d j h = go (look (eqb (block_count t) 0))
+    blocks_some j h = go (look (eqb (block_count t) 0))
       where
         bs : List Block
         bs = up_to (λ j. prefix_block t j ∷ []) (suc (levels t))
 
-        go : Is (eqb (block_count t) 0) → 0 < length (get_or (pick (eqb (block_count t) 0) [] bs) j d).variables
+        go : Is (eqb (block_count t) 0) → 0 < length (get_or (pick (eqb (block_count t) 0) [] bs) j (prefix_block t 0)).variables
         go (is_true e) = absurd (not-suc-le-zero (rw (pick_yes _ [] bs e) at h))
         go (is_false e) =
             let some = eqb-false (block_count t) 0 e in
             let l : j < suc (levels t) = rw (pick_no _ [] bs e, length_each (prefix_block t) (suc (levels t))) at h in
-            rw (pick_no _ [] bs e, get_or_each (prefix_block t) (suc (levels t)) j d l)
+            rw (pick_no _ [] bs e, get_or_each (prefix_block t) (suc (levels t)) j (prefix_block t 0) l)
             (block_some j (omega arith) (omega arith))
 
     pub prefix_filled : (j : ℕ) → j < length (written_prefix t) / 3 → 0 < get_or (written_prefix t) (3 * j + 2) 0
     unfolding written_prefix
-    prefix_filled = words_filled (prefix_blocks t) blocks_filled
+    prefix_filled j h =
+        let l : j < length (prefix_blocks t) = rw (prefix_count_lem t) at h in
+        rw (words_count (prefix_block t 0) 0 (prefix_blocks t) j l) (blocks_some j l)

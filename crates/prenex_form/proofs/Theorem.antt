@@ -11,7 +11,6 @@ use Rattle.lists.specs.Choice.{clash, absent}
 use Rattle.lists.specs.Search.{lowest, some_below}
 use Rattle.lists.specs.Members.{mem, all, distinct}
 use Rattle.lists.proofs.Search.{lowest_none}
-use Rattle.lists.proofs.Members.{all_mem}
 use Rattle.lists.proofs.Parts.{sum_zero}
 use Rattle.lists.proofs.Passing.{one_list}
 use Rattle.formula.specs.Node.{Table, is_block, bound}
@@ -32,7 +31,7 @@ use Rattle.acceptance.proofs.Accepted.{accepted_holds, holds_within}
 use Rattle.prenex_form.specs.Matrix.{prenex_nodes, written_nodes}
 use Rattle.prenex_form.specs.Prefix.{written_prefix, written_variables}
 use Rattle.prenex_form.specs.Sizes.{sizes, SizeRule}
-use Rattle.prenex_form.specs.Promise.{highest_name, PrenexOf, NamesNew, SameList, MatrixPasses, SizesOf, holds, ZeroUnused}
+use Rattle.prenex_form.specs.Promise.{highest_name, PrenexOf, SameList, MatrixPasses, SizesOf, holds, ZeroUnused}
 use Rattle.prenex_form.proofs.Truth.{same_truth}
 use Rattle.prenex_form.proofs.FreeNames.{free_stands, same_free}
 use Rattle.prenex_form.proofs.Limits.{number_from, zero_within, node_within, within_formed, formed_mono, formed_plain, highest_limit, bound_limit, size_limit}
@@ -60,6 +59,7 @@ of_accepted ws ls a =
       form_by_free = λ v u agree. same v ∙ coincidence t v u agree ∙ sym (same u);
       same_free = same_free t a.proper filled;
       bound_once = prefix_distinct t tree;
+      names_new = prefix_new t tree;
       whole_nodes = written_whole t;
       matrix_formed = λ i h.
           let l : i < length (prenex_nodes t) = rw (written_count t) at h in
@@ -84,10 +84,6 @@ of_accepted ws ls a =
 pub prenex : (ws ls : List ℕ) → verdict ws ls ≡ accepted
     → PrenexOf (table_of ws ls) (written_nodes (table_of ws ls)) (written_prefix (table_of ws ls)) (written_variables (table_of ws ls))
 prenex ws ls h = of_accepted ws ls (accepted_holds ws ls h)
-
--- Its prefix has new names alone.
-pub prenex_new : (ws ls : List ℕ) → verdict ws ls ≡ accepted → NamesNew (table_of ws ls) (written_variables (table_of ws ls))
-prenex_new ws ls h = prefix_new (table_of ws ls) (accepted_holds ws ls h).proper.tree
 
 -- A prenex form of a table has the table's list of free variables.
 pub same_list : SameList
@@ -163,7 +159,7 @@ zero_unused ws ls ns ps xs h p =
     record {
       not_in_table = zero_not_held table_limits ws ls a;
       not_in_matrix = zero_not_held (matrix_limits 77823) ns [] (matrix_accepted (table_of ws ls) ns ps xs p);
-      not_in_prefix = absent _ (λ m. omega (arith, number_from (highest_name (table_of ws ls)) 0 (all_mem _ xs 0 p.prefix_names_lem m)));
+      not_in_prefix = absent _ (λ m. omega (arith, p.names_new 0 m));
       table_from_one = λ v u same. p.table_by_free v u (λ x f. same x (free_from_one ws ls a x f));
       form_from_one = λ v u same. p.form_by_free v u (λ x f. same x (free_from_one ws ls a x f));
     }

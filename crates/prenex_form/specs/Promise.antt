@@ -1,7 +1,7 @@
 -- What is owed of a prenex form: the three lists ns (words of nodes), ps (words of prefix blocks) and xs (variables) are a
 -- prenex form of the table t, with its truth value under every valuation and within the promised sizes. That the written form of
--- every accepted table is one, and has new names alone, are the theorems `prenex` and `prenex-new`, and that it has the measured sizes
--- the theorem `sizes-written` (proofs/Theorem.antt).
+-- every accepted table is one is the theorem `prenex`, and that it has the measured sizes the theorem `sizes-written`
+-- (proofs/Theorem.antt).
 -- Assumes nothing.
 use Rattle.std.specs.Prelude.{Bool, true, false, ◌||◌, List, [], ◌≡◌, ℕ, ◌+◌, ◌*◌, ◌/◌, ◌<◌, ◌≤◌, length, get_or}
 use Rattle.lists.specs.Members.{mem, all, distinct}
@@ -39,6 +39,8 @@ pub record PrenexOf (t : Table) (ns ps xs : List ℕ) : Type 0 where
   pub same_free : (x : ℕ) → form_free ns ps xs x ≡ free t x
   -- no variable is bound twice
   pub bound_once : distinct xs ≡ true
+  -- "get F + 1 and up": no number of the table stands in the prefix
+  pub names_new : (x : ℕ) → mem x xs ≡ true → highest_number t < x
   -- no quantifier below the prefix: the nodes are a tree of constants, variables, not nodes and operators within document 01's
   -- ranges, with names from 1 up to the highest
   pub whole_nodes : length ns ≡ width * node_count ns
@@ -61,10 +63,6 @@ pub record PrenexOf (t : Table) (ns ps xs : List ℕ) : Type 0 where
   -- at most 40,960 nodes, and names at most 77,823
   pub nodes_limit : node_count ns ≤ 40960
   pub names_limit : highest_name t ≤ 77823
-
--- "get F + 1 and up": no number of the table stands in the prefix.
-abbrev pub NamesNew : Table → List ℕ → Type 0
-NamesNew t xs = (x : ℕ) → mem x xs ≡ true → highest_number t < x
 
 -- The list of the free variables of a prenex form is the table's own, the one that listing writes: the theorem `same-list`
 -- (proofs/Theorem.antt), by `same-free`.

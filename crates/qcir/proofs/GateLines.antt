@@ -14,7 +14,7 @@ use Rattle.lists.proofs.Members.{mem_head, mem_left, mem_right, mem_tail, times_
 use Rattle.acceptance.specs.Verdict.{is_number}
 use Rattle.qcir.specs.File.{Name, Gate, gate_name, gate_variables, gate_inputs, Line, line_variables, prefix_variables, File, numbers_of, names_of}
 use Rattle.qcir.specs.Refusals.{gate_names, outer_names, quantified_names, repeated, repeated_in_gates, gates_listed, naming_gates, without, early_uses, misplaced, input_numbers, used_numbers, not_used_once}
-use Rattle.lists.proofs.Keep.{keep_none}
+use Rattle.qcir.proofs.Keep.{keep_none}
 use Rattle.qcir.proofs.Numbers.{line_names, lines_names, all_numbers, Ranged}
 
 -- The parts of an empty list are empty.
@@ -189,13 +189,6 @@ module _ (f : File) (placed : misplaced f ≡ []) where
       (apart_right [] f.free (prefix_variables f.prefix) (empty_left _ _ after_third))
       (λ r x m. r.ranged x (rw all_numbers (mem_left x (numbers_of (f.free ++ prefix_variables f.prefix)) _
       (rw (numbers_append f.free (prefix_variables f.prefix)) (mem_right x (numbers_of f.free) _ m)))))
-
-  -- no name stands twice in the prefix lines
-  pub prefix_apart : distinct (numbers_of (prefix_variables f.prefix)) ≡ true
-  unfolding outer_names
-  prefix_apart =
-      let a = apart_right [] f.free (prefix_variables f.prefix) (empty_left _ _ after_third) in
-      repeated_distinct a.0 (prefix_variables f.prefix) a.1
 
   pub output_ranged : Ranged f → is_number f.output.name.number ≡ true
   output_ranged r = r.ranged _ (rw all_numbers (mem_right _ (numbers_of (outer_names f)) _ (mem_head _ _)))

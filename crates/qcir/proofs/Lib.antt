@@ -1,4 +1,5 @@
 pub mod Bounds
+pub mod Keep
 pub mod Numbers
 pub mod StoredWords
 pub mod StoredValues

@@ -8,12 +8,12 @@ use lib.Dec.{eqb}
 use lib.ListN.{length, length-append}
 use native.Mathlib.Omega.{arith}
 use Rattle.lists.specs.Choice.{pick}
-use Rattle.lists.specs.Members.{mem, times, keep}
+use Rattle.lists.specs.Members.{mem, times}
 use Rattle.lists.proofs.Passing.{chosen_length}
 use Rattle.formula.specs.Valuation.{Valuation, quant}
 use Rattle.qcir.specs.File.{Name, Literal, Junction, conjunction, disjunction, Gate, junction_gate, xor_gate, quantified_gate_lem, gate_name, gate_variables, gate_inputs, Line, line_variables, prefix_variables, File, numbers_of, names_of}
 use Rattle.qcir.specs.Meaning.{Meaning, literal_value, junction_value, gate_value, meaning, prefix_value, file_truth}
-use Rattle.qcir.specs.Refusals.{gate_names, outer_names, quantified_names, repeated, repeated_in_gates, later_places, gates_listed, naming_gates, without, early_uses, misplaced, input_numbers, used_numbers, not_used_once, FreeIn, free_in_inputs, free_in_gates, unbound}
+use Rattle.qcir.specs.Refusals.{keep, gate_names, outer_names, quantified_names, repeated, repeated_in_gates, later_places, gates_listed, naming_gates, without, early_uses, misplaced, input_numbers, used_numbers, not_used_once, FreeIn, free_in_inputs, free_in_gates, unbound}
 use Rattle.qcir.specs.Table.{Draft, Stored, store_literal, store_inputs, store_block, store_gate, store_gates, store_prefix, empty_draft, store_matrix, store_file, line_block, file_prefix, table_words, table_list, junction_table}
 use Rattle.qcir.specs.Positions.{unplaced_name, unplaced_literal, unplaced_gate, unplaced_line, unplaced, UnplacedAgain, TruthUnplaced, NotUsedOnceUnplaced, UnboundUnplaced, WordsUnplaced, ListUnplaced, MatrixUnplaced, PrefixUnplaced, MisplacedUnplaced}
 

@@ -3,8 +3,13 @@
 -- Assumes nothing.
 use Rattle.std.specs.Prelude.{Bool, not, List, [], ◌∷◌, ◌++◌, ℕ, max, min, eqb}
 use Rattle.lists.specs.Choice.{pick}
-use Rattle.lists.specs.Members.{mem, times, keep}
+use Rattle.lists.specs.Members.{mem, times}
 use Rattle.qcir.specs.File.{Name, Literal, Gate, gate_name, gate_variables, gate_inputs, prefix_variables, File, numbers_of, names_of}
+
+-- The elements that pass the test.
+unfoldable pub keep : (ℕ → Bool) → List ℕ → List ℕ
+keep p [] = []
+keep p (x ∷ xs) = pick (p x) (x ∷ keep p xs) (keep p xs)
 
 -- The lowest element; 0 if there is none.
 unfoldable pub least : List ℕ → ℕ

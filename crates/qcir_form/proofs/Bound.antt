@@ -8,17 +8,29 @@ use native.Mathlib.Omega.{arith}
 use lib.Dec.{eqb}
 use borrow.Author.Tests.{eqb-true, eqb-false}
 use Rattle.lists.specs.Choice.{pick, pick_yes, pick_no, Is, is_true, is_false, look, clash, or_cases, or_right}
-use Rattle.lists.proofs.Keep.{kept_from, nothing_kept}
-use Rattle.lists.specs.Members.{mem, keep}
+use Rattle.lists.specs.Members.{mem}
 use Rattle.lists.proofs.Members.{mem_one, mem_append, mem_head, mem_tail}
 use Rattle.formula.specs.Words.{table_of}
 use Rattle.formula.specs.Form.{blocks_of}
 use Rattle.qcir.specs.File.{Literal, Gate, gate_name, gate_variables, gate_inputs, numbers_of, names_of}
-use Rattle.qcir.specs.Refusals.{outer_names, FreeIn, free_in_inputs, free_in_gates, unbound}
+use Rattle.qcir.specs.Refusals.{keep, outer_names, FreeIn, free_in_inputs, free_in_gates, unbound}
 use Rattle.qcir_form.specs.File.{form_file}
 use Rattle.qcir_form.specs.Laws.{FileBound}
+use Rattle.qcir_form.proofs.UsedOnce.{nothing_kept}
 use Rattle.qcir_form.proofs.PlacedLines.{Usable, outer_name, lower_gate, Rising, no_lines_lem, a_line}
 use Rattle.qcir_form.proofs.PlacedForm.{outer_of, first_of, form_outer, form_rising, form_output}
+
+-- What is kept stood there.
+kept_from : (p : ℕ → Bool) (xs : List ℕ) (y : ℕ) → mem y (keep p xs) ≡ true → mem y xs ≡ true
+unfolding keep mem
+kept_from p [] y m = m
+kept_from p (x ∷ xs) y m = go (look (p x)) (kept_from p xs y)
+  where
+    go : Is (p x) → (mem y (keep p xs) ≡ true → mem y xs ≡ true) → (eqb y x || mem y xs) ≡ true
+    go (is_true e) next =
+        or_cases (eqb y x) (mem y (keep p xs)) (ap (mem y) (sym (pick_yes (p x) (x ∷ keep p xs) (keep p xs) e)) ∙ m)
+        (λ q. rw q) (λ k. or_right (eqb y x) (mem y xs) (next k))
+    go (is_false e) next = or_right (eqb y x) (mem y xs) (next (ap (mem y) (sym (pick_no (p x) (x ∷ keep p xs) (keep p xs) e)) ∙ m))
 
 -- What is free in inputs is free in one of them.
 in_inputs : {P : Type 0} (o : FreeIn) (y : ℕ) (ls : List Literal)

@@ -15,10 +15,10 @@ use Rattle.lists.proofs.Sums.{sum_ones}
 use Rattle.formula.specs.Node.{Table}
 use Rattle.formula.specs.Words.{node_count, table_of}
 use Rattle.formula.specs.Truth.{digit}
-use Rattle.formula.specs.Form.{Block, blocks_of, prefix_names}
+use Rattle.formula.specs.Form.{Block, blocks_of}
 use Rattle.acceptance.specs.Limits.{matrix_within}
 use Rattle.acceptance.specs.Verdict.{is_number_to}
-use Rattle.form_check.specs.Accepted.{AcceptedFormWithin}
+use Rattle.form_check.specs.Accepted.{AcceptedFormWithin, prefix_names}
 use Rattle.acceptance.proofs.Matrix.{MatrixNode, matrix_node}
 use Rattle.qcir.specs.File.{prefix_variables, numbers_of}
 use Rattle.qcir_form.specs.File.{is_gate, gate_number, occurs, free_names, prefix_lines, first_gate}

@@ -17,8 +17,9 @@ use Rattle.lists.proofs.Parts.{sum_grows, highest_ge}
 use Rattle.lists.proofs.Passing.{passing_lists}
 use Rattle.formula.specs.Node.{Quantifier, Node, constant, variable, negation, operator, block, Table}
 use Rattle.formula.specs.Truth.{digit}
-use Rattle.formula.specs.Form.{Block, binds, prefix_names}
+use Rattle.formula.specs.Form.{Block, binds}
 use Rattle.formula.specs.FreeVariables.{stands_at, number_at, highest_variable}
+use Rattle.form_check.specs.Accepted.{prefix_names}
 use Rattle.qcir.specs.File.{Line, line_variables, prefix_variables, numbers_of}
 use Rattle.qcir.proofs.GateLines.{numbers_append}
 use Rattle.form_check.proofs.Flags.{binds_names}

@@ -13,7 +13,8 @@ use Rattle.lists.proofs.Members.{mem_nil, mem_head, mem_tail, distinct_append, d
 use Rattle.lists.proofs.Passing.{strict_distinct}
 use Rattle.formula.specs.Node.{Table}
 use Rattle.formula.specs.Words.{table_of}
-use Rattle.formula.specs.Form.{Block, binds, blocks_of, prefix_names}
+use Rattle.formula.specs.Form.{Block, binds, blocks_of}
+use Rattle.form_check.specs.Accepted.{prefix_names}
 use Rattle.form_check.proofs.Flags.{binds_names}
 use Rattle.qcir.specs.File.{Name, Gate, gate_name, gate_inputs, prefix_variables, numbers_of, names_of}
 use Rattle.qcir.specs.Refusals.{gate_names, outer_names, quantified_names, repeated, repeated_in_gates, later_places, gates_listed, naming_gates, without, early_uses, misplaced}

@@ -9,8 +9,7 @@ use lib.Dec.{eqb}
 use borrow.Author.Tests.{eq-eqb, lt-ltb}
 use Rattle.lists.specs.Choice.{pick, pick_yes, pick_no, Is, is_true, is_false, look, absent, and_left, and_both, and_off_left, and_off_right}
 use Rattle.lists.specs.Search.{lowest, some_below}
-use Rattle.lists.proofs.Keep.{nothing_kept}
-use Rattle.lists.specs.Members.{mem, times, keep}
+use Rattle.lists.specs.Members.{mem, times}
 use Rattle.lists.specs.Parts.{up_to, sum}
 use Rattle.lists.proofs.Members.{mem_head, mem_tail, times_distinct, times_append}
 use Rattle.lists.proofs.Search.{lowest_least}
@@ -23,7 +22,7 @@ use Rattle.formula.specs.Tree.{Tree}
 use Rattle.acceptance.specs.Limits.{matrix_within}
 use Rattle.form_check.specs.Accepted.{AcceptedFormWithin}
 use Rattle.qcir.specs.File.{Gate, gate_name, gate_inputs, numbers_of, names_of}
-use Rattle.qcir.specs.Refusals.{gate_names, input_numbers, used_numbers, not_used_once}
+use Rattle.qcir.specs.Refusals.{keep, gate_names, input_numbers, used_numbers, not_used_once}
 use Rattle.qcir_form.specs.File.{used_operands, written, has_gate, node_literal, is_gate, gate_number, node_literal_of, gates_of, occurs, matrix_file, form_file}
 use Rattle.qcir_form.specs.Laws.{FileUsedOnce}
 use Rattle.qcir_form.proofs.Written.{written_root, written_down}
@@ -157,6 +156,12 @@ module _ (t : Table) (tree : Tree t) (plain : (i : ℕ) → i < t.size → is_bl
       let root : pick {A = ℕ} (stands_for (n - 1)) 1 0 ≡ pick (eqb x (number (n - 1))) 1 0 =
       ap (λ b. pick b 1 0) (stands_written (n - 1) (written_root t tree.nonempty)) in
       omega (arith, sum_add inputs here n, sum_add below (λ j. names j + name j) n, sum_add names name n, inputs_parts x lines n, names_parts x lines n)
+
+-- Nothing is kept where nothing passes.
+pub nothing_kept : (p : ℕ → Bool) (xs : List ℕ) → ((x : ℕ) → mem x xs ≡ true → p x ≡ false) → keep p xs ≡ []
+unfolding keep
+nothing_kept p [] h = refl
+nothing_kept p (x ∷ xs) h = pick_no _ _ _ (h x (mem_head x xs)) ∙ nothing_kept p xs (λ y m. h y (mem_tail y x xs m))
 
 -- What stands at a written node occurs.
 pub stands_occurs : (t : Table) (x j : ℕ) → j < t.size → (written t j && stands_at x (t.node j)) ≡ true → occurs t x ≡ true

@@ -12,7 +12,8 @@ use Rattle.lists.specs.Choice.{pick, and_left, and_right}
 use Rattle.lists.specs.Parts.{up_to, sum}
 use Rattle.formula.specs.Node.{Quantifier, exists, for_all, Node, constant, variable, negation, operator, block}
 use Rattle.formula.specs.Truth.{digit}
-use Rattle.formula.specs.Form.{Block, prefix_names}
+use Rattle.formula.specs.Form.{Block}
+use Rattle.form_check.specs.Accepted.{prefix_names}
 use Rattle.qcir.specs.File.{Name, Literal, conjunction, Gate, junction_gate, xor_gate, Line}
 use Rattle.qcir.specs.Spelling.{Sign, word, name, newline, free_word, closing, comma, minus_sign, quantifier_word, junction_word, literal_signs, names_signs, list_signs, free_signs, prefix_signs, output_signs, inputs_signs, any_inputs_signs, gate_signs, gates_signs}
 use Rattle.qcir.specs.Unbounded.{names_up_to}

@@ -8,12 +8,12 @@ use native.Mathlib.Omega.{arith}
 use lib.Dec.{eqb}
 use borrow.Author.Tests.{eqb-true, eq-eqb}
 use Rattle.lists.specs.Choice.{pick, pick_yes, pick_no, same_test, and_off_left}
-use Rattle.lists.specs.Members.{times, keep}
+use Rattle.lists.specs.Members.{times}
 use Rattle.lists.proofs.Members.{times_append, eqb_swap}
 use Rattle.formula.specs.Node.{Quantifier}
 use Rattle.qcir.specs.File.{Name, Literal, Junction, Gate, junction_gate, xor_gate, quantified_gate_lem, gate_name, gate_inputs, File, numbers_of, names_of}
-use Rattle.qcir.specs.Refusals.{gate_names, input_numbers, used_numbers, not_used_once}
-use Rattle.lists.proofs.Keep.{keep_cong}
+use Rattle.qcir.specs.Refusals.{keep, gate_names, input_numbers, used_numbers, not_used_once}
+use Rattle.qcir.proofs.Keep.{keep_cong}
 use Rattle.qcir_tokens.specs.Tokens.{Token, token, output_role, junction_role, xor_role, quantifier_role, bound_role, input_role, is_output, is_definition, is_input, is_use, list_tokens, free_tokens, prefix_tokens, output_token, inputs_tokens, any_inputs_tokens, gate_tokens, gates_tokens, file_tokens}
 use Rattle.qcir_gates.specs.Uses.{uses_in, defined_in, misused_in}
 use Rattle.qcir_tokens.proofs.Roles.{free_all, line_all, later_all, output_all, junction_all, quantifier_all, bound_all, input_all, output_no_definition, Quiet, none, more, quiet_list, quiet_front, front_no_definition, gate_tokens_lem}

@@ -12,8 +12,7 @@ use borrow.Author.Tests.{eqb-true, eqb-false, ne_eqb, ltb-false}
 use Rattle.lists.specs.Choice.{pick, pick_yes, pick_no, Is, is_true, is_false, look, clash, and_off_left, and_right}
 use Rattle.lists.proofs.Members.{eqb_swap}
 use Rattle.lists.proofs.Stores.{get_d_set}
-use Rattle.qcir.specs.Refusals.{least}
-use Rattle.lists.specs.Members.{keep}
+use Rattle.qcir.specs.Refusals.{keep, least}
 use Rattle.qcir_tokens.specs.Tokens.{Token, is_definition, is_use, definition_from}
 use Rattle.qcir_tokens.specs.Held.{token_at, tokens_from, number_count, Definitions, found_of}
 use Rattle.qcir_tokens.specs.declared.Found.{Found}

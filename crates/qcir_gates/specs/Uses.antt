@@ -2,7 +2,7 @@
 -- Assumes nothing.
 use Rattle.std.specs.Prelude.{not, ◌&&◌, List, [], ◌∷◌, ℕ, ◌+◌, eqb}
 use Rattle.lists.specs.Choice.{pick}
-use Rattle.lists.specs.Members.{keep}
+use Rattle.qcir.specs.Refusals.{keep}
 use Rattle.qcir_tokens.specs.Tokens.{Token, is_definition, is_use}
 
 -- How often the tokens use x.

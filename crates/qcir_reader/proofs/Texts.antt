@@ -24,7 +24,7 @@ use Rattle.acceptance.specs.Verdict.{too_many_variables}
 use Rattle.qcir.specs.File.{File}
 use Rattle.qcir.specs.Spelling.{Spells, SpellingFault}
 use Rattle.qcir.specs.Meaning.{file_truth}
-use Rattle.qcir.specs.Refusals.{least, misplaced, not_used_once, unbound}
+use Rattle.qcir.specs.Refusals.{least, misplaced, not_used_once}
 use Rattle.qcir.specs.Table.{table_words, table_list}
 use Rattle.qcir.specs.FromText.{limits, unless_any, name_verdict, size_verdict, refused_text, of_table, of_file, too_long, misspelled, spelled}
 use Rattle.qcir.specs.Reading.{Written, Buffers, buffers, none_written, done_with, stored, file_outcome, table_outcome, Reading, TableOf, TableWritten}
@@ -53,7 +53,6 @@ passed_test false number position next h z = (refl, z)
 pub record Passed (f : File) : Type 0 where
   pub placed : misplaced f ≡ []
   pub used_once : not_used_once f ≡ []
-  pub all_bound : unbound f ≡ []
   pub few_nodes : node_count (table_words f) ≤ limit
   pub none_exceeding : (i : ℕ) → i < node_count (table_words f) → too_many_variables limit (table_words f) i ≡ false
 
@@ -64,13 +63,11 @@ passed f a b =
     let n = node_count ws in
     let placed = passed_any (misplaced f) 11 _ (lit< tt) a in
     let used = passed_any (not_used_once f) 13 _ (lit< tt) placed.1 in
-    let bound = passed_any (unbound f) 12 _ (lit< tt) used.1 in
     let nodes = passed_test (ltb limit n) 2 0 _ (lit< tt) b in
     let counts = passed_test (ltb (lowest (too_many_variables limit ws) n) n) 6 _ _ (lit< tt) nodes.1 in
     record {
       placed = placed.0;
       used_once = used.0;
-      all_bound = bound.0;
       few_nodes = ltb-false _ _ nodes.0;
       none_exceeding = λ i k. lowest_before (too_many_variables limit ws) n i (let l : n ≤ lowest (too_many_variables limit ws) n = ltb-false _ _ counts.0 in omega (arith, l, k));
     }

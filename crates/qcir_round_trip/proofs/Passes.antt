@@ -11,14 +11,14 @@ use Rattle.lists.specs.Members.{all, distinct}
 use Rattle.lists.proofs.Parts.{sum_zero}
 use Rattle.formula.specs.Node.{Node, constant, variable, negation, operator, block, is_block, bound}
 use Rattle.formula.specs.Words.{node_count, node_at, table_of}
-use Rattle.formula.specs.Form.{Block, prefix_width, blocks_of, prefix_words, prefix_names}
+use Rattle.formula.specs.Form.{Block, prefix_width, blocks_of, prefix_words}
 use Rattle.formula.specs.Tree.{count, bound_below}
 use Rattle.formula.proofs.Prefix.{length-prefix_words}
 use Rattle.acceptance.specs.Limits.{matrix_within}
 use Rattle.acceptance.specs.Verdict.{is_number_to}
 use Rattle.acceptance.specs.Accepted.{AcceptedWithin}
 use Rattle.form_check.specs.Verdict.{PassesUnbounded}
-use Rattle.form_check.specs.Accepted.{AcceptedFormWithin}
+use Rattle.form_check.specs.Accepted.{prefix_names, AcceptedFormWithin}
 use Rattle.form_check.proofs.Accepted.{holds_form}
 use Rattle.acceptance.proofs.Matrix.{MatrixNode, matrix_node}
 use Rattle.qcir.specs.File.{File}

@@ -10,8 +10,9 @@ use lib.ListN.{length, get_or, length-append}
 use Rattle.lists.specs.Members.{mem}
 use Rattle.formula.specs.Node.{Quantifier}
 use Rattle.formula.specs.Words.{is_block_kind}
-use Rattle.formula.specs.Form.{Block, prefix_width, prefix_words, binds, prefix_names}
+use Rattle.formula.specs.Form.{Block, prefix_width, prefix_words, binds}
 use Rattle.formula.proofs.Nodes.{block_kind_of}
+use Rattle.form_check.specs.Accepted.{prefix_names}
 use Rattle.form_check.proofs.Flags.{binds_names}
 use Rattle.qcir.specs.File.{Line, line_variables, prefix_variables, numbers_of}
 use Rattle.qcir.specs.Table.{line_block}
@@ -35,7 +36,7 @@ lines_again (b ∷ bs) =
     ∙ ap (λ ls. list_lines b.quantifier b.variables ++ ls) (lines_again bs)
 
 -- their names
-pub lines_names_lem : (ls : List Line) → prefix_names (map line_block ls) ≡ numbers_of (prefix_variables ls)
+lines_names_lem : (ls : List Line) → prefix_names (map line_block ls) ≡ numbers_of (prefix_variables ls)
 unfolding prefix_names flat_map prefix_variables line_block numbers_of
 lines_names_lem [] = refl
 lines_names_lem (l ∷ ls) =

@@ -16,7 +16,7 @@ use Rattle.qcir.specs.Refusals.{least, gate_names, outer_names, quantified_names
 use Rattle.qcir_tokens.specs.declared.Found.{Found}
 use Rattle.qcir_tokens.specs.Tokens.{Token, token, is_use, is_definition, output_token, output_role, free_tokens, prefix_tokens, inputs_tokens, any_inputs_tokens, gate_tokens, gates_tokens, file_tokens, definition_from, definition}
 use Rattle.qcir_tokens.specs.Held.{token_at, tokens_from, HoldsNames, Definitions, DefinitionsIn, found_of}
-use Rattle.lists.proofs.Keep.{keep_cong}
+use Rattle.qcir.proofs.Keep.{keep_cong}
 use Rattle.qcir_unbound.specs.declared.Walk.{Walk}
 use Rattle.qcir_unbound.specs.Outer.{outer_from, Outer, AllMarked}
 use Rattle.qcir_unbound.specs.Steps.{Tokens, tokens_of, first, start, is_end, is_above, moved, noted, run, Within}

@@ -9,10 +9,10 @@ use lib.Dec.{eqb}
 use lib.ListN.{length, length-append}
 use borrow.Author.Tests.{eqb-true, eqb-false, eq-eqb, ne_eqb}
 use Rattle.lists.specs.Choice.{pick, pick_yes, pick_no, Is, is_true, is_false, look, clash, or_neither_left, or_neither_right, and_off_left}
-use Rattle.lists.specs.Members.{mem, keep}
+use Rattle.lists.specs.Members.{mem}
 use Rattle.lists.proofs.Members.{mem_nil}
 use Rattle.qcir.specs.File.{Name, Gate, gate_name, gate_variables, gate_inputs, numbers_of, names_of}
-use Rattle.qcir.specs.Refusals.{gate_names, repeated, naming_gates, without, early_uses, FreeIn, free_in_inputs, free_in_gates}
+use Rattle.qcir.specs.Refusals.{keep, gate_names, repeated, naming_gates, without, early_uses, FreeIn, free_in_inputs, free_in_gates}
 use Rattle.qcir_tokens.specs.Tokens.{Token, token, is_definition, gate_tokens, gates_tokens, definition_from, any_inputs_tokens}
 use Rattle.qcir_unbound.specs.Steps.{Tokens}
 use Rattle.qcir_unbound.proofs.Roles.{definition_tests, Each, each_none, each_more, each_append, each_map, bound_tokens, bound_each, any_each, gate_line, Held, held_left, held_right}

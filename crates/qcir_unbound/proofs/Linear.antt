@@ -12,7 +12,7 @@ use Rattle.lists.specs.Choice.{pick, pick_yes, pick_no, Is, is_true, is_false, l
 use Rattle.lists.specs.Members.{mem, times}
 use Rattle.lists.proofs.Members.{mem_head, mem_tail}
 use Rattle.qcir.specs.File.{Gate, gate_name, gate_inputs, File, numbers_of, names_of}
-use Rattle.lists.proofs.Keep.{keep_none}
+use Rattle.qcir.proofs.Keep.{keep_none}
 use Rattle.qcir.specs.Refusals.{gate_names, input_numbers, used_numbers, not_used_once}
 use Rattle.qcir_tokens.specs.Tokens.{gate_tokens, gates_tokens}
 use Rattle.qcir_unbound.proofs.Lines.{total}

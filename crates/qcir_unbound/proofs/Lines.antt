@@ -8,12 +8,12 @@ use native.Mathlib.Omega.{arith}
 use lib.Dec.{eqb}
 use lib.ListN.{length, length-append}
 use Rattle.lists.specs.Choice.{pick_yes, pick_no, Is, is_true, is_false, look}
-use Rattle.lists.specs.Members.{mem, keep}
+use Rattle.lists.specs.Members.{mem}
 use Rattle.lists.proofs.Members.{mem_head, mem_tail}
 use Rattle.qcir.specs.File.{Name, Literal, Gate, gate_name, gate_variables, gate_inputs, numbers_of, names_of}
-use Rattle.qcir.specs.Refusals.{FreeIn, free_in_inputs}
+use Rattle.qcir.specs.Refusals.{keep, FreeIn, free_in_inputs}
 use Rattle.qcir_tokens.specs.Tokens.{Token, token, is_use, is_bound, is_definition, inputs_tokens, any_inputs_tokens, gate_tokens}
-use Rattle.lists.proofs.Keep.{keep_cong}
+use Rattle.qcir.proofs.Keep.{keep_cong}
 use Rattle.qcir_unbound.specs.declared.Walk.{Walk}
 use Rattle.qcir_unbound.specs.Steps.{Tokens, State, put, flag, is_end, is_above, moved, past, run}
 use Rattle.qcir_unbound.proofs.Run.{state_same, stand, flag_back, put_same, put_other, put_back, run_two, run_one, step_plain, step_entry, step_variable, step_call, step_return, step_free, step_back, listed, noted_all, listed_append, listed_none, keep_two, judged_one, past_judged}

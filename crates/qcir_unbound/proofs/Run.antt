@@ -8,7 +8,7 @@ use native.Mathlib.Omega.{arith}
 use lib.Dec.{eqb}
 use borrow.Author.Tests.{eqb-true, eq-eqb, ne_eqb}
 use Rattle.lists.specs.Choice.{pick, pick_yes, pick_no, Is, is_true, is_false, look}
-use Rattle.lists.specs.Members.{keep}
+use Rattle.qcir.specs.Refusals.{keep}
 use Rattle.qcir_tokens.specs.Tokens.{is_use, is_bound, is_definition}
 use Rattle.qcir_unbound.specs.declared.Walk.{Walk}
 use Rattle.qcir_unbound.specs.Steps.{Tokens, token_of, State, put, flag, is_above, moved, past, noted, judged, bound, used, onward, freed, back, step_at, ended, step, run}

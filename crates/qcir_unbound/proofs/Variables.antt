@@ -6,10 +6,10 @@ use mathlib.Core.List.{List, [], ◌∷◌, append-eq-nil_iff}
 use Prim.Native.Nat.{ℕ}
 use lib.Dec.{eqb}
 use Rattle.lists.specs.Choice.{pick, pick_yes, pick_no, Is, is_true, is_false, look, clash, and_left, and_right, and_both, or_neither, or_neither_left, or_neither_right}
-use Rattle.lists.specs.Members.{mem, all, keep}
+use Rattle.lists.specs.Members.{mem, all}
 use Rattle.lists.proofs.Members.{all_append, mem_nil, mem_head, mem_tail, mem_left, mem_right}
 use Rattle.qcir.specs.File.{Literal, Gate, gate_name, gate_variables, gate_inputs, File, numbers_of, names_of}
-use Rattle.qcir.specs.Refusals.{gate_names, outer_names, naming_gates, without, early_uses, input_numbers, used_numbers, FreeIn, free_in_inputs, free_in_gates, unbound}
+use Rattle.qcir.specs.Refusals.{keep, gate_names, outer_names, naming_gates, without, early_uses, input_numbers, used_numbers, FreeIn, free_in_inputs, free_in_gates, unbound}
 use Rattle.qcir_unbound.proofs.Gates.{not_early}
 
 module _ (p : ℕ → Bool) where

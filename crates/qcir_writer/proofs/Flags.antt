@@ -13,9 +13,9 @@ use Rattle.lists.specs.Members.{maximum}
 use Rattle.lists.proofs.Members.{all_mem, maximum_le, maximum_append}
 use Rattle.formula.specs.Truth.{digit}
 use Rattle.formula.specs.Words.{table_of}
-use Rattle.formula.specs.Form.{Block, blocks_of, binds, prefix_names}
+use Rattle.formula.specs.Form.{Block, blocks_of, binds}
 use Rattle.acceptance.specs.Verdict.{is_number_to}
-use Rattle.form_check.specs.Accepted.{AcceptedForm}
+use Rattle.form_check.specs.Accepted.{AcceptedForm, prefix_names}
 use Rattle.acceptance.proofs.Matrix.{matrix_node}
 use Rattle.qcir_form.specs.File.{occurs, free_names, prefix_lines, first_gate}
 use Rattle.qcir_form.proofs.Numbers.{prefix_numbers, occurs_from, open_lists}

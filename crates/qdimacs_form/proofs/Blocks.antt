@@ -1,9 +1,9 @@
 -- The blocks of a form's problem alternate, none is empty, and the last is exists. And which variables they bind, in their order.
 -- Assumes nothing.
-use mathlib.Core.Path.{◌≡◌, refl, ◌∙◌, ap}
+use mathlib.Core.Path.{◌≡◌, refl, sym, ◌∙◌, ap}
 use mathlib.Core.Bool.{Bool, true, false, not, ◌&&◌}
 use mathlib.Core.List.{List, [], ◌∷◌, ◌++◌, flat_map, append_assoc, append-nil}
-use Prim.Native.Nat.{ℕ, ◌<◌}
+use Prim.Native.Nat.{ℕ, suc, ◌<◌}
 use native.Mathlib.Omega.{arith}
 use lib.Dec.{eqb}
 use lib.ListN.{length, length-append}
@@ -13,11 +13,11 @@ use Rattle.lists.specs.Parts.{numbers}
 use Rattle.lists.proofs.Parts.{length_numbers, flat_map_append}
 use Rattle.formula.specs.Node.{exists, Table}
 use Rattle.formula.specs.Words.{table_of}
-use Rattle.formula.specs.Form.{Block, kind_of, blocks_of, prefix_names, filled_blocks}
+use Rattle.formula.specs.Form.{Block, kind_of, blocks_of}
 use Rattle.formula.specs.FreeVariables.{form_free_variables}
-use Rattle.formula.proofs.Blocks.{filled_names}
+use Rattle.form_check.specs.Accepted.{prefix_names}
 use Rattle.qdimacs.specs.Problem.{every}
-use Rattle.qdimacs_form.specs.Clauses.{gates_below, first_gate, exists_block, closed_blocks, same_kind, joined_to, joined_blocks, matrix_problem, form_problem}
+use Rattle.qdimacs_form.specs.Clauses.{gates_below, first_gate, exists_block, closed_blocks, filled_blocks, same_kind, joined_to, joined_blocks, matrix_problem, form_problem}
 use Rattle.qdimacs_form.specs.Laws.{alternate, last_exists, ProblemBlocks}
 use Rattle.qdimacs_form.proofs.Gates.{gate_root}
 use Rattle.qdimacs_form.proofs.Sound.{pick_cases}
@@ -114,6 +114,19 @@ problem_blocks nodes most ns ps xs form =
     }
 
 -- The variables, whatever blocks go or are joined.
+
+-- a block that goes has none
+no_variables : (xs : List ℕ) → eqb (length xs) 0 ≡ true → xs ≡ []
+no_variables [] e = refl
+no_variables (x ∷ xs) e = let z : suc (length xs) ≡ 0 = eqb-true _ _ e in absurd (omega arith)
+
+pub filled_names : (bs : List Block) → prefix_names (filled_blocks bs) ≡ prefix_names bs
+unfolding prefix_names flat_map filled_blocks
+filled_names [] = refl
+filled_names (b ∷ bs) =
+    pick_cases (λ cs. prefix_names cs ≡ b.variables ++ prefix_names bs) (eqb (length b.variables) 0) (filled_blocks bs) (b ∷ filled_blocks bs)
+    (λ e. filled_names bs ∙ ap (λ xs. xs ++ prefix_names bs) (sym (no_variables b.variables e)))
+    (λ e. ap (λ xs. b.variables ++ xs) (filled_names bs))
 
 to_names : (b : Block) (bs : List Block) → prefix_names (joined_to b bs) ≡ b.variables ++ prefix_names bs
 unfolding prefix_names flat_map joined_to

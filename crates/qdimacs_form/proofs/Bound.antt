@@ -16,13 +16,13 @@ use Rattle.lists.proofs.Passing.{strict_distinct}
 use Rattle.formula.specs.Node.{variable, Table, operands, is_block}
 use Rattle.formula.specs.Words.{table_of}
 use Rattle.formula.specs.Truth.{node_free, free_at, free}
-use Rattle.formula.specs.Form.{Block, binds, blocks_of, form_free, prefix_names}
+use Rattle.formula.specs.Form.{Block, binds, blocks_of, form_free}
 use Rattle.formula.specs.FreeVariables.{form_free_variables}
 use Rattle.formula.specs.Tree.{Tree, times_named}
 use Rattle.formula.proofs.Unfolding.{free_at_node}
 use Rattle.formula.proofs.FreeVariables.{through_free, form_free-listed}
 use Rattle.acceptance.specs.Limits.{matrix_within}
-use Rattle.form_check.specs.Accepted.{AcceptedFormWithin}
+use Rattle.form_check.specs.Accepted.{AcceptedFormWithin, prefix_names}
 use Rattle.acceptance.proofs.Matrix.{no_block}
 use Rattle.form_check.proofs.Flags.{binds_names}
 use Rattle.qdimacs_form.specs.Clauses.{has_gate, gates_below, first_gate, gate_variable, form_problem}

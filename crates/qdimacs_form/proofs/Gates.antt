@@ -17,8 +17,9 @@ use Rattle.lists.proofs.Passing.{passing_from}
 use Rattle.formula.specs.Node.{Node, constant, variable, negation, operator, block, Table, is_block}
 use Rattle.formula.specs.Words.{table_of}
 use Rattle.formula.specs.Truth.{digit, free}
-use Rattle.formula.specs.Form.{Block, blocks_of, form_free, prefix_names}
+use Rattle.formula.specs.Form.{Block, blocks_of, form_free}
 use Rattle.formula.specs.FreeVariables.{number_at, highest_variable, free_variables, form_free_variables}
+use Rattle.form_check.specs.Accepted.{prefix_names}
 use Rattle.qdimacs_form.specs.Clauses.{is_gate_node, has_gate, gates_below, first_gate, gate_variable, variable_of}
 
 -- A node that is neither a block nor one with a gate of its own is a variable.

@@ -17,12 +17,12 @@ use Rattle.lists.proofs.Parts.{numbers_from}
 use Rattle.formula.specs.Node.{variable, Table}
 use Rattle.formula.specs.Words.{table_of}
 use Rattle.formula.specs.Tree.{Tree}
-use Rattle.formula.specs.Form.{Block, binds, blocks_of, form_free, prefix_names}
+use Rattle.formula.specs.Form.{Block, binds, blocks_of, form_free}
 use Rattle.formula.specs.FreeVariables.{form_free_variables}
 use Rattle.formula.proofs.FreeVariables.{free_occurs, form_free-listed}
 use Rattle.acceptance.specs.Limits.{matrix_within}
 use Rattle.acceptance.specs.Verdict.{is_number_to}
-use Rattle.form_check.specs.Accepted.{AcceptedFormWithin}
+use Rattle.form_check.specs.Accepted.{AcceptedFormWithin, prefix_names}
 use Rattle.acceptance.proofs.Matrix.{MatrixNode, matrix_node}
 use Rattle.qdimacs.specs.Problem.{Clause, clause_variables, every}
 use Rattle.qdimacs.specs.Spelling.{is_variables}

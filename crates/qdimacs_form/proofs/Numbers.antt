@@ -15,10 +15,10 @@ use Rattle.lists.proofs.Parts.{numbers_below}
 use Rattle.formula.specs.Node.{Node, constant, variable, negation, operator, block, Table, operands, is_block}
 use Rattle.formula.specs.Words.{table_of}
 use Rattle.formula.specs.Tree.{Tree}
-use Rattle.formula.specs.Form.{Block, blocks_of, prefix_names}
+use Rattle.formula.specs.Form.{Block, blocks_of}
 use Rattle.formula.specs.FreeVariables.{form_free_variables}
 use Rattle.acceptance.specs.Limits.{matrix_within}
-use Rattle.form_check.specs.Accepted.{AcceptedFormWithin}
+use Rattle.form_check.specs.Accepted.{AcceptedFormWithin, prefix_names}
 use Rattle.acceptance.proofs.Matrix.{no_block}
 use Rattle.qdimacs.specs.Problem.{Literal, Clause, clause_variables, problem_numbers, every}
 use Rattle.qdimacs_form.specs.Clauses.{has_gate, gates_below, first_gate, gate_variable, variable_of, no_operand, one_operand, two_operands, gate_clauses, same_literal, without, once, matrix_clauses, matrix_problem, form_problem}

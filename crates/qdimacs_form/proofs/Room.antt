@@ -17,17 +17,17 @@ use Rattle.formula.specs.Node.{Node, constant, variable, negation, operator, blo
 use Rattle.formula.specs.Tree.{Tree}
 use Rattle.formula.specs.Words.{node_count, table_of}
 use Rattle.formula.specs.Truth.{digit, free}
-use Rattle.formula.specs.Form.{Block, blocks_of, binds, form_free, prefix_names, filled_blocks}
+use Rattle.formula.specs.Form.{Block, blocks_of, binds, form_free}
 use Rattle.formula.specs.FreeVariables.{number_at, highest_variable, form_free_variables}
 use Rattle.formula.proofs.FreeVariables.{variables, free_occurs, passing_variables, operands_all}
 use Rattle.formula.proofs.Meaning.{blocks_count}
-use Rattle.form_check.specs.Accepted.{AcceptedForm}
+use Rattle.form_check.specs.Accepted.{prefix_names, AcceptedForm}
 use Rattle.form_check.proofs.Flags.{name_below}
 use Rattle.form_check.proofs.Entries.{prefix_name_below, names_few, names_below}
 use Rattle.acceptance.proofs.Matrix.{MatrixNode, matrix_node}
 use Rattle.texts.specs.Bounds.{number_bound}
 use Rattle.texts.proofs.Lengths.{at_most_five, at_most_six}
-use Rattle.qdimacs_form.specs.Clauses.{has_gate, gates_below, first_gate, gate_variable, variable_of, has_value, gate_clauses, written_clauses, node_clauses, matrix_clauses, matrix_problem, form_problem, clauses_text}
+use Rattle.qdimacs_form.specs.Clauses.{has_gate, gates_below, first_gate, gate_variable, variable_of, has_value, gate_clauses, written_clauses, node_clauses, matrix_clauses, filled_blocks, matrix_problem, form_problem, clauses_text}
 use Rattle.qdimacs_form.specs.Laws.{TextRoom}
 use Rattle.qdimacs_form.proofs.Gates.{open_below}
 use Rattle.qdimacs_form.proofs.Weights.{clauses_bytes, numbers_bytes, blocks_bytes, text_weighs, pick_measures, written_fewer, clauses_append, clauses_up_to, root_weighs, node_weighs, clauses_four, numbers_weigh, filled_weigh, closed_weigh}

@@ -15,9 +15,10 @@ use Rattle.lists.specs.Parts.{up_to, sum}
 use Rattle.lists.proofs.Members.{mem_head, mem_tail}
 use Rattle.formula.specs.Node.{Quantifier, exists, for_all, Node, constant, variable, negation, operator, block, operands}
 use Rattle.formula.specs.Truth.{digit, operator_value}
-use Rattle.formula.specs.Form.{Block, prefix_names, filled_blocks}
+use Rattle.formula.specs.Form.{Block}
 use Rattle.formula.specs.FreeVariables.{number_at}
 use Rattle.formula.proofs.FreeVariables.{variables}
+use Rattle.form_check.specs.Accepted.{prefix_names}
 use Rattle.texts.specs.Numerals.{digits}
 use Rattle.texts.specs.Bounds.{number_bound}
 use Rattle.texts.proofs.Lengths.{at_most_six}
@@ -25,7 +26,7 @@ use Rattle.qdimacs.specs.Problem.{Literal, Clause, Problem}
 use Rattle.qdimacs.specs.Spelling.{quantifier_word, literal_word, block_line, clause_line}
 use Rattle.qdimacs.specs.Text.{line_text, problem_text}
 use Rattle.qdimacs.proofs.Lines.{block_text_lem, clause_text, problem_text_lem}
-use Rattle.qdimacs_form.specs.Clauses.{is_gate_node, false_at, has_value, no_operand, one_operand, two_operands, gate_clauses, same_literal, without, once, is_tautology, written_clauses, exists_block, closed_blocks, same_kind, joined_to, joined_blocks}
+use Rattle.qdimacs_form.specs.Clauses.{is_gate_node, false_at, has_value, no_operand, one_operand, two_operands, gate_clauses, same_literal, without, once, is_tautology, written_clauses, exists_block, closed_blocks, filled_blocks, same_kind, joined_to, joined_blocks}
 
 -- The bytes of literals, each with a space after it; of clauses, of numbers and of blocks.
 unfoldable pub literals_bytes : Clause → ℕ

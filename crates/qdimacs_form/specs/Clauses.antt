@@ -8,8 +8,9 @@ use Rattle.lists.specs.Parts.{up_to, sum, numbers}
 use Rattle.formula.specs.Node.{exists, Node, constant, variable, negation, operator, block, Table}
 use Rattle.formula.specs.Words.{table_of}
 use Rattle.formula.specs.Truth.{digit, operator_value}
-use Rattle.formula.specs.Form.{Block, kind_of, blocks_of, prefix_names, filled_blocks}
+use Rattle.formula.specs.Form.{Block, kind_of, blocks_of}
 use Rattle.formula.specs.FreeVariables.{number_at, highest_variable, form_free_variables}
+use Rattle.form_check.specs.Accepted.{prefix_names}
 use Rattle.qdimacs.specs.Problem.{Literal, Clause, Problem}
 use Rattle.qdimacs.specs.Text.{problem_text}
 
@@ -125,7 +126,12 @@ exists_block xs = record { quantifier = exists; variables = xs }
 unfoldable pub closed_blocks : List ℕ → List Block → List ℕ → List Block
 closed_blocks open_names bs gates = exists_block open_names ∷ (bs ++ (exists_block gates ∷ []))
 
--- "empty blocks go" (filledBlocks) "and neighbours of one kind are joined"
+-- "empty blocks go ..
+unfoldable pub filled_blocks : List Block → List Block
+filled_blocks [] = []
+filled_blocks (b ∷ bs) = pick (eqb (length b.variables) 0) (filled_blocks bs) (b ∷ filled_blocks bs)
+
+-- .. and neighbours of one kind are joined"
 unfoldable pub same_kind : Block → Block → Bool
 same_kind b c = eqb (kind_of b.quantifier) (kind_of c.quantifier)
 

@@ -6,9 +6,9 @@ use Rattle.lists.specs.Members.{all, distinct, times, maximum}
 use Rattle.formula.specs.Node.{exists}
 use Rattle.formula.specs.Words.{node_count}
 use Rattle.formula.specs.Valuation.{Valuation}
-use Rattle.formula.specs.Form.{Block, prefix_width, kind_of, form_truth, prefix_names}
+use Rattle.formula.specs.Form.{Block, prefix_width, kind_of, form_truth}
 use Rattle.acceptance.specs.Limits.{matrix_within}
-use Rattle.form_check.specs.Accepted.{AcceptedFormWithin, AcceptedForm}
+use Rattle.form_check.specs.Accepted.{AcceptedFormWithin, AcceptedForm, prefix_names}
 use Rattle.qdimacs.specs.Problem.{Clause, Problem, clause_variables, problem_numbers, every, problem_truth}
 use Rattle.qdimacs.specs.Spelling.{Grammatical}
 use Rattle.qdimacs_form.specs.Clauses.{is_tautology, same_kind, form_problem, clauses_text}

@@ -17,12 +17,12 @@ use Rattle.lists.proofs.Parts.{highest_ge, highest_attained}
 use Rattle.formula.specs.Node.{Node, constant, variable, negation, operator, block, Table}
 use Rattle.formula.specs.Words.{node_count, table_of}
 use Rattle.formula.specs.Truth.{digit, free}
-use Rattle.formula.specs.Form.{Block, blocks_of, binds, form_free, prefix_names}
+use Rattle.formula.specs.Form.{Block, blocks_of, binds, form_free}
 use Rattle.formula.specs.FreeVariables.{stands_at, number_at, highest_variable}
 use Rattle.formula.proofs.FreeVariables.{free_occurs}
 use Rattle.acceptance.specs.Verdict.{is_number_to}
 use Rattle.acceptance.proofs.Matrix.{MatrixNode, matrix_node, no_block}
-use Rattle.form_check.specs.Accepted.{AcceptedForm}
+use Rattle.form_check.specs.Accepted.{AcceptedForm, prefix_names}
 use Rattle.form_check.proofs.Flags.{binds_names}
 use Rattle.name_flags.specs.Flags.{FreeFlags}
 use Rattle.name_flags.proofs.Free.{last_free, free_flags}

@@ -10,12 +10,12 @@ use borrow.Author.Tests.{eq-eqb, ne_eqb, eqb-true, eqb-false}
 use Rattle.lists.specs.Choice.{pick, pick_yes, pick_no}
 use Rattle.lists.proofs.Parts.{flat_map_append}
 use Rattle.formula.specs.Node.{Quantifier, exists, for_all}
-use Rattle.formula.specs.Form.{Block, quantifier_of, kind_of, filled_blocks}
+use Rattle.formula.specs.Form.{Block, quantifier_of, kind_of}
 use Rattle.formula.proofs.Prefix.{quantifier_read}
 use Rattle.texts.specs.Numerals.{digits}
 use Rattle.qdimacs.specs.Spelling.{quantifier_word}
 use Rattle.qdimacs.proofs.Lines.{block_text_lem}
-use Rattle.qdimacs_form.specs.Clauses.{same_kind, joined_to, joined_blocks}
+use Rattle.qdimacs_form.specs.Clauses.{filled_blocks, same_kind, joined_to, joined_blocks}
 use Rattle.qdimacs_form.proofs.Sound.{pick_cases}
 use Rattle.qdimacs_prefix.specs.Lines.{blocks_text, names_text, end_text, turn_text, added_text, kind_after, run_text, run_kind}
 

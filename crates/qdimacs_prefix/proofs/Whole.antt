@@ -3,8 +3,8 @@
 use mathlib.Core.Path.{sym, ◌∙◌, ap}
 use mathlib.Core.List.{List, [], ◌∷◌, ◌++◌}
 use Prim.Native.Nat.{ℕ}
-use Rattle.formula.specs.Form.{Block, kind_of, filled_blocks}
-use Rattle.qdimacs_form.specs.Clauses.{exists_block, closed_blocks, joined_blocks}
+use Rattle.formula.specs.Form.{Block, kind_of}
+use Rattle.qdimacs_form.specs.Clauses.{exists_block, closed_blocks, filled_blocks, joined_blocks}
 use Rattle.qdimacs_words.specs.Words.{Loose}
 use Rattle.qdimacs_words.proofs.Loose.{loose_then, loose_as}
 use Rattle.qdimacs_prefix.specs.declared.Line.{Line}

@@ -5,7 +5,8 @@ use mathlib.Core.List.{List, [], ◌∷◌, ◌++◌, flat_map}
 use Rattle.std.specs.Prelude.{◌≡◌, true, ℕ, ◌+◌, ◌*◌, ◌/◌, ◌≤◌, ◌<◌, eqb, length, get_or}
 use Rattle.lists.specs.Choice.{pick}
 use Rattle.formula.specs.Words.{is_block_kind}
-use Rattle.formula.specs.Form.{Block, prefix_width, quantifier_of, kind_of, block_at, blocks_of, prefix_names}
+use Rattle.formula.specs.Form.{Block, prefix_width, quantifier_of, kind_of, block_at, blocks_of}
+use Rattle.form_check.specs.Accepted.{prefix_names}
 use Rattle.texts.specs.Numerals.{digits}
 use Rattle.texts.specs.Bounds.{AllWritable}
 use Rattle.qdimacs.specs.Spelling.{quantifier_word, block_line}

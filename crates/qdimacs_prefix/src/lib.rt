@@ -4,10 +4,10 @@ ghost use Rattle.std.specs.Prelude.{true, [], ◌∷◌, ◌≡◌, suc, ◌+◌
 ghost use Rattle.lists.specs.Choice.{pick};
 ghost use Rattle.lists.specs.Parts.{numbers};
 ghost use Rattle.formula.specs.Words.{is_block_kind};
-ghost use Rattle.formula.specs.Form.{prefix_width, block_at, blocks_of, filled_blocks};
+ghost use Rattle.formula.specs.Form.{prefix_width, block_at, blocks_of};
 ghost use Rattle.texts.specs.Bounds.{number_bound, AllWritable, last_piece, last_line};
 ghost use Rattle.name_flags.specs.Flags.{flagged_below};
-ghost use Rattle.qdimacs_form.specs.Clauses.{closed_blocks, joined_blocks};
+ghost use Rattle.qdimacs_form.specs.Clauses.{closed_blocks, filled_blocks, joined_blocks};
 ghost use Rattle.qdimacs_words.specs.Words.{Loose};
 ghost use Rattle.qdimacs_prefix.specs.Lines.{
   blocks_text,

@@ -14,7 +14,7 @@ use Rattle.lists.proofs.Parts.{flat_map_append, highest_ge}
 use Rattle.formula.specs.Node.{Node, constant, variable, negation, operator, block, Table, operands, is_block}
 use Rattle.formula.specs.Words.{node_count, table_of}
 use Rattle.formula.specs.Truth.{digit}
-use Rattle.formula.specs.Form.{Block, blocks_of, form_free, filled_blocks}
+use Rattle.formula.specs.Form.{Block, blocks_of, form_free}
 use Rattle.formula.specs.FreeVariables.{number_at, highest_variable, form_free_variables}
 use Rattle.formula.proofs.FreeVariables.{form_free-listed}
 use Rattle.acceptance.proofs.Matrix.{no_block}
@@ -26,7 +26,7 @@ use Rattle.texts.specs.Put.{Put}
 use Rattle.texts.proofs.Put.{put_as}
 use Rattle.qdimacs.specs.Problem.{Clause}
 use Rattle.qdimacs.proofs.Lines.{problem_text_lem}
-use Rattle.qdimacs_form.specs.Clauses.{is_gate_node, has_gate, gates_below, first_gate, gate_variable, variable_of, has_value, gate_clauses, written_clauses, node_clauses, matrix_clauses, closed_blocks, joined_blocks, matrix_problem, form_problem, clauses_text}
+use Rattle.qdimacs_form.specs.Clauses.{is_gate_node, has_gate, gates_below, first_gate, gate_variable, variable_of, has_value, gate_clauses, written_clauses, node_clauses, matrix_clauses, closed_blocks, filled_blocks, joined_blocks, matrix_problem, form_problem, clauses_text}
 use Rattle.qdimacs_form.proofs.Gates.{root_gate, variable_gate, variable_name, gate_last, gate_root, variable_below}
 use Rattle.qdimacs_form.proofs.Room.{sum_digits}
 use Rattle.qdimacs_words.specs.Words.{Loose}

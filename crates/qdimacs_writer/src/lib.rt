@@ -2,8 +2,8 @@
 ghost use Rattle.std.specs.Prelude.{[], ◌∷◌, ◌++◌, ◌≡◌, ℕ, ◌+◌, ◌<◌, ◌≤◌, length, get_or};
 ghost use Rattle.lists.specs.Members.{maximum};
 ghost use Rattle.formula.specs.Truth.{digit};
-ghost use Rattle.formula.specs.Form.{blocks_of, binds, prefix_names};
-ghost use Rattle.form_check.specs.Accepted.{AcceptedForm};
+ghost use Rattle.formula.specs.Form.{blocks_of, binds};
+ghost use Rattle.form_check.specs.Accepted.{AcceptedForm, prefix_names};
 ghost use Rattle.form_texts.specs.Writing.{after};
 ghost use Rattle.texts.specs.Numerals.{digits};
 ghost use Rattle.texts.specs.Bounds.{number_bound};

@@ -1,1 +1,1 @@
-pub mod Targets
+pub mod Formats

@@ -1,3 +1,3 @@
 pub mod Answers
 pub mod Words
-pub mod Targets
+pub mod Formats

@@ -5,24 +5,18 @@ ghost use Rattle.refusals.specs.Outcome.{refused as refused_of};
 ghost use Rattle.prenex.specs.Outcome.{answer_of as sizes_of};
 ghost use Rattle.text_answers.specs.Answers.{no_text_sizes, answer_of, of_writing};
 ghost use Rattle.text_answers.specs.Words.{lift_answer, measure_answer};
-ghost use Rattle.text_answers.specs.Targets.{Numbers};
-ghost use Rattle.text_answers.specs.declared.Asked.TheVariants.{Known};
+ghost use Rattle.text_answers.specs.Formats.{Numbers};
 
 use form_texts::Answer as Writing;
 use form_writer::Format;
-use kept_prefix::Prefix;
 use prenex::Answer as Measure;
 use prenex_form::Sizes;
 use refusals::{ACCEPTED, BUFFER_TOO_SHORT, UNKNOWN_FORMAT, Verdict};
 
-// The numbers of the formats, alone and with the flag 4 beside them: the prefix is kept.
+// The numbers of the formats.
 const QCIR: u32 = 1;
 
 const QDIMACS: u32 = 2;
-
-const QCIR_KEPT: u32 = 5;
-
-const QDIMACS_KEPT: u32 = 6;
 
 // The verdict, the bytes written, and the sizes of the table that was read and of its prenex form.
 #[derive(Drop)]
@@ -32,18 +26,10 @@ pub struct Answer {
     pub sizes: Sizes,
 }
 
-// What is asked of lifting a text: the format of the text that is written, and what becomes of the blocks
-// in front of the table.
-#[derive(Drop)]
-pub struct Target {
-    pub format: Format,
-    pub prefix: Prefix,
-}
-
-// What a number asks for.
+// The format that a number names.
 #[derive(Drop)]
 pub enum Asked {
-    Known(Target),
+    Known(Format),
     Unknown,
 }
 
@@ -75,27 +61,18 @@ pub fn of_writing(written: Writing, sizes: Sizes) -> Answer
     }
 }
 
-// What this number asks for, if anything.
-pub fn target_of(number: u32) -> Asked
+// The format with this number, if there is one.
+pub fn format_of(number: u32) -> Asked
     ensures { Numbers number result }
 {
     match number {
-        QCIR => known(Format::Qcir, Prefix::Lifted),
-        QDIMACS => known(Format::Qdimacs, Prefix::Lifted),
-        QCIR_KEPT => known(Format::Qcir, Prefix::Kept),
-        QDIMACS_KEPT => known(Format::Qdimacs, Prefix::Kept),
+        QCIR => Asked::Known(Format::Qcir),
+        QDIMACS => Asked::Known(Format::Qdimacs),
         _ => Asked::Unknown,
     }
 }
 
-fn known(format: Format, prefix: Prefix) -> Asked
-    ensures { result ≡ Known (record { format = format; prefix = prefix }) }
-{
-    let target = Target { format, prefix };
-    Asked::Known(target)
-}
-
-// The answer to a number that asks for nothing.
+// The answer to a number that no format has.
 pub fn unknown_format() -> Answer
     ensures { answer_of result ≡ record { verdict = refusal 23 0; sizes = no_text_sizes } }
 {

@@ -1,9 +1,10 @@
 -- From an operation's outcome to the one that C's words say.
 -- Assumes nothing.
 use mathlib.Core.Path.{◌≡◌, sym, ◌∙◌, ap, subst}
+use Rattle.formula.specs.Node.{Table}
 use Rattle.refusals.specs.Outcome.{AnswerWith, Outcome}
 use Rattle.prenex_form.specs.declared.Sizes.{Sizes}
-use Rattle.prenex.specs.Outcome.{FormBuffers, SizesWritten}
+use Rattle.prenex.specs.Outcome.{SizesWritten}
 
 -- the same outcome with an equal answer
 pub said : {Sizes Buffers : Type 0} (a b : AnswerWith Sizes) (held : Buffers) (o : Outcome Sizes Buffers) → a ≡ b
@@ -16,5 +17,5 @@ pub promise-said : {Sizes Buffers : Type 0} (P : Outcome Sizes Buffers → Type 
 promise-said {Sizes} P a b held e = subst (λ (x : AnswerWith Sizes). P (record { answer = x; buffers = held })) (sym e)
 
 -- what is promised of an answer's sizes holds of those of an equal one
-pub sizes-said : (form : FormBuffers) (a b : AnswerWith Sizes) → a ≡ b → SizesWritten form b → SizesWritten form a
-sizes-said form a b e = subst (SizesWritten form) (sym e)
+pub sizes-said : (t : Table) (a b : AnswerWith Sizes) → a ≡ b → SizesWritten t b → SizesWritten t a
+sizes-said t a b e = subst (SizesWritten t) (sym e)

@@ -1,21 +1,8 @@
-// The C interface of formula tables: measuring, lifting in both ways, listing free variables and removing
-// empty blocks under C names. include/wakubinryo.h says each promise in words.
+// The C interface of formula tables: measuring, lifting, listing free variables and removing empty
+// blocks under C names. include/wakubinryo.h says each promise in words.
 ghost use Rattle.std.specs.Prelude.{◌≡◌};
 ghost use Rattle.free_variables.specs.Outcome.{listed};
-ghost use Rattle.prenex.specs.Outcome.{
-  table_in,
-  answer_of,
-  measured,
-  buffers,
-  written_form,
-  lifted,
-  SizesWritten,
-  FormWritten,
-  FormOf,
-  LiftOf,
-};
-ghost use Rattle.kept_prefix.specs.Promise.{KeptOf};
-ghost use Rattle.lift_kept.specs.Outcome.{kept_form, lifted_kept};
+ghost use Rattle.prenex.specs.Outcome.{table_in, answer_of, measured, buffers, lifted, SizesWritten, FormWritten};
 ghost use Rattle.remove_empty_blocks.specs.Outcome.{removed, TableLeft};
 ghost use Rattle.wakubinryo_tables.specs.Words.{
   sizes_answer,
@@ -34,7 +21,7 @@ use refusals::Verdict;
 #[unsafe(no_mangle)]
 pub extern "C" fn wakubinryo_measure(words: &[u32], list: &[u32], answer: &mut [u32; 11])
     ensures answer { sizes_answer answer.new ≡ measured words.now list.now }
-    ensures sizes { SizesWritten (written_form (table_in words.entry list.entry)) (sizes_answer answer.new) }
+    ensures sizes { SizesWritten (table_in words.entry list.entry) (sizes_answer answer.new) }
 {
     put_answer(answer, prenex::measure(words, list));
 }
@@ -55,38 +42,11 @@ pub extern "C" fn wakubinryo_lift(
     ensures outcome { lift_outcome answer.new (buffers nodes.new prefix.new variables.new)
         ≡ lifted words.now list.now
         (buffers nodes.old prefix.old variables.old) }
-    ensures sizes { SizesWritten (written_form (table_in words.entry list.entry)) (sizes_answer answer.new) }
-    ensures form { FormWritten (LiftOf (table_in words.entry list.entry))
+    ensures sizes { SizesWritten (table_in words.entry list.entry) (sizes_answer answer.new) }
+    ensures form { FormWritten (table_in words.entry list.entry)
         (lift_outcome answer.new (buffers nodes.new prefix.new variables.new)) }
 {
     put_answer(answer, prenex::lift(words, list, nodes, prefix, variables));
-}
-
-// The same with the blocks in front of the table kept: number, position, two users and the seven sizes.
-//
-// The contract rules out a call that lifts these blocks with the others, and one that takes the table's
-// list for its words.
-#[unsafe(no_mangle)]
-pub extern "C" fn wakubinryo_lift_kept(
-    words: &[u32],
-    list: &[u32],
-    nodes: &mut [u32],
-    prefix: &mut [u32],
-    variables: &mut [u32],
-    answer: &mut [u32; 11],
-)
-    ensures outcome { lift_outcome answer.new (buffers nodes.new prefix.new variables.new)
-        ≡ lifted_kept words.now list.now
-        (buffers nodes.old prefix.old variables.old) }
-    ensures sizes { SizesWritten (kept_form words.now list.now) (sizes_answer answer.new) }
-    ensures form { FormWritten (FormOf (table_in words.entry list.entry))
-        (lift_outcome answer.new (buffers nodes.new prefix.new variables.new)) }
-    ensures kept { (sizes_answer answer.new).verdict.number ≡ 0 → KeptOf words.now list.now }
-{
-    put_answer(
-        answer,
-        lift_kept::lift(words, list, nodes, prefix, variables),
-    );
 }
 
 // Lists a table's free variables: number, position, two users and how many names were written.

@@ -8,13 +8,12 @@ ghost use Rattle.lift_text.specs.Lifting.{LiftsText};
 ghost use Rattle.lift_text.specs.Memory.{lent, LiftsTextIn};
 ghost use Rattle.lift_text.specs.Measuring.{MeasuresText};
 ghost use Rattle.text_answers.specs.Words.{measure_answer, outcome_of};
-ghost use Rattle.text_answers.specs.Targets.{AskedFor};
+ghost use Rattle.text_answers.specs.Formats.{InFormat};
 
 use text_answers::Asked;
 
-// Lifts a QCIR text to a text: number, position, bytes written and the seven sizes. The format is a
-// number, with the flag 4 beside it where the blocks in front are kept; one that asks for nothing is
-// refused by 23.
+// Lifts a QCIR text to a text: number, position, bytes written and the seven sizes. A number that names
+// no format is refused by 23.
 //
 // The contract rules out an answer that loses a refusal's position, and a call that takes the number of
 // QDIMACS for QCIR's.
@@ -25,16 +24,13 @@ pub extern "C" fn wakubinryo_lift_text(
     out: &mut [u8],
     answer: &mut [u64; 10],
 )
-    ensures { AskedFor format
-        (λ t. LiftsText t text.now out.old (outcome_of answer.new out.new))
+    ensures { InFormat format
+        (λ f. LiftsText f text.now out.old (outcome_of answer.new out.new))
         (outcome_of answer.new out.new ≡ refused_text no_text_sizes out.old (refusal 23 0)) }
 {
-    let asked = text_answers::target_of(format);
+    let asked = text_answers::format_of(format);
     match asked {
-        Asked::Known(target) => text_answers::put_lift(
-            answer,
-            lift_text::lift_text(text, target, out),
-        ),
+        Asked::Known(f) => text_answers::put_lift(answer, lift_text::lift_text(text, f, out)),
         Asked::Unknown => text_answers::put_lift(answer, text_answers::unknown_format()),
     }
 }
@@ -51,17 +47,17 @@ pub extern "C" fn wakubinryo_lift_text_in(
     out: &mut [u8],
     answer: &mut [u64; 10],
 )
-    ensures { AskedFor format
-        (λ t. LiftsTextIn t text.now (lent nodes.old out.old)
+    ensures { InFormat format
+        (λ f. LiftsTextIn f text.now (lent nodes.old out.old)
         (outcome_of answer.new (lent nodes.new out.new)))
         (outcome_of answer.new (lent nodes.new out.new)
         ≡ refused_text no_text_sizes (lent nodes.old out.old) (refusal 23 0)) }
 {
-    let asked = text_answers::target_of(format);
+    let asked = text_answers::format_of(format);
     match asked {
-        Asked::Known(target) => text_answers::put_lift(
+        Asked::Known(f) => text_answers::put_lift(
             answer,
-            lift_text::lift_text_in(text, target, nodes, out),
+            lift_text::lift_text_in(text, f, nodes, out),
         ),
         Asked::Unknown => text_answers::put_lift(answer, text_answers::unknown_format()),
     }

@@ -2,9 +2,7 @@
 //! three calls for reading, lifting and writing, and beside the reference's
 //! reader, lifter and writer.
 //!
-//!     cargo run --release --bin bench_text [qcir | qdimacs] [--keep-prefix]
-//!
-//! The prefix is lifted or, with the option, kept.
+//!     cargo run --release --bin bench_text [qcir | qdimacs]
 //!
 //! The text is written into a buffer that stands ready before the time is taken,
 //! has exactly the length needed and is not cleared in between. So are the table
@@ -16,12 +14,11 @@ use std::hint::black_box;
 use std::time::{Duration, Instant};
 use wakubinryo::comparators::row;
 use wakubinryo::generate_qcir::{prefix_lines, Family, FAMILIES};
-use wakubinryo::timing::{all_rounds, prefix_asked_for, warn_if_not_release, writers_asked_for};
+use wakubinryo::timing::{all_rounds, warn_if_not_release, writers_asked_for};
 use wakubinryo::timing::{Times, Writer, ROUNDS, RUNS, WARM_UP};
-use wakubinryo::{kept, qcir, reference};
-use wakubinryo::{lift, lift_kept, lift_text_into_with, lift_text_with, measure_text};
-use wakubinryo::{read_qcir, read_qcir_into, Prefix, PrenexForm, Refusal, Sizes, Table};
-use wakubinryo::{Written, WrittenText, WIDTH};
+use wakubinryo::{lift, lift_text_into, measure_text, qcir, read_qcir, read_qcir_into, reference};
+use wakubinryo::{PrenexForm, Refusal, Sizes, Table, NODES_ROOM, WIDTH};
+use wakubinryo::{Written, WrittenText};
 
 const BYTES: [usize; 3] = [16_384, 32_768, 65_536];
 
@@ -48,29 +45,6 @@ fn files() -> Vec<(&'static str, [Vec<u8>; 3])> {
 type Read = fn(&[u8], &mut [u32], &mut [u32]) -> Result<Written, Refusal>;
 type Lift = fn(&[u32], &[u32], &mut [u32], &mut [u32], &mut [u32]) -> Result<Sizes, Refusal>;
 
-/// The format that is written, and what becomes of the prefix.
-#[derive(Clone, Copy)]
-struct Way {
-    writer: Writer,
-    prefix: Prefix,
-}
-
-impl Way {
-    fn lift(self) -> Lift {
-        match self.prefix {
-            Prefix::Lifted => lift,
-            Prefix::Kept => lift_kept,
-        }
-    }
-
-    fn reference_lift(self) -> Lift {
-        match self.prefix {
-            Prefix::Lifted => reference::lift,
-            Prefix::Kept => kept::lift,
-        }
-    }
-}
-
 /// What one side writes.
 #[derive(Clone, PartialEq)]
 struct Room {
@@ -81,9 +55,8 @@ struct Room {
 
 impl Room {
     /// Exactly what a file needs, by the reference.
-    fn new(way: Way, text: &[u8]) -> Room {
-        let lifted = lift_text_with(text, way.writer.format, way.prefix);
-        let sizes = lifted.expect("accepted").sizes;
+    fn new(writer: Writer, text: &[u8]) -> Room {
+        let sizes = measure_text(text).expect("accepted");
         let mut room = Room {
             table: Table {
                 words: vec![0; WIDTH * sizes.n as usize],
@@ -92,7 +65,7 @@ impl Room {
             form: PrenexForm::with_sizes(&sizes),
             text: Vec::new(),
         };
-        room.run(way, 3, text);
+        room.run(writer, 3, text);
         room
     }
 
@@ -112,22 +85,21 @@ impl Room {
     /// One run: the one call (side 0), the three calls with a table and a form
     /// made for the file (side 1) or standing ready (side 2), or the reference
     /// (side 3).
-    fn run(&mut self, way: Way, side: usize, text: &[u8]) -> Duration {
-        let Way { writer, prefix } = way;
+    fn run(&mut self, writer: Writer, side: usize, text: &[u8]) -> Duration {
         let start = Instant::now();
         let text = black_box(text);
         let bytes = match side {
             0 => {
-                let lifted = lift_text_into_with(text, writer.format, prefix, &mut self.text);
+                let lifted = lift_text_into(text, writer.format, &mut self.text);
                 lifted.map(|WrittenText { bytes, .. }| bytes)
             }
-            1 => three_calls(way, text, &mut self.text),
+            1 => three_calls(writer, text, &mut self.text),
             2 => {
-                self.read_and_lift(text, read_qcir_into, way.lift());
+                self.read_and_lift(text, read_qcir_into, lift);
                 (writer.library)(&self.form, &mut self.text)
             }
             _ => {
-                self.read_and_lift(text, qcir::read, way.reference_lift());
+                self.read_and_lift(text, qcir::read, reference::lift);
                 self.text.clear();
                 (writer.reference)(&self.form, &mut self.text).map(|()| self.text.len())
             }
@@ -140,38 +112,39 @@ impl Room {
 }
 
 /// The three calls, as made by a caller who has room for any file.
-fn three_calls(way: Way, text: &[u8], out: &mut [u8]) -> Result<usize, Refusal> {
+fn three_calls(writer: Writer, text: &[u8], out: &mut [u8]) -> Result<usize, Refusal> {
     let table = read_qcir(text)?;
-    let mut form = PrenexForm::with_sizes(&Sizes {
-        nodes: 40_960,
-        blocks: 4_097,
-        entries: 12_288,
-        ..Sizes::default()
-    });
-    let sizes = way.lift()(
+    let mut form = PrenexForm {
+        nodes: vec![0; NODES_ROOM],
+        prefix: vec![0; 3 * 4_097],
+        variables: vec![0; 12_288],
+    };
+    let sizes = lift(
         &table.words,
         &table.list,
         &mut form.nodes,
         &mut form.prefix,
         &mut form.variables,
     )?;
-    form.truncate(&sizes);
-    (way.writer.library)(&form, out)
+    form.nodes.truncate(WIDTH * sizes.nodes as usize);
+    form.prefix.truncate(3 * sizes.blocks as usize);
+    form.variables.truncate(sizes.entries as usize);
+    (writer.library)(&form, out)
 }
 
 /// A file, and for each side what it writes and times.
 struct Bench {
-    way: Way,
+    writer: Writer,
     text: Vec<u8>,
     rooms: [Room; 4],
     times: Times<4>,
 }
 
 impl Bench {
-    fn new(way: Way, text: &[u8]) -> Bench {
-        let room = Room::new(way, text);
+    fn new(writer: Writer, text: &[u8]) -> Bench {
+        let room = Room::new(writer, text);
         Bench {
-            way,
+            writer,
             text: text.to_vec(),
             rooms: [room.clone(), room.clone(), room.clone(), room],
             times: Times::default(),
@@ -182,7 +155,7 @@ impl Bench {
     fn round(&mut self) {
         let (text, rooms) = (&self.text, &mut self.rooms);
         self.times
-            .round(|side| rooms[side].run(self.way, side, text));
+            .round(|side| rooms[side].run(self.writer, side, text));
         let [one, made, ready, reference] = &self.rooms;
         assert!(
             ready == reference && one.text == reference.text && made.text == reference.text,
@@ -191,17 +164,13 @@ impl Bench {
     }
 }
 
-fn print_times(way: Way) {
+fn print_times(writer: Writer) {
     println!();
-    let prefix = match way.prefix {
-        Prefix::Lifted => "lifted",
-        Prefix::Kept => "kept",
-    };
-    println!("{} files, prefix {prefix}:", way.writer.name);
+    println!("{} files:", writer.name);
     println!("                          bytes     bytes       one     three   buffers            ratio to  ratio to");
     println!("family                       in       out      call     calls     ready reference     three reference");
     for (name, texts) in files() {
-        let mut benches = texts.map(|text| Bench::new(way, &text));
+        let mut benches = texts.map(|text| Bench::new(writer, &text));
         all_rounds(&mut benches, Bench::round);
         for bench in &mut benches {
             let [one, made, ready, reference] = bench.times.medians();
@@ -232,8 +201,5 @@ fn main() {
     );
     println!("to warm up.");
     warn_if_not_release();
-    let prefix = prefix_asked_for();
-    for writer in asked {
-        print_times(Way { writer, prefix });
-    }
+    asked.into_iter().for_each(print_times);
 }

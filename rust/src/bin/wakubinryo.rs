@@ -14,12 +14,12 @@ use wakubinryo::growth_plot;
 use wakubinryo::name_lines::NameLines;
 use wakubinryo::qcir::LONGEST;
 use wakubinryo::words::{self, STANDARD_INPUT, STANDARD_OUTPUT};
-use wakubinryo::{lift_text_with, measure_text, names, prenex_form, read_qcir, report};
-use wakubinryo::{Format, Line, Prefix, PrenexForm, Reason, Refusal};
+use wakubinryo::{lift_text, measure_text, names, prenex_form, read_qcir, report};
+use wakubinryo::{Format, Line, PrenexForm, Reason, Refusal};
 
 const USAGE: &str = "\
 usage: wakubinryo measure [FILE] [-o OUT]
-       wakubinryo lift [--keep-prefix] [--format qcir|qdimacs] [FILE] [-o OUT]
+       wakubinryo lift [--format qcir|qdimacs] [FILE] [-o OUT]
        wakubinryo same FILE FILE
        wakubinryo report [--plot FILE.svg] [FILE..]
        wakubinryo --help | --version
@@ -40,10 +40,6 @@ Reads QCIR files and moves all quantifiers of each into a prefix.
   --format qdimacs
              print clauses that are true exactly if some valuation of the free
              variables makes the file true
-  --keep-prefix
-             leave the quantifiers that stand in front already as they are, with
-             those of their names that occur, and lift what is below them; a
-             solver often finds this easier
   --plot FILE.svg
              draw nodes written against input nodes, with a dot for each accepted
              file, and write the drawing to this file, whole or not at all
@@ -106,7 +102,7 @@ struct Files {
 /// What the arguments ask for. A name that is left out is `-`.
 enum Asked {
     Measure(Files),
-    Lift(Format, Prefix, Files),
+    Lift(Format, Files),
     Same([OsString; 2]),
     Report {
         files: Vec<OsString>,
@@ -131,10 +127,7 @@ fn main() -> ExitCode {
 fn run(arguments: impl Iterator<Item = OsString>) -> Result<ExitCode, Failure> {
     match parse(arguments)? {
         Asked::Measure(files) => answer(&files, measured)?,
-        Asked::Lift(format, prefix, files) => {
-            let lifted = |text: &[u8]| Ok(lift_text_with(text, format, prefix)?.text);
-            answer(&files, lifted)?
-        }
+        Asked::Lift(format, files) => answer(&files, |text| Ok(lift_text(text, format)?.text))?,
         Asked::Same(names) => return compare(&names),
         Asked::Report { files, plot } => return report_files(&files, plot.as_deref()),
         Asked::Print(text) => print(text.as_bytes())?,
@@ -244,7 +237,6 @@ fn parse(mut arguments: impl Iterator<Item = OsString>) -> Result<Asked, Failure
     let wrong = |words: String| Err(Failure::Usage(words));
     let mut command = None;
     let mut format: Option<Format> = None;
-    let mut prefix = Prefix::Lifted;
     let mut inputs = Vec::new();
     let mut output = None;
     let mut plot = None;
@@ -269,10 +261,6 @@ fn parse(mut arguments: impl Iterator<Item = OsString>) -> Result<Asked, Failure
                 Some(name) => {
                     return wrong(format!("unknown format {}", name.to_string_lossy()));
                 }
-            },
-            ("--keep-prefix", true) => match prefix {
-                Prefix::Kept => return wrong("--keep-prefix twice".into()),
-                Prefix::Lifted => prefix = Prefix::Kept,
             },
             ("--plot", true) => match arguments.next() {
                 None => return wrong("--plot without a file".into()),
@@ -306,11 +294,9 @@ fn parse(mut arguments: impl Iterator<Item = OsString>) -> Result<Asked, Failure
         }
         (Some(Command::Lift), format, output) => Ok(Asked::Lift(
             format.unwrap_or(Format::Qcir),
-            prefix,
             files(inputs.pop(), output),
         )),
         (Some(_), Some(_), _) => wrong("--format without lift".into()),
-        (Some(_), ..) if prefix == Prefix::Kept => wrong("--keep-prefix without lift".into()),
         (Some(Command::Measure), None, output) => Ok(Asked::Measure(files(inputs.pop(), output))),
         (Some(Command::Same), None, Some(_)) => wrong("-o with same".into()),
         (Some(Command::Same), None, None) => match <[OsString; 2]>::try_from(inputs) {

@@ -2,7 +2,6 @@
 //! reference, form by form.
 
 use super::{each, some_nodes, Case, Lent, Prefill, TOO_SHORT, UNANSWERED_LONG};
-use std::collections::BTreeSet;
 use wakubinryo::answer::text_words;
 use wakubinryo::brute;
 use wakubinryo::form_check::{Limits, MOST_NODES};
@@ -240,45 +239,6 @@ pub fn table_is_satisfiable(Table { words, list }: &Table) -> bool {
     let free: Vec<u32> = brute::free_occurrences(words, list).into_iter().collect();
     let mut valuations = brute::valuations(&free);
     valuations.any(|mut valuation| brute::table_value(words, list, &mut valuation))
-}
-
-/// The number of variables that brute force is asked to go through.
-const MOST: usize = 16;
-
-/// Compares the values of a table and of its form under all valuations of the free
-/// variables, and gives the numbers on which they depend. None if there were too
-/// many variables.
-pub fn assert_same_truth(table: &Table, form: &PrenexForm) -> Option<BTreeSet<u32>> {
-    let free = brute::free_occurrences(&table.words, &table.list);
-    let at_nodes = |words: &[u32]| -> Vec<u32> {
-        let names = brute::variables_at_nodes(words);
-        names.into_iter().collect()
-    };
-    let (of_table, of_form) = (at_nodes(&table.words), at_nodes(&form.nodes));
-    if of_table.len() > MOST || of_form.len() > MOST {
-        return None;
-    }
-    let table_truth = brute::table_function(&table.words, &table.list, &of_table);
-    let form_truth = function(form, &of_form);
-    let over: Vec<u32> = free.iter().copied().collect();
-    for valuation in brute::valuations(&over) {
-        assert_eq!(
-            table_truth.value(&valuation),
-            form_truth.value(&valuation),
-            "under {valuation:?}: {table:?}"
-        );
-    }
-    // What is given to a number that is not free changes neither value.
-    let of_both = of_table.into_iter().chain(of_form);
-    let relevant: BTreeSet<u32> = of_both
-        .filter(|&variable| {
-            let relevant = table_truth.depends_on(variable);
-            assert_eq!(relevant, form_truth.depends_on(variable));
-            relevant
-        })
-        .collect();
-    assert!(relevant.is_subset(&free), "{relevant:?}: {table:?}");
-    Some(relevant)
 }
 
 /// Forms that are written, most of them small: `check` is given each text.

@@ -14,11 +14,11 @@ use std::fmt::Display;
 use wakubinryo::answer::{count_words, size_words, written_words};
 use wakubinryo::generate::{Rng, Table};
 use wakubinryo::reference::{LIMIT, WIDTH};
-use wakubinryo::{free_variables, kept, lift, lift_kept, measure, qcir, raw, reference};
-use wakubinryo::{kept_form, prenex_form, read_qcir, read_qcir_into};
+use wakubinryo::{free_variables, lift, measure, prenex_form, qcir, raw, reference};
+use wakubinryo::{read_qcir, read_qcir_into};
 use wakubinryo::{remove_empty_blocks, without_empty_blocks};
 use wakubinryo::{CountAnswer, SizesAnswer, WrittenAnswer};
-use wakubinryo::{Prefix, PrenexForm, Reason, Refusal, Sizes, Written};
+use wakubinryo::{PrenexForm, Reason, Refusal, Sizes, Written};
 
 /// Words that buffers hold before a call.
 #[derive(Clone, Copy, Debug)]
@@ -124,8 +124,7 @@ pub fn library_measure(table: &Table) -> SizesAnswer {
     answer
 }
 
-/// A lift with its answer as words: the library's own, the wrapper's, or the
-/// reference's.
+/// A lift with its answer as words: the library's own, or the wrapper's.
 pub type Lift = fn(&Table, &mut [u32], &mut [u32], &mut [u32]) -> SizesAnswer;
 
 pub const LIBRARY_LIFT: Lift = |table, nodes, prefix, variables| {
@@ -138,46 +137,6 @@ pub const LIBRARY_LIFT: Lift = |table, nodes, prefix, variables| {
 const WRAPPED_LIFT: Lift = |table, nodes, prefix, variables| {
     size_words(lift(&table.words, &table.list, nodes, prefix, variables))
 };
-
-pub const LIBRARY_LIFT_KEPT: Lift = |table, nodes, prefix, variables| {
-    let mut answer = SizesAnswer::default().map(|_| UNANSWERED);
-    let Table { words, list } = table;
-    raw::lift_kept(words, list, nodes, prefix, variables, &mut answer);
-    answer
-};
-
-const WRAPPED_LIFT_KEPT: Lift = |Table { words, list }, nodes, prefix, variables| {
-    size_words(lift_kept(words, list, nodes, prefix, variables))
-};
-
-const REFERENCE_LIFT_KEPT: Lift = |Table { words, list }, nodes, prefix, variables| {
-    size_words(kept::lift(words, list, nodes, prefix, variables))
-};
-
-/// The library's form of a table.
-pub fn form_with(prefix: Prefix, Table { words, list }: &Table) -> Result<PrenexForm, Refusal> {
-    match prefix {
-        Prefix::Lifted => prenex_form(words, list),
-        Prefix::Kept => kept_form(words, list),
-    }
-}
-
-/// The sizes of a table with those of a form.
-pub fn with_form(of_table: Sizes, form: &PrenexForm) -> Sizes {
-    Sizes {
-        nodes: (form.nodes.len() / WIDTH) as u32,
-        blocks: (form.prefix.len() / 3) as u32,
-        entries: form.variables.len() as u32,
-        ..of_table
-    }
-}
-
-/// Holds the sizes of a form to the bounds by those of its table.
-pub fn assert_within_bounds(sizes: &Sizes) {
-    assert!(sizes.nodes <= sizes.n + 5 * sizes.b + 4 * sizes.q);
-    assert!(sizes.entries <= 2 * sizes.q + sizes.b);
-    assert!(sizes.blocks <= sizes.depth + 1);
-}
 
 /// A call for the free variables with its answer as words.
 pub type FreeVariables = fn(&Table, &mut [u32]) -> CountAnswer;
@@ -219,31 +178,6 @@ pub fn reference_form(table: &Table) -> (Result<Sizes, Refusal>, PrenexForm) {
     (lifted, form)
 }
 
-/// The same with the prefix kept: what it writes into buffers as long as the form
-/// may be.
-pub fn reference_kept_form(table: &Table) -> (Result<Sizes, Refusal>, PrenexForm) {
-    let measured = reference::measure(&table.words, &table.list);
-    let mut form = PrenexForm::with_sizes(&measured.unwrap_or_default().most());
-    let lifted = kept::lift(
-        &table.words,
-        &table.list,
-        &mut form.nodes,
-        &mut form.prefix,
-        &mut form.variables,
-    );
-    assert_eq!(measured.err(), lifted.err());
-    form.truncate(&lifted.unwrap_or_default());
-    (lifted, form)
-}
-
-/// The reference's answer and form, the prefix being lifted or kept.
-pub fn reference_form_with(prefix: Prefix, table: &Table) -> (Result<Sizes, Refusal>, PrenexForm) {
-    match prefix {
-        Prefix::Lifted => reference_form(table),
-        Prefix::Kept => reference_kept_form(table),
-    }
-}
-
 pub fn reference_free_variables(table: &Table) -> (Result<u32, Refusal>, Vec<u32>) {
     let mut names = vec![0; 4096];
     let answer = reference::free_variables(&table.words, &table.list, &mut names);
@@ -270,36 +204,6 @@ pub fn assert_lift(
     nodes.assert_holds(&form.nodes, "nodes");
     prefix.assert_holds(&form.prefix, "prefix");
     variables.assert_holds(&form.variables, "variables");
-}
-
-/// Holds a lift to given results, with buffers that are exact, longer by `spare`
-/// and, for an accepted table, each too short in turn; for a refused one, ample.
-fn assert_lifts(
-    lift: Lift,
-    table: &Table,
-    sizes: Result<Sizes, Refusal>,
-    form: &PrenexForm,
-    prefill: Prefill,
-    spare: usize,
-) {
-    let exact = [form.nodes.len(), form.prefix.len(), form.variables.len()];
-    let long = exact.map(|len| len + spare);
-    for lengths in [exact, long] {
-        assert_lift(lift, table, lengths, prefill, sizes, form);
-    }
-    if sizes.is_err() {
-        assert_lift(lift, table, [ample(table); 3], prefill, sizes, form);
-        return;
-    }
-    for k in (0..3).filter(|&k| exact[k] > 0) {
-        for others in [exact, long] {
-            for len in [exact[k] - 1, exact[k] - 1 - spare % exact[k]] {
-                let mut short = others;
-                short[k] = len;
-                assert_lift(lift, table, short, prefill, Err(TOO_SHORT), &NOTHING);
-            }
-        }
-    }
 }
 
 /// Lists the free variables into a buffer of this length and holds answer and
@@ -466,14 +370,30 @@ pub fn assert_operations(
 ) {
     assert_eq!(library_measure(table), size_words(sizes), "measure");
     assert_wrappers(table, sizes, form, names, prefills[0]);
+    let lift = LIBRARY_LIFT;
     let free_variables = LIBRARY_FREE_VARIABLES;
     let count = sizes.map(|_| names.len() as u32);
+    let exact = [form.nodes.len(), form.prefix.len(), form.variables.len()];
+    let long = exact.map(|len| len + spare);
     for &prefill in prefills {
-        assert_lifts(LIBRARY_LIFT, table, sizes, form, prefill, spare);
+        for lengths in [exact, long] {
+            assert_lift(lift, table, lengths, prefill, sizes, form);
+        }
         assert_lists(free_variables, table, prefill, count, names, spare);
         if sizes.is_err() {
             let ample = ample(table);
+            assert_lift(lift, table, [ample; 3], prefill, sizes, form);
             assert_free_variables(free_variables, table, ample, prefill, count, names);
+            continue;
+        }
+        for k in (0..3).filter(|&k| exact[k] > 0) {
+            for others in [exact, long] {
+                for len in [exact[k] - 1, exact[k] - 1 - spare % exact[k]] {
+                    let mut short = others;
+                    short[k] = len;
+                    assert_lift(lift, table, short, prefill, Err(TOO_SHORT), &NOTHING);
+                }
+            }
         }
     }
 }
@@ -512,44 +432,14 @@ fn assert_wrappers(
     }
 }
 
-/// Holds the library's lift with the prefix kept, and its wrapper's, to the
-/// reference's results.
-pub fn assert_same_kept(
-    table: &Table,
-    prefills: &[Prefill],
-    spare: usize,
-) -> Result<Sizes, Refusal> {
-    let (sizes, form) = reference_kept_form(table);
-    for &prefill in prefills {
-        assert_lifts(LIBRARY_LIFT_KEPT, table, sizes, &form, prefill, spare);
-    }
-    let wrapped = kept_form(&table.words, &table.list);
-    assert_eq!(wrapped.as_ref(), sizes.as_ref().map(|_| &form), "kept_form");
-    sizes
-}
-
-/// Holds library, wrapper and reference to the form of an accepted table with the
-/// prefix kept.
-pub fn assert_kept(table: &Table, form: &PrenexForm, prefills: &[Prefill], spare: usize) {
-    let sizes = assert_same_kept(table, prefills, spare);
-    for &prefill in prefills {
-        for lift in [WRAPPED_LIFT_KEPT, REFERENCE_LIFT_KEPT] {
-            assert_lifts(lift, table, sizes, form, prefill, spare);
-        }
-    }
-}
-
-/// Holds the library's five operations to the reference's results. Lifting with
-/// the prefix kept refuses what lifting does. Removing empty blocks changes
-/// nothing in a table that has none, and refuses what the others refuse but for
-/// 16.
+/// Holds the library's four operations to the reference's results. Removing
+/// empty blocks changes nothing in a table that has none, and refuses what the
+/// others refuse but for 16.
 pub fn assert_same(table: &Table, prefills: &[Prefill], spare: usize) -> Result<Sizes, Refusal> {
     let (sizes, form) = reference_form(table);
     let (_, names) = reference_free_variables(table);
     let before = table.clone();
     assert_operations(table, sizes, &form, &names, prefills, spare);
-    let kept = assert_same_kept(table, prefills, spare);
-    assert_eq!(kept.err(), sizes.err());
     let left = reference_left(table);
     let left = left.as_deref().map_err(|&refusal| refusal);
     match sizes {

@@ -2,22 +2,20 @@
 //! reader, lifter and writers, text by text.
 
 use super::forms::FORMATS;
-use super::{form_with, reference_form_with, reference_table, with_form};
-use super::{Lent, Prefill, TOO_SHORT, UNANSWERED, UNANSWERED_LONG};
+use super::{reference_form, reference_table, Lent, Prefill, TOO_SHORT};
+use super::{UNANSWERED, UNANSWERED_LONG};
 use wakubinryo::answer::{lift_text_words, measure_text_words};
-use wakubinryo::{lift_text, lift_text_into, lift_text_into_with, lift_text_with};
-use wakubinryo::{measure, measure_text, raw, read_qcir, reference};
-use wakubinryo::{Format, LiftTextAnswer, LiftedText, MeasureTextAnswer, Prefix};
-use wakubinryo::{Reason, Refusal, Sizes, WrittenText};
+use wakubinryo::{lift_text, lift_text_into, measure_text, raw};
+use wakubinryo::{measure, prenex_form, read_qcir};
+use wakubinryo::{Format, LiftTextAnswer, LiftedText, MeasureTextAnswer};
+use wakubinryo::{Reason, Refusal, Sizes, Table, WrittenText};
 
 const MEMORY_TOO_SHORT: Refusal = Reason::MemoryTooShort.at(0);
 
-/// What a text is lifted to: the form's nodes, and a text in each of the two
-/// formats.
+/// What a text is lifted to: a text in each of the two formats.
 #[derive(Debug, PartialEq, Eq)]
 pub struct Lifted {
     pub sizes: Sizes,
-    nodes: Vec<u32>,
     /// In the order of `Format::ALL`, which is that of [`FORMATS`].
     texts: [Vec<u8>; 2],
 }
@@ -33,57 +31,23 @@ pub fn sizes_of(lifted: &Result<Lifted, Refusal>) -> Result<Sizes, Refusal> {
 }
 
 /// By the reference.
-pub fn reference_lift_text(text: &[u8], prefix: Prefix) -> Result<Lifted, Refusal> {
+pub fn reference_lift_text(text: &[u8]) -> Result<Lifted, Refusal> {
     let (read, table) = reference_table(text);
     read?;
-    let (sizes, form) = reference_form_with(prefix, &table);
+    let (sizes, form) = reference_form(&table);
     let texts = FORMATS.map(|format| (format.reference_text)(&form).expect("written"));
-    Ok(Lifted {
-        sizes: sizes.expect("accepted"),
-        nodes: form.nodes,
-        texts,
-    })
-}
-
-fn reference_measure_text(text: &[u8]) -> Result<Sizes, Refusal> {
-    let (read, table) = reference_table(text);
-    read?;
-    reference::measure(&table.words, &table.list)
+    let sizes = sizes.expect("accepted");
+    Ok(Lifted { sizes, texts })
 }
 
 /// By the library step by step: it reads, measures, lifts and writes.
-pub fn lift_text_by_steps(text: &[u8], prefix: Prefix) -> Result<Lifted, Refusal> {
-    let table = read_qcir(text)?;
-    let form = form_with(prefix, &table)?;
+pub fn lift_text_by_steps(text: &[u8]) -> Result<Lifted, Refusal> {
+    let Table { words, list } = read_qcir(text)?;
+    let sizes = measure(&words, &list)?;
+    let form = prenex_form(&words, &list)?;
     let texts = FORMATS.map(|format| (format.text)(&form).expect("written"));
-    Ok(Lifted {
-        sizes: with_form(measure(&table.words, &table.list)?, &form),
-        nodes: form.nodes,
-        texts,
-    })
+    Ok(Lifted { sizes, texts })
 }
-
-/// The formats, each with the prefix lifted and kept.
-pub fn ways() -> impl Iterator<Item = (Format, Prefix)> {
-    let both = |format| Prefix::ALL.map(|prefix| (format, prefix));
-    Format::ALL.into_iter().flat_map(both)
-}
-
-/// Numbers that are no format's, with the flag of a kept prefix or without.
-pub const UNKNOWN_FORMATS: [u32; 12] = [
-    0,
-    3,
-    4,
-    7,
-    8,
-    9,
-    13,
-    257,
-    1 << 16 | 2,
-    1 << 31 | 1,
-    1 << 31 | 5,
-    u32::MAX,
-];
 
 /// A lift of a text to the format of this number, with its answer as words: the
 /// library's own, or the wrapper's.
@@ -96,12 +60,9 @@ pub const LIBRARY_LIFT_TEXT: LiftText = |text, format, out| {
 };
 
 const WRAPPED_LIFT_TEXT: LiftText = |text, number, out| {
-    let is_asked = |(format, prefix): &(Format, Prefix)| format.number_with(*prefix) == number;
-    let (format, prefix) = ways().find(is_asked).expect("a format");
-    lift_text_words(match prefix {
-        Prefix::Lifted => lift_text_into(text, format, out),
-        Prefix::Kept => lift_text_into_with(text, format, prefix, out),
-    })
+    let mut formats = Format::ALL.into_iter();
+    let format = formats.find(|format| format.number() == number);
+    lift_text_words(lift_text_into(text, format.expect("a format"), out))
 };
 
 /// A lift in memory lent for the form's nodes.
@@ -148,33 +109,28 @@ fn assert_lent_memory(
 
 /// Holds the library's lift in lent memory to what the reference lifts, memory
 /// and buffer being exact, longer by `spare` or too short.
-pub fn assert_lent(
-    text: &[u8],
-    prefix: Prefix,
-    prefill: Prefill,
-    spare: usize,
-    lifted: &Result<Lifted, Refusal>,
-) {
-    let nodes = lifted.as_ref().map_or(0, |l| l.nodes.len());
+pub fn assert_lent(text: &[u8], prefill: Prefill, spare: usize, lifted: &Result<Lifted, Refusal>) {
+    let (_, table) = reference_table(text);
+    let form = lifted
+        .as_ref()
+        .map_or(vec![], |_| reference_form(&table).1.nodes);
     for format in Format::ALL {
         let expected = match lifted {
-            Ok(l) => Ok((l.sizes, &l.nodes[..], l.text(format))),
+            Ok(l) => Ok((l.sizes, &form[..], l.text(format))),
             Err(refusal) => Err(*refusal),
         };
         let bytes = lifted.as_ref().map_or(0, |l| l.text(format).len());
         let around = |exact: usize| [exact, exact + spare, exact.saturating_sub(1)];
-        for memory in around(nodes) {
+        for memory in around(form.len()) {
             for len in around(bytes) {
-                let number = format.number_with(prefix);
+                let number = format.number();
                 assert_lent_memory(text, number, memory, len, prefill, expected);
             }
         }
     }
-    for memory in [0, nodes] {
-        for format in UNKNOWN_FORMATS {
-            let refusal = Err(Reason::UnknownFormat.at(0));
-            assert_lent_memory(text, format, memory, spare, prefill, refusal);
-        }
+    for memory in [0, form.len()] {
+        let refusal = Err(Reason::UnknownFormat.at(0));
+        assert_lent_memory(text, 3, memory, spare, prefill, refusal);
     }
 }
 
@@ -210,7 +166,6 @@ fn assert_lift_text(
 pub fn assert_library(
     text: &[u8],
     format: Format,
-    prefix: Prefix,
     len: usize,
     prefill: Prefill,
     lifted: &Result<Lifted, Refusal>,
@@ -221,8 +176,7 @@ pub fn assert_library(
         Err(refusal) => Err(*refusal),
     };
     let lift = LIBRARY_LIFT_TEXT;
-    let number = format.number_with(prefix);
-    assert_lift_text(lift, text, number, len, prefill, expected);
+    assert_lift_text(lift, text, format.number(), len, prefill, expected);
 }
 
 /// Holds the library to a refusal, whatever the format's number.
@@ -232,13 +186,8 @@ pub fn assert_refused(text: &[u8], format: u32, len: usize, prefill: Prefill, re
 
 /// Holds the library to what the reference lifts, into buffers that are exact,
 /// longer by `spare` and, for an accepted text, too short.
-pub fn assert_same_lifting(
-    text: &[u8],
-    prefix: Prefix,
-    prefill: Prefill,
-    spare: usize,
-) -> Result<Lifted, Refusal> {
-    let lifted = reference_lift_text(text, prefix);
+pub fn assert_same_lifting(text: &[u8], prefill: Prefill, spare: usize) -> Result<Lifted, Refusal> {
+    let lifted = reference_lift_text(text);
     let before = text.to_vec();
     for format in Format::ALL {
         let exact = lifted.as_ref().map_or(0, |l| l.text(format).len());
@@ -247,53 +196,28 @@ pub fn assert_same_lifting(
             lengths.extend([exact - 1, exact - 1 - spare % exact]);
         }
         for len in lengths {
-            assert_library(text, format, prefix, len, prefill, &lifted);
+            assert_library(text, format, len, prefill, &lifted);
         }
     }
-    let measured = measure_text_words(reference_measure_text(text));
+    let measured = measure_text_words(sizes_of(&lifted));
     assert_eq!(library_measure_text(text), measured, "measure_text");
     assert!(*text == before, "the text has changed");
     lifted
 }
 
-/// What a text is lifted to with the prefix lifted. With the prefix kept it is
-/// refused alike.
-pub fn both_ways(one: impl Fn(Prefix) -> Result<Lifted, Refusal>) -> Result<Lifted, Refusal> {
-    let [lifted, kept] = Prefix::ALL.map(one);
-    assert_eq!(kept.err(), lifted.as_ref().err().copied());
-    lifted
-}
-
-/// Holds the library to what the reference lifts, both ways.
-pub fn assert_same_both_ways(
-    text: &[u8],
-    prefill: Prefill,
-    spare: usize,
-) -> Result<Lifted, Refusal> {
-    both_ways(|prefix| assert_same_lifting(text, prefix, prefill, spare))
-}
-
 /// Holds the wrapper, and the library's calls step by step, to what the reference
 /// lifts.
-pub fn assert_other_ways(
-    text: &[u8],
-    prefix: Prefix,
-    prefill: Prefill,
-    lifted: &Result<Lifted, Refusal>,
-) {
-    assert_eq!(lift_text_by_steps(text, prefix), *lifted);
-    assert_eq!(measure_text(text), reference_measure_text(text));
+pub fn assert_other_ways(text: &[u8], prefill: Prefill, lifted: &Result<Lifted, Refusal>) {
+    assert_eq!(lift_text_by_steps(text), *lifted);
+    assert_eq!(measure_text(text), sizes_of(lifted));
     for format in Format::ALL {
-        let wrapped = match prefix {
-            Prefix::Lifted => lift_text(text, format),
-            Prefix::Kept => lift_text_with(text, format, prefix),
-        };
+        let wrapped = lift_text(text, format);
         let expected = lifted.as_ref().map(|l| LiftedText {
             text: l.text(format).to_vec(),
             sizes: l.sizes,
         });
         assert_eq!(wrapped, expected.map_err(|r| *r));
-        let number = format.number_with(prefix);
+        let number = format.number();
         let lift = WRAPPED_LIFT_TEXT;
         match lifted {
             Ok(l) => {

@@ -20,7 +20,7 @@ returns : tie.Need-returns
 returns c =
     let l = c.before.before.before in
     let s = l.before.before.before.before.before.before in
-    text_alone s.args.words.now s.args.list.now s.requires s.args.target _ s.args.out.now _ l.lift-table-in.ensures (length-replicate {A = ℕ} 163840 0)
+    text_alone s.args.words.now s.args.list.now s.requires s.args.format _ s.args.out.now _ l.lift-table-in.ensures (length-replicate {A = ℕ} 163840 0)
 
 pub lift-large-spec : {M : Type 1} → statement M
 lift-large-spec = tie.close (tie.spec slice-aggregate-lift-table-in lift-table-in-requires same_length returns)

@@ -19,8 +19,8 @@ returns c =
     let l = c.before.before.before in
     let s = l.before.before.before.before.before.before in
     let e = l.lift-table-in.ensures in (
-      text_unless s.args.words.now s.args.list.now s.requires s.args.target _ s.args.out.now _ e,
-      text_kept s.args.words.now s.args.list.now s.requires s.args.target _ s.args.out.now _ e,
+      text_unless s.args.words.now s.args.list.now s.requires s.args.format _ s.args.out.now _ e,
+      text_kept s.args.words.now s.args.list.now s.requires s.args.format _ s.args.out.now _ e,
     )
 
 pub lift-small-spec : {M : Type 1} → statement M

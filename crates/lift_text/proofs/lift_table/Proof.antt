@@ -37,7 +37,7 @@ returns-3 c =
     let f = c.before.before.before.before in
     let l = f.before.before.before.before.before in
     let s = l.before.before.before.before.before.before in
-    c.before.before.lift-large2.ensures ∙ ap (λ (out : List ℕ). written_as s.args.target out s.args.words.now s.args.list.now) (l.lift-small.ensures.1 f.if2.false)
+    c.before.before.lift-large2.ensures ∙ ap (λ (out : List ℕ). written_as s.args.format out s.args.words.now s.args.list.now) (l.lift-small.ensures.1 f.if2.false)
 
 pub lift-table-spec : {M : Type 1} → statement M
 lift-table-spec =

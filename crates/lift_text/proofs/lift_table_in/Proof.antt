@@ -5,16 +5,16 @@ use Prim.Native.Nat.{ℕ}
 use lib.ListN.{length-replicate}
 use lib.Seq.{length-take-le}
 use borrow.Author.Rules.{rules}
-use Rattle.lift_text.proofs.Form.{Lifts, lifts, is_short}
+use Rattle.lift_text.proofs.Form.{Lifts, Short, lifts, is_short}
 use Rattle.lift_text.proofs.Calls.{short_memory, text_call}
 use Rattle.lift_text.proofs.lift_table_in.Statement.{statement}
 use Rattle.lift_text.proofs.lift_table_in.Tie as tie
 
 -- the function's entry, the lift, and where its sizes are known
-abbrev entry : tie.After-lift-as → tie.Start
+abbrev entry : tie.After-lift-accepted → tie.Start
 entry c = c.before.before.before.before.before.before.before.before
 
-abbrev lift-of : tie.After-struct-known → tie.After-lift-as
+abbrev lift-of : tie.After-struct-known → tie.After-lift-accepted
 lift-of c = c.before.before.before.before.before.before
 
 abbrev sized : tie.After-write → tie.After-struct-known4
@@ -24,20 +24,20 @@ sized c = c.before.before.before.before.before
 form : (c : tie.After-struct-known4)
     → let l = lift-of c.before.before.before.before.before in
     let s = entry l in
-    Lifts s.args.words.now s.args.list.now s.pre s.args.target.prefix l.lift-as.result s.args.nodes.now l.lift-as.last.1.1.1.0 l.lift-as.last.1.1.1.1.0 l.lift-as.last.1.1.1.1.1.0
+    Lifts s.args.words.now s.args.list.now s.pre l.lift-accepted.result s.args.nodes.now l.lift-accepted.last.1.1.0 l.lift-accepted.last.1.1.1.0 l.lift-accepted.last.1.1.1.1.0
 form c =
     let l = lift-of c.before.before.before.before.before in
     let s = entry l in
-    lifts s.args.words.now s.args.list.now s.pre s.args.target.prefix s.args.nodes.now _ _ (length-replicate {A = ℕ} 12291 0) (length-replicate {A = ℕ} 12288 0) _ _ _ _ l.lift-as.ensures c.before.before.before.before.if1.false
+    lifts s.args.words.now s.args.list.now s.pre s.args.nodes.now _ _ (length-replicate {A = ℕ} 12291 0) (length-replicate {A = ℕ} 12288 0) _ _ _ _ l.lift-accepted.ensures c.before.before.before.before.if1.false
 
-slice-aggregate-lift-as : tie.Need-slice-aggregate-lift-as
-slice-aggregate-lift-as c = search rules
+slice-aggregate-lift-accepted : tie.Need-slice-aggregate-lift-accepted
+slice-aggregate-lift-accepted c = search rules
 
-slice-aggregate-lift-as-2 : tie.Need-slice-aggregate-lift-as-2
-slice-aggregate-lift-as-2 c = search rules
+slice-aggregate-lift-accepted-2 : tie.Need-slice-aggregate-lift-accepted-2
+slice-aggregate-lift-accepted-2 c = search rules
 
-lift-as-requires : tie.Need-lift-as-requires
-lift-as-requires c κs = search rules
+lift-accepted-requires : tie.Need-lift-accepted-requires
+lift-accepted-requires c κs = search rules
 
 refusal-requires : tie.Need-refusal-requires
 refusal-requires c κs = search rules
@@ -52,8 +52,8 @@ returns : tie.Need-returns
 returns c =
     let l = lift-of c.before.before.before in
     let s = entry l in
-    short_memory s.args.words.now s.args.list.now s.pre s.args.target s.args.nodes.now _ s.args.out.now
-    (is_short s.args.words.now s.args.list.now s.pre s.args.target.prefix s.args.nodes.now _ _ (length-replicate {A = ℕ} 12291 0) (length-replicate {A = ℕ} 12288 0) _ _ _ _ l.lift-as.ensures c.before.before.if1.true)
+    short_memory s.args.words.now s.args.list.now s.pre s.args.format s.args.nodes.now _ s.args.out.now
+    (is_short s.args.words.now s.args.list.now s.pre s.args.nodes.now _ _ (length-replicate {A = ℕ} 12291 0) (length-replicate {A = ℕ} 12288 0) _ _ _ _ l.lift-accepted.ensures c.before.before.if1.true)
     _ _ c.before.refusal.ensures c.refused.ensures
 
 cast-n : tie.Need-overflow-cast-n
@@ -96,7 +96,7 @@ of-writing-requires : tie.Need-of-writing-requires
 of-writing-requires c κs = search rules
 
 same-length-2 : tie.Need-same-length-2
-same-length-2 c = (lift-of (sized c.before.before.before).before.before.before.before.before).lift-as.auto.1.1.1.0
+same-length-2 c = (lift-of (sized c.before.before.before).before.before.before.before.before).lift-accepted.auto.1.1.0
 
 same-length-3 : tie.Need-same-length-3
 same-length-3 c = search rules
@@ -106,15 +106,15 @@ returns-2 c =
     let w = c.before.before.before in
     let l = lift-of (sized w).before.before.before.before.before in
     let s = entry l in
-    text_call s.args.words.now s.args.list.now s.pre s.args.target s.args.nodes.now _ s.args.out.now _ _ _ _ (form (sized w)) _ w.write.ensures _ c.of-writing.ensures
+    text_call s.args.words.now s.args.list.now s.pre s.args.format s.args.nodes.now _ s.args.out.now _ _ _ _ (form (sized w)) _ w.write.ensures _ c.of-writing.ensures
 
 pub lift-table-in-spec : {M : Type 1} → statement M
 lift-table-in-spec =
     tie.close
     (tie.spec
-    slice-aggregate-lift-as
-    slice-aggregate-lift-as-2
-    lift-as-requires
+    slice-aggregate-lift-accepted
+    slice-aggregate-lift-accepted-2
+    lift-accepted-requires
     refusal-requires
     refused-requires
     same_length

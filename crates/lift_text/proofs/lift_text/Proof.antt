@@ -36,7 +36,7 @@ returns : tie.Need-returns
 returns c =
     let d = read_of c.before.before in
     let s = entry d in
-    refused_lift s.args.target s.args.text.now s.args.out.now _ _ (length-replicate {A = ℕ} 16384 0) (length-replicate {A = ℕ} 4096 0) _ d.read.ensures.0 c.before.if1.true _ c.refused.ensures
+    refused_lift s.args.format s.args.text.now s.args.out.now _ _ (length-replicate {A = ℕ} 16384 0) (length-replicate {A = ℕ} 4096 0) _ d.read.ensures.0 c.before.if1.true _ c.refused.ensures
 
 cast-n : tie.Need-overflow-cast-n
 cast-n c = search rules
@@ -48,7 +48,7 @@ array-share-prefix-words : tie.Need-array-share-prefix-words
 array-share-prefix-words c =
     let d = read_of c.before.before.before in
     let s = entry d in
-    (read_done _ _ (length-replicate {A = ℕ} 16384 0) (length-replicate {A = ℕ} 4096 0) s.args.text.now no_text_sizes s.args.out.now (written_as s.args.target s.args.out.now) _ d.read.ensures.0 c.before.before.if1.false).words_in
+    (read_done _ _ (length-replicate {A = ℕ} 16384 0) (length-replicate {A = ℕ} 4096 0) s.args.text.now no_text_sizes s.args.out.now (written_as s.args.format s.args.out.now) _ d.read.ensures.0 c.before.before.if1.false).words_in
 
 slice-aggregate-lift-table : tie.Need-slice-aggregate-lift-table
 slice-aggregate-lift-table c = sym (length-take-le _ _ (array-share-prefix-words c.before))
@@ -57,7 +57,7 @@ array-share-prefix-list : tie.Need-array-share-prefix-list
 array-share-prefix-list c =
     let d = read_of c.before.before.before.before in
     let s = entry d in
-    (read_done _ _ (length-replicate {A = ℕ} 16384 0) (length-replicate {A = ℕ} 4096 0) s.args.text.now no_text_sizes s.args.out.now (written_as s.args.target s.args.out.now) _ d.read.ensures.0 c.before.before.before.if1.false).list_in
+    (read_done _ _ (length-replicate {A = ℕ} 16384 0) (length-replicate {A = ℕ} 4096 0) s.args.text.now no_text_sizes s.args.out.now (written_as s.args.format s.args.out.now) _ d.read.ensures.0 c.before.before.before.if1.false).list_in
 
 slice-aggregate-lift-table-2 : tie.Need-slice-aggregate-lift-table-2
 slice-aggregate-lift-table-2 c = sym (length-take-le _ _ (array-share-prefix-list c.before))
@@ -76,7 +76,7 @@ returns-2 c =
     let n = c.before.before.before.before.before.before.before.before in
     let d = read_of n.before in
     let s = entry d in
-    done_lift s.args.target s.args.text.now s.args.out.now _ _ (length-replicate {A = ℕ} 16384 0) (length-replicate {A = ℕ} 4096 0) _ d.read.ensures.0 n.if1.false _
+    done_lift s.args.format s.args.text.now s.args.out.now _ _ (length-replicate {A = ℕ} 16384 0) (length-replicate {A = ℕ} 4096 0) _ d.read.ensures.0 n.if1.false _
     c.before.before.lift-table.ensures
 
 pub lift-text-spec : {M : Type 1} → statement M

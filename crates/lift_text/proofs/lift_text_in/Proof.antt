@@ -36,7 +36,7 @@ returns : tie.Need-returns
 returns c =
     let d = read_of c.before.before in
     let s = entry d in
-    refused_call s.args.target s.args.text.now (lent s.args.nodes.now s.args.out.now) _ _ (length-replicate {A = ℕ} 16384 0) (length-replicate {A = ℕ} 4096 0) _ d.read.ensures.0 c.before.if1.true _ c.refused.ensures
+    refused_call s.args.format s.args.text.now (lent s.args.nodes.now s.args.out.now) _ _ (length-replicate {A = ℕ} 16384 0) (length-replicate {A = ℕ} 4096 0) _ d.read.ensures.0 c.before.if1.true _ c.refused.ensures
 
 cast-n : tie.Need-overflow-cast-n
 cast-n c = search rules
@@ -49,7 +49,7 @@ array-share-prefix-words c =
     let d = read_of c.before.before.before in
     let s = entry d in
     let before = lent s.args.nodes.now s.args.out.now in
-    (read_done _ _ (length-replicate {A = ℕ} 16384 0) (length-replicate {A = ℕ} 4096 0) s.args.text.now no_text_sizes before (written_in s.args.target before) _ d.read.ensures.0 c.before.before.if1.false).words_in
+    (read_done _ _ (length-replicate {A = ℕ} 16384 0) (length-replicate {A = ℕ} 4096 0) s.args.text.now no_text_sizes before (written_in s.args.format before) _ d.read.ensures.0 c.before.before.if1.false).words_in
 
 slice-aggregate-lift-table-in : tie.Need-slice-aggregate-lift-table-in
 slice-aggregate-lift-table-in c = sym (length-take-le _ _ (array-share-prefix-words c.before))
@@ -59,7 +59,7 @@ array-share-prefix-list c =
     let d = read_of c.before.before.before.before in
     let s = entry d in
     let before = lent s.args.nodes.now s.args.out.now in
-    (read_done _ _ (length-replicate {A = ℕ} 16384 0) (length-replicate {A = ℕ} 4096 0) s.args.text.now no_text_sizes before (written_in s.args.target before) _ d.read.ensures.0 c.before.before.before.if1.false).list_in
+    (read_done _ _ (length-replicate {A = ℕ} 16384 0) (length-replicate {A = ℕ} 4096 0) s.args.text.now no_text_sizes before (written_in s.args.format before) _ d.read.ensures.0 c.before.before.before.if1.false).list_in
 
 slice-aggregate-lift-table-in-2 : tie.Need-slice-aggregate-lift-table-in-2
 slice-aggregate-lift-table-in-2 c = sym (length-take-le _ _ (array-share-prefix-list c.before))
@@ -81,7 +81,7 @@ returns-2 c =
     let n = c.before.before.before.before.before.before.before.before.before.before.before in
     let d = read_of n.before in
     let s = entry d in
-    done_call s.args.target s.args.text.now (lent s.args.nodes.now s.args.out.now) _ _ (length-replicate {A = ℕ} 16384 0) (length-replicate {A = ℕ} 4096 0) _ d.read.ensures.0 n.if1.false _
+    done_call s.args.format s.args.text.now (lent s.args.nodes.now s.args.out.now) _ _ (length-replicate {A = ℕ} 16384 0) (length-replicate {A = ℕ} 4096 0) _ d.read.ensures.0 n.if1.false _
     c.before.before.before.before.lift-table-in.ensures
 
 pub lift-text_in-spec : {M : Type 1} → statement M

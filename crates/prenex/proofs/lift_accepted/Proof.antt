@@ -6,7 +6,7 @@ use Rattle.prenex_form.specs.declared.Sizes.{Sizes}
 use Rattle.arrays.specs.Held.{Placed}
 use Rattle.formula.specs.Words.{table_of}
 use Rattle.prenex.specs.Arrays.{Room}
-use Rattle.prenex.specs.Outcome.{buffers, written_form}
+use Rattle.prenex.specs.Outcome.{buffers}
 use Rattle.prenex.proofs.Answers.{short-nodes, short-prefix, short-variables, lifted-short, lifted-done}
 use native.Mathlib.Omega.{arith}
 use borrow.Author.Rules.{rules}
@@ -39,7 +39,7 @@ returns c =
     let s = c.before.before.before.before.before.before.before.before.before.before.before.before.before.before in
     let m = sizes-written (table_of s.args.words.now s.args.list.now) in
     let e = ap (λ (z : Sizes). z.nodes) c.before.before.before.sizes-of.ensures in
-    lifted-short s.args.words.now s.args.list.now s.requires (buffers s.args.nodes.now s.args.prefix.now s.args.variables.now) (short-nodes (written_form (table_of s.args.words.now s.args.list.now)) (buffers s.args.nodes.now s.args.prefix.now s.args.variables.now) (omega (arith, m.nodes_measured, e, c.before.if1.true))) _ c.short.ensures
+    lifted-short s.args.words.now s.args.list.now s.requires (buffers s.args.nodes.now s.args.prefix.now s.args.variables.now) (short-nodes (table_of s.args.words.now s.args.list.now) (buffers s.args.nodes.now s.args.prefix.now s.args.variables.now) (omega (arith, m.nodes_measured, e, c.before.if1.true))) _ c.short.ensures
 
 cast-if2 : tie.Need-overflow-cast-if2
 cast-if2 c = search rules
@@ -55,7 +55,7 @@ returns-2 c =
     let s = c.before.before.before.before.before.before.before.before.before.before.before.before.before.before.before.before in
     let m = sizes-written (table_of s.args.words.now s.args.list.now) in
     let e = ap (λ (z : Sizes). z.blocks) c.before.before.before.before.before.sizes-of.ensures in
-    lifted-short s.args.words.now s.args.list.now s.requires (buffers s.args.nodes.now s.args.prefix.now s.args.variables.now) (short-prefix (written_form (table_of s.args.words.now s.args.list.now)) (buffers s.args.nodes.now s.args.prefix.now s.args.variables.now) (omega (arith, m.blocks_measured, e, c.before.if2.true))) _ c.short2.ensures
+    lifted-short s.args.words.now s.args.list.now s.requires (buffers s.args.nodes.now s.args.prefix.now s.args.variables.now) (short-prefix (table_of s.args.words.now s.args.list.now) (buffers s.args.nodes.now s.args.prefix.now s.args.variables.now) (omega (arith, m.blocks_measured, e, c.before.if2.true))) _ c.short2.ensures
 
 cast-if3 : tie.Need-overflow-cast-if3
 cast-if3 c = search rules
@@ -68,7 +68,7 @@ returns-3 c =
     let s = c.before.before.before.before.before.before.before.before.before.before.before.before.before.before.before.before.before.before in
     let m = sizes-written (table_of s.args.words.now s.args.list.now) in
     let e = ap (λ (z : Sizes). z.entries) c.before.before.before.before.before.before.before.sizes-of.ensures in
-    lifted-short s.args.words.now s.args.list.now s.requires (buffers s.args.nodes.now s.args.prefix.now s.args.variables.now) (short-variables (written_form (table_of s.args.words.now s.args.list.now)) (buffers s.args.nodes.now s.args.prefix.now s.args.variables.now) (omega (arith, m.entries-measured, e, c.before.if3.true))) _ c.short3.ensures
+    lifted-short s.args.words.now s.args.list.now s.requires (buffers s.args.nodes.now s.args.prefix.now s.args.variables.now) (short-variables (table_of s.args.words.now s.args.list.now) (buffers s.args.nodes.now s.args.prefix.now s.args.variables.now) (omega (arith, m.entries-measured, e, c.before.if3.true))) _ c.short3.ensures
 
 slice-aggregate-write-form : tie.Need-slice-aggregate-write-form
 slice-aggregate-write-form c = search rules

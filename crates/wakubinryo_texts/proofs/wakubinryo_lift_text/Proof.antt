@@ -3,12 +3,12 @@
 use borrow.Author.Rules.{rules}
 use Rattle.lift_text.specs.Lifting.{LiftsText}
 use Rattle.lift_text.proofs.Plain.{lifting_plain}
-use Rattle.wakubinryo_texts.proofs.Answers.{unknown-plain, asked-for, asked-none}
+use Rattle.wakubinryo_texts.proofs.Answers.{unknown-plain, in-format, in-none}
 use Rattle.wakubinryo_texts.proofs.wakubinryo_lift_text.Statement.{statement}
 use Rattle.wakubinryo_texts.proofs.wakubinryo_lift_text.Tie as tie
 
-target-of-requires : tie.Need-target-of-requires
-target-of-requires c κs = search rules
+format-of-requires : tie.Need-format-of-requires
+format-of-requires c κs = search rules
 
 enum-known-asked : tie.Need-enum-known-asked
 enum-known-asked c = search rules
@@ -37,7 +37,7 @@ returns c =
     let k = l.before.before.before in
     let f = k.before.before.before in
     let s = f.before.before.before in
-    asked-for s.args.format _ f.target-of.ensures _ l.lift-text.result _ c.put-lift.ensures _ k.before.asked.given.1
+    in-format s.args.format _ f.format-of.ensures _ l.lift-text.result _ c.put-lift.ensures _ k.before.asked.given.1
     (λ f o. LiftsText f s.args.text.now s.args.out.now o) _ l.lift-text.ensures
 
 returns-2 : tie.Need-returns-2
@@ -46,13 +46,13 @@ returns-2 c =
     let k = u.before.before in
     let f = k.before.before in
     let s = f.before.before.before in
-    asked-none s.args.format _ f.target-of.ensures s.args.out.now u.unknown-format.result _ c.put-lift2.ensures k.enum_told.given.1 _ u.unknown-format.ensures
+    in-none s.args.format _ f.format-of.ensures s.args.out.now u.unknown-format.result _ c.put-lift2.ensures k.enum_told.given.1 _ u.unknown-format.ensures
 
 pub wakubinryo-lift-text-spec : {M : Type 1} → statement M
 wakubinryo-lift-text-spec =
     tie.close
     (tie.spec
-    target-of-requires
+    format-of-requires
     enum-known-asked
     lift-text-requires
     put-lift-requires

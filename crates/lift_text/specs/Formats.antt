@@ -1,17 +1,16 @@
--- What is written of a text's table, by what is asked for, and what is owed of it.
+-- What is written of a text's table in each of the two formats, and what is owed of it.
 -- Assumes nothing.
 use Rattle.std.specs.Prelude.{List, ℕ}
 use Rattle.form_writer.specs.declared.Format.{Format}
 use Rattle.form_writer.specs.declared.Format.TheVariants.{Qcir, Qdimacs}
-use Rattle.form_writer.specs.Formats.{text_as, room_as}
-use Rattle.file_to_file.specs.FileToFile.{SameTruth}
-use Rattle.file_to_file.specs.FileToClauses.{SameAnswer}
-use Rattle.lift_kept.specs.Outcome.{form_as}
-use Rattle.text_answers.specs.declared.Target.{Target}
+use Rattle.form_writer.specs.Formats.{room_as}
+use Rattle.file_to_file.specs.FileToFile.{lifted_text, SameTruth}
+use Rattle.file_to_file.specs.FileToClauses.{lifted_clauses, SameAnswer}
 
--- The text of the form of a table, in which its leading blocks are lifted or kept.
-unfoldable pub lifted_as : Target → List ℕ → List ℕ → List ℕ
-lifted_as target ws ls = let form = form_as target.prefix ws ls in text_as target.format form.nodes form.prefix form.variables
+-- The text of the prenex form of a table.
+unfoldable pub lifted_as : Format → List ℕ → List ℕ → List ℕ
+lifted_as Qcir = lifted_text
+lifted_as Qdimacs = lifted_clauses
 
 -- What is owed of it beside the text that was read: the same truth value under every valuation, or the same answer.
 unfoldable pub Owed : Format → List ℕ → List ℕ → Type 0

@@ -1,3 +1,0 @@
-pub mod Leading
-pub mod Kept
-pub mod Promise

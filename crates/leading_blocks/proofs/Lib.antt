@@ -1,4 +1,0 @@
-pub mod Flags
-pub mod Joined
-pub mod Fronts
-pub mod Taking

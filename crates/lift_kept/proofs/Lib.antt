@@ -1,4 +1,0 @@
-pub mod Form
-pub mod Put
-pub mod Calls
-pub mod Ways
