@@ -18,7 +18,7 @@ use Rattle.formula.specs.Words.{width, node_count, field, is_block_kind, is_empt
 use Rattle.formula.specs.declared.NodeWords.{NodeWords}
 use Rattle.formula.specs.Tree.{times_named, count, bound_below}
 use Rattle.formula.proofs.Nodes.{Kind, kind_of_lem, kind_constant, kind_variable, kind_negation, kind_operator, kind_exists, kind_for_all, kind_none, is_block_lem}
-use Rattle.refusals.specs.Verdict.{refusal, not_aTree, accepted}
+use Rattle.refusals.specs.Verdict.{refusal, not_a_tree, accepted}
 use Rattle.refusals.specs.declared.Verdict.{Verdict}
 use Rattle.acceptance.specs.Limits.{TableLimits, table_limits}
 use Rattle.acceptance.specs.Verdict.{is_number_to, partial_node, too_large, well_formed, forward_reference, range_past_end, empty_block, count_at, too_many_variables, bad_variable, node_fault, not_named_once, tree_refusal, verdict_within, verdict}
@@ -137,7 +137,7 @@ record Fine (lim : TableLimits) (ws ls : List ℕ) : Type 0 where
 module _ (lim : TableLimits) (ws ls : List ℕ) where
   -- the number 0 is an accepted table's alone
   zero_fine : (v : Verdict) → FirstThatApplies lim ws ls v → v.number ≡ 0 → Fine lim ws ls × (v ≡ accepted)
-  unfolding refusal tree_refusal not_aTree
+  unfolding refusal tree_refusal not_a_tree
   zero_fine _ (partial p) z = absurd (omega arith)
   zero_fine _ (large p l) z = absurd (omega arith)
   zero_fine _ (fault w i h f before) z = absurd (f z)

@@ -11,7 +11,7 @@ use Rattle.lists.specs.Choice.{pick_yes, pick_no, Is, is_true, is_false, look}
 use Rattle.lists.specs.Search.{lowest}
 use Rattle.lists.proofs.Search.{lowest_holds, lowest_before}
 use Rattle.formula.specs.Words.{node_count}
-use Rattle.refusals.specs.Verdict.{no_users, refusal, not_aTree, accepted}
+use Rattle.refusals.specs.Verdict.{no_users, refusal, not_a_tree, accepted}
 use Rattle.refusals.specs.declared.Verdict.{Verdict}
 use Rattle.acceptance.specs.Limits.{TableLimits}
 use Rattle.acceptance.specs.Verdict.{partial_node, too_large, node_fault, not_named_once, tree_refusal, verdict_within}
@@ -78,7 +78,7 @@ module _ (lim : TableLimits) (ws ls : List ℕ) where
 
 -- The users that a verdict carries, by its case.
 users_by : (lim : TableLimits) (ws ls : List ℕ) (v : Verdict) → FirstThatApplies lim ws ls v → (v.number ≡ 8 → ⊥) → v.users ≡ no_users
-unfolding refusal accepted tree_refusal not_aTree
+unfolding refusal accepted tree_refusal not_a_tree
 users_by lim ws ls _ (partial p) n = refl
 users_by lim ws ls _ (large p l) n = refl
 users_by lim ws ls _ (fault w i h f b) n = refl

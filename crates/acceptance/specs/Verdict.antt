@@ -8,7 +8,7 @@ use Rattle.lists.specs.Parts.{sum}
 use Rattle.formula.specs.Words.{width, node_count, is_block_kind, is_empty_block, range, words_at, table_of}
 use Rattle.formula.specs.Tree.{users, times_named}
 use Rattle.formula.specs.declared.NodeWords.{NodeWords}
-use Rattle.refusals.specs.Verdict.{first_two, refusal, not_aTree, accepted}
+use Rattle.refusals.specs.Verdict.{first_two, refusal, not_a_tree, accepted}
 use Rattle.refusals.specs.declared.Verdict.{Verdict}
 use Rattle.acceptance.specs.Limits.{TableLimits, table_limits, stored_limits}
 
@@ -87,7 +87,7 @@ not_named_once ws ls i = not (eqb (times_named (table_of ws ls) i) 1)
 -- Request S-2: "The tree test now also gives the two lowest nodes that name it, 0 and 0 if none does; a parent naming it twice stands
 -- twice."
 unfoldable pub tree_refusal : List ℕ → List ℕ → ℕ → Verdict
-tree_refusal ws ls i = not_aTree i (first_two (users (table_of ws ls) i))
+tree_refusal ws ls i = not_a_tree i (first_two (users (table_of ws ls) i))
 
 -- "Order: 1, 2; then nodes upward, each tested for 3 to 7 in that order" (and for 16); "then 8. .. The first that applies is the
 -- answer, and no other condition is ever a refusal."

@@ -368,7 +368,7 @@ module _ (t u : Table) (tree : Tree t) (tree' : Tree u) (filled : NoEmptyBlocks 
       let a = n i (mem_head i is) in
       let b = n' i' (mem_head i' is') in
       let f = first i i' s _ _ a.0 a.1 b.0 b.1 e in
-      let next : s + length (constraint u i' s) + 1 ≡ s + length (constraint t i s) + 1 = omega (arith, f.length-same) in
+      let next : s + length (constraint u i' s) + 1 ≡ s + length (constraint t i s) + 1 = omega (arith, f.length_same) in
       here i i' is is' f.index f.block
       (further_told is is' _ (λ j m. n j (mem_tail j i is m)) (λ j m. n' j (mem_tail j i' is' m))
       (ap (drop 1) f.others ∙ ap (further u is') next))
@@ -382,7 +382,7 @@ module _ (t u : Table) (tree : Tree t) (tree' : Tree u) (filled : NoEmptyBlocks 
       let a = n i (mem_head i is) in
       let b = n' i' (mem_head i' is') in
       let f = first i i' s _ _ a.0 a.1 b.0 b.1 e in
-      let next : s + length (constraint u i' s) ≡ s + length (constraint t i s) = omega (arith, f.length-same) in
+      let next : s + length (constraint u i' s) ≡ s + length (constraint t i s) = omega (arith, f.length_same) in
       here i i' is is' f.index f.block
       (further_told is is' _ (λ j m. n j (mem_tail j i is m)) (λ j m. n' j (mem_tail j i' is' m))
       (f.others ∙ ap (further u is') next))

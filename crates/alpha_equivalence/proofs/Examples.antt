@@ -14,7 +14,7 @@ use Rattle.formula.specs.Words.{field, is_block_kind, is_empty_block, range, nod
 use Rattle.formula.specs.Truth.{digit}
 use Rattle.formula.specs.FreeVariables.{number_at}
 use Rattle.formula.specs.Tree.{users, times_named, count, bound_below}
-use Rattle.refusals.specs.Verdict.{first_two, refusal, not_aTree, accepted}
+use Rattle.refusals.specs.Verdict.{first_two, refusal, not_a_tree, accepted}
 use Rattle.refusals.specs.declared.Verdict.{Verdict}
 use Rattle.acceptance.specs.Verdict.{is_number_to, partial_node, too_large, well_formed, forward_reference, range_past_end, empty_block, count_at, too_many_variables, bad_variable, node_fault, not_named_once, tree_refusal, verdict_within, verdict}
 use Rattle.prenex_form.specs.Scope.{parent, path_up, path, above, binder, inner, how_many, level}
@@ -46,7 +46,7 @@ by_node t u size same =
 -- the verdicts on the four tables, in one computation
 verdicts : verdict (itself_words 1) (1 ∷ []) ∷ verdict (itself_words 2) (2 ∷ []) ∷ verdict (both_words 1 1) (1 ∷ 2 ∷ []) ∷ verdict (both_words 2 0) (2 ∷ []) ∷ []
     ≡ replicate 4 accepted
-unfolding accepted refusal not_aTree first_two tree_refusal users verdict_within partial_node too_large node_fault well_formed forward_reference range_past_end empty_block too_many_variables count_at bad_variable not_named_once is_number_to is_block_kind is_empty_block field range node_of node_at table_of times_named operands is_block bound lowest pick sum all distinct mem times up_to
+unfolding accepted refusal not_a_tree first_two tree_refusal users verdict_within partial_node too_large node_fault well_formed forward_reference range_past_end empty_block too_many_variables count_at bad_variable not_named_once is_number_to is_block_kind is_empty_block field range node_of node_at table_of times_named operands is_block bound lowest pick sum all distinct mem times up_to
 verdicts = refl
 
 one_two : (i : ℕ) → i < 2 → SameNode (itself 1) (itself 2) i

@@ -72,7 +72,7 @@ of_one_size : (n : ℕ) (f g : ℕ → Node) → ((i : ℕ) → n ≤ i → unna
 of_one_size n f g past s = record { form = form_same n f g same top names; figures = sizes_same n f g same top names }
   where
     top : highest_number (table n f) ≡ highest_number (table n g)
-    top = cc s.same-highest
+    top = cc s.same_highest
 
     same : (i : ℕ) → unnamed (f i) ≡ unnamed (g i)
     same i = go (look (ltb i n))
@@ -112,7 +112,7 @@ pub equal_files : EqualFiles
 equal_files text text' before before' o o' r z r' z' e f g s s' v =
     let a = (was_read text before o r z).table in
     let b = (was_read text' before' o' r' z').table in
-    sym (a.truth-kept f s v) ∙ (equal_forms _ _ _ _ a.accepts b.accepts e).same_truth v ∙ b.truth-kept g s' v
+    sym (a.truth_kept f s v) ∙ (equal_forms _ _ _ _ a.accepts b.accepts e).same_truth v ∙ b.truth_kept g s' v
 
 -- what lifting an accepted table answers
 answered : (ws ls : List ℕ) → verdict ws ls ≡ accepted → (before : FormBuffers)

@@ -97,13 +97,13 @@ module _ {ws ls bindings heads links : List ℕ} {p : Place} (w : Walking ws ls 
 
   module _ {i : ℕ} (at : p.link ≡ suc i) where
     pub link_lt : i < node_count ws
-    link_lt = omega (arith, w.link-le)
+    link_lt = omega (arith, w.link_le)
 
     link_scope : enclosing (table_of ws ls) i ≡ p.scope
-    link_scope = eqb-true _ _ (and_right (is_member ((table_of ws ls).node i)) _ (w.link-member i at))
+    link_scope = eqb-true _ _ (and_right (is_member ((table_of ws ls).node i)) _ (w.link_member i at))
 
     pub link-is_member : is_member ((table_of ws ls).node i) ≡ true
-    link-is_member = and_left (is_member ((table_of ws ls).node i)) _ (w.link-member i at)
+    link-is_member = and_left (is_member ((table_of ws ls).node i)) _ (w.link_member i at)
 
     -- the entries of its scope
     pub link_open : Open (table_of ws ls) (enclosing (table_of ws ls) i) 0 heads links
@@ -172,7 +172,7 @@ module _ {ws ls parents firsts nexts starts : List ℕ} (s : Scopes ws ls parent
           let h = link_lt w at in
           let l : q.link ≡ link (member (table_of ws ls) p.scope) (suc i) (table_of ws ls).size =
           b ∙ next_link i h (link-is_member w at) ∙ ap (λ (c : ℕ). link (member (table_of ws ls) c) (suc i) (table_of ws ls).size) (link_scope w at) in
-          let d = todo_pass (table_of ws ls) tree p q i at h (w.link-member i at) (kind_no_block ws ls i k) s (linked ws ls q _ _ s l) in
+          let d = todo_pass (table_of ws ls) tree p q i at h (w.link_member i at) (kind_no_block ws ls i k) s (linked ws ls q _ _ s l) in
           let wide : i < length bindings = omega (arith, nodes_few, w.bindings_length) in (
             at_place ws ls q _ _ s l (length-set bindings i r ∙ w.bindings_length) w.scope_le w.scope_block
                 w.opened
@@ -187,7 +187,7 @@ module _ {ws ls parents firsts nexts starts : List ℕ} (s : Scopes ws ls parent
       enters put e s b n c o =
           let h = link_lt w at in
           let l = b ∙ first_link i (omega arith) in
-          let d = todo_enter (table_of ws ls) tree p q i at h (w.link-member i at) e s (linked ws ls q _ _ s l) in (
+          let d = todo_enter (table_of ws ls) tree p q i at h (w.link_member i at) e s (linked ws ls q _ _ s l) in (
             at_place ws ls q _ _ s l w.bindings_length (omega arith) (λ m. e) o
                 (known_next (table_of ws ls) bindings bindings _ _ i d (λ x v. clash e (variable_no_block _ x v)) (λ j n. refl) w.found),
             steps_next (table_of ws ls) p q i put d c n,

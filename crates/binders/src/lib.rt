@@ -9,6 +9,8 @@
 // The walk counts its steps: one for each node that it comes by, and one for each entry that it puts or
 // takes away. It comes by a variable node once and by a block twice, so the steps are linear in the nodes
 // and bound variables of the table.
+#![tactic(auto)]
+
 ghost use Rattle.std.specs.Prelude.{true, ◌≡◌, suc, ◌+◌, ◌*◌, ◌≤◌, ◌<◌, length, get_or, set};
 ghost use Rattle.formula.specs.Node.{is_block};
 ghost use Rattle.formula.specs.Words.{node_count, node_at, table_of};

@@ -1,6 +1,8 @@
 // Finds the entry that binds each variable node's number (document 01, "Names"), from the parent
 // blocks of the nodes: chains the nodes, and walks the chains. A stage of lifting and of listing free
 // variables.
+#![tactic(auto)]
+
 ghost use Rattle.std.specs.Prelude.{◌≡◌, length};
 ghost use Rattle.formula.specs.Words.{table_of};
 ghost use Rattle.refusals.specs.Verdict.{accepted};

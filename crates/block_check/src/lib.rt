@@ -1,4 +1,6 @@
 // The tests of a block's words, which read no entry of its range, and the name that it counts.
+#![tactic(auto)]
+
 ghost use Rattle.std.specs.Prelude.{true, [], ◌∷◌, ◌≡◌, ℕ, ◌+◌, ◌≤◌, get_or};
 ghost use Rattle.lists.specs.Members.{times};
 ghost use Rattle.acceptance.specs.Limits.{limit};

@@ -1,5 +1,7 @@
 // What is counted of the blocks of an accepted table, block by block from the root down: what gives
 // the sizes of its prenex form.
+#![tactic(auto)]
+
 ghost use Rattle.std.specs.Prelude.{◌≡◌};
 ghost use Rattle.block_counts.specs.Counting.{no_blocks, Small, with_root, with_inner};
 

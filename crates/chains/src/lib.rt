@@ -1,6 +1,8 @@
 // The nodes of an accepted table chained: the variable nodes and blocks by parent block, and the
 // inner blocks by level. The pass that chains by parent block also counts the entries before each
 // block's and finds the table's highest number.
+#![tactic(auto)]
+
 ghost use Rattle.std.specs.Prelude.{true, ◌≡◌, suc, ◌+◌, ◌<◌, ◌≤◌, max, length, get_or, set};
 ghost use Rattle.lists.specs.Members.{maximum};
 ghost use Rattle.formula.specs.Words.{node_count, range, node_at, table_of};

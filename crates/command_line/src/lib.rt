@@ -1,5 +1,7 @@
 // What the programs here share: reading the text that the command line names, and saying on standard
 // error what is wrong.
+#![tactic(auto)]
+
 ghost use Rattle.std.specs.Prelude.{◌+◌, ◌≤◌, ◌≡◌, length, take};
 ghost use Rattle.io.specs.Counts.{IsPrefixLen};
 ghost use Rattle.command_line.specs.Place.{line, column, next_line, next_column};

@@ -64,7 +64,7 @@ module _ (ws ls ls' : List ℕ) (s : SameRanges ws ls ls') where
     ranges i b = go (look (ltb i (node_count ws)))
       where
         go : Is (ltb i (node_count ws)) → range ls (field ws i 1) (field ws i 2) ≡ range ls' (field ws i 1) (field ws i 2)
-        go (is_true h) = cc (s.same-range i (ltb-true i _ h) b)
+        go (is_true h) = cc (s.same_range i (ltb-true i _ h) b)
         go (is_false h) = clash b (rw (kind_past ws ls whole_nodes i (ltb-false i _ h)))
 
     table_same : table_of ws ls ≡ table_of ws ls'
@@ -128,7 +128,7 @@ module _ (ws ls ls' : List ℕ) (s : SameRanges ws ls ls') where
   outcomes =
       record {
         same_verdict = verdict_same;
-        same_nodes = λ i h. node_same ws ls ls' i (λ b. cc (s.same-range i h b));
+        same_nodes = λ i h. node_same ws ls ls' i (λ b. cc (s.same_range i h b));
         same_measured = call_same table_limits (λ t. done (sizes t)) (λ v. refused v no_sizes);
         same_lifted = λ before. call_same table_limits
             (λ t. unless_short (too_short t before) no_sizes before (record { answer = done (sizes t); buffers = written t before }))

@@ -1,2 +1,3 @@
 // List entries that no block covers change no outcome. The statements stand in specs/, their proofs in
 // proofs/; there is no code.
+#![tactic(auto)]

@@ -1,1 +1,2 @@
 // A table without its empty blocks, as a definition (specs/), and what holds of it (proofs/).
+#![tactic(auto)]

@@ -1,4 +1,6 @@
 // The line of figures that a growth report has for a QCIR text (request S-13).
+#![tactic(auto)]
+
 ghost use Rattle.std.specs.Prelude.{◌≡◌};
 ghost use Rattle.prenex.specs.Outcome.{answer_of};
 ghost use Rattle.file_line.specs.FileLine.{FileLine, line_of};

@@ -109,8 +109,8 @@ module _ (t : Table) (ns ps xs : List ℕ) (p : PrenexOf t ns ps xs) where
         whole = p.whole_blocks;
         kinds = λ j h. kind_between _ (p.block_kinds_from j h) (p.block_kinds_to j h);
         fits = ranges_fit;
-        numbered = rw names_all (all_intro _ xs (λ x m. number_to (highest_name t) 77823 x p.names-limit (all_mem _ xs x p.prefix_names_lem m)));
-        apart = rw names_all p.bound-once;
+        numbered = rw names_all (all_intro _ xs (λ x m. number_to (highest_name t) 77823 x p.names_limit (all_mem _ xs x p.prefix_names_lem m)));
+        apart = rw names_all p.bound_once;
       }
 
 pub lift_passes : LiftPasses

@@ -51,7 +51,7 @@ module _ (text ws ls : List ℕ) (r : Read text ws ls) where
 
   -- A lift has the truth value of the file, under every valuation.
   lifted_truth : (v : Valuation) → form_truth nodes prefix variables v ≡ file_truth r.file v
-  lifted_truth v = (prenex ws ls r.table.accepts).same_truth v ∙ r.table.truth-kept r.file r.spells v
+  lifted_truth v = (prenex ws ls r.table.accepts).same_truth v ∙ r.table.truth_kept r.file r.spells v
 
   pub from_table : SameTruth text (lifted_text ws ls)
   unfolding lifted_text

@@ -61,7 +61,7 @@ module _ {ws ls bindings : List ℕ} {names : ℕ} (b : Given ws ls bindings nam
 
   entry_is : get_or bindings i 0 ≡ bound_entry t i x
   unfolding table_of
-  entry_is = b.entries-bound.bindings_hold.binding_is i x inside holds
+  entry_is = b.entries_bound.bindings_hold.binding_is i x inside holds
 
   pub keeps_number : get_or bindings i 0 ≡ 0 → x ≡ new_name t i x
   keeps_number z = sym (name_free t proper i x (sym entry_is ∙ z))
@@ -76,10 +76,10 @@ module _ {ws ls bindings : List ℕ} {names : ℕ} (b : Given ws ls bindings nam
     pub name_small : names + (get_or bindings i 0 - 1) < 4294967296
     name_small =
         let a = accepted_holds ws ls b.accepts in
-        omega (arith, bound_limit ws ls a, highest_limit ws ls a, name_within, b.names-first)
+        omega (arith, bound_limit ws ls a, highest_limit ws ls a, name_within, b.names_first)
 
     pub takes_name : names + (get_or bindings i 0 - 1) ≡ new_name t i x
-    takes_name = omega (arith, b.names-first, name_bound t proper i x _ bound_is)
+    takes_name = omega (arith, b.names_first, name_bound t proper i x _ bound_is)
 
 -- The nodes that are kept: all but a root that is a block.
 module _ (t : Table) (i : ℕ) (h : i < kept t) where

@@ -1,5 +1,7 @@
 // Writes the first nodes of a prenex form (document 01, "The written form"): those of the table, with
 // variables renamed and each inner block replaced by its definition variable, which it hands out.
+#![tactic(auto)]
+
 ghost use mathlib.Core.List.{flat_map};
 ghost use Rattle.std.specs.Prelude.{◌≡◌, suc, ◌+◌, ◌*◌, ◌≤◌, ◌<◌, length};
 ghost use Rattle.lists.specs.Parts.{overwrite};

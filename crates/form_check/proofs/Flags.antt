@@ -150,7 +150,7 @@ module _ (xs before : List ℕ) (first end : ℕ) (bound : List ℕ) (highest k 
         so_far = get_or xs k 0 ∷ p.so_far;
         flagged = f;
         same_new = p.same_new ∙ ap (new_names p.so_far) (range_next xs k end l h) ∙ ap (λ t. t && new_names (get_or xs k 0 ∷ p.so_far) (range xs (k + 1) (end - (k + 1)))) n;
-        same_pushed = p.same-pushed ∙ ap (pushed p.so_far) (range_next xs k end l h);
+        same_pushed = p.same_pushed ∙ ap (pushed p.so_far) (range_next xs k end l h);
       }
 
   pub reached_new : end ≤ k → true ≡ new_names before (range xs first (end - first))
@@ -159,7 +159,7 @@ module _ (xs before : List ℕ) (first end : ℕ) (bound : List ℕ) (highest k 
 
   pub reached_flagged : end ≤ k → NamesFlagged (pushed before (range xs first (end - first))) bound highest
   unfolding pushed
-  reached_flagged l = rw (p.same-pushed, range_empty xs k end l) p.flagged
+  reached_flagged l = rw (p.same_pushed, range_empty xs k end l) p.flagged
 
 -- a block's names pass both tests exactly if they are new one by one
 new_names_lem : (before xs : List ℕ) → new_names before xs ≡ (all (is_number_to 77823) xs && not (repeats before xs))

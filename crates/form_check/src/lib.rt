@@ -1,5 +1,7 @@
 // The form checker: which prenex forms are accepted, and the exact refusal of every other (14 the
 // matrix, 15 the prefix).
+#![tactic(auto)]
+
 ghost use Rattle.std.specs.Prelude.{true, not, List, [], ◌∷◌, ◌≡◌, ℕ, ◌+◌, ◌-◌, ◌/◌, ◌<◌, ◌≤◌, max, length, get_or};
 ghost use Rattle.lists.specs.Search.{lowest};
 ghost use Rattle.lists.specs.Members.{maximum};

@@ -1,4 +1,6 @@
 // What writing a text answers and leaves, whatever the text: definitions in specs/, laws in proofs/.
+#![tactic(auto)]
+
 ghost use Rattle.std.specs.Prelude.{◌≡◌};
 ghost use Rattle.form_texts.specs.Writing.{answer_of};
 ghost use Rattle.form_texts.specs.Words.{text_answer};

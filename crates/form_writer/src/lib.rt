@@ -1,4 +1,6 @@
 // Writing a prenex form as a text, in the format that the caller names.
+#![tactic(auto)]
+
 ghost use Rattle.std.specs.Prelude.{◌≡◌};
 ghost use Rattle.form_check.specs.Verdict.{form_verdict};
 ghost use Rattle.form_texts.specs.Writing.{after, text_outcome};

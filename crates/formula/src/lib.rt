@@ -1,6 +1,8 @@
 // What formula tables and prenex forms mean: nodes, ranges, valuations, truth. Definitions stand
 // in specs/, their laws in proofs/. The code here reads and writes one node's words and
 // tests its kind.
+#![tactic(auto)]
+
 ghost use Rattle.std.specs.Prelude.{◌≡◌, ◌+◌, ◌*◌, ◌≤◌, length};
 ghost use Rattle.lists.specs.Parts.{overwrite};
 ghost use Rattle.formula.specs.Node.{constant, variable, negation, operator};

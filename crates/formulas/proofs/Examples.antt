@@ -11,7 +11,7 @@ use Rattle.formula.specs.Words.{field, is_block_kind, is_empty_block, range, nod
 use Rattle.formula.specs.Valuation.{update, join, quant}
 use Rattle.formula.specs.Truth.{bit, digit, operator_value, node_value, value, truth}
 use Rattle.formula.specs.Tree.{users, times_named, count, bound_below}
-use Rattle.refusals.specs.Verdict.{first_two, refusal, not_aTree, accepted}
+use Rattle.refusals.specs.Verdict.{first_two, refusal, not_a_tree, accepted}
 use Rattle.refusals.specs.Outcome.{refused, done, unless_refused, unless_short}
 use Rattle.acceptance.specs.Verdict.{is_number_to, partial_node, too_large, well_formed, forward_reference, range_past_end, empty_block, count_at, too_many_variables, bad_variable, node_fault, not_named_once, tree_refusal, verdict_within}
 use Rattle.prenex_form.specs.Scope.{parent, path_up, path, above, binder, inner, how_many, level, depth}
@@ -26,7 +26,7 @@ use Rattle.formulas.specs.Rows.{holding, Row, nodes_of, filled, answer_words, le
 
 -- What all rows leave, and their truth values, in one computation each.
 all_leave : map leaves examples ≡ map should_leave examples
-unfolding accepted refusal not_aTree first_two tree_refusal users leaves should_leave left filled examples refused_row done_row below_xor below_xor_row nodes_of answer_words no_sizes refused done unless_refused unless_short too_short written lifted verdict_within partial_node too_large node_fault well_formed forward_reference range_past_end empty_block too_many_variables count_at bad_variable not_named_once is_number_to is_block_kind is_empty_block field range node_of node_at table_of digit times_named operands is_block bound dual lowest pick sum all distinct mem times place up_to numbers highest overwrite count bound_below parent path_up path above binder inner how_many level depth maximum highest_at highest_number bound_count first_name new_names new_name inner_bound_below inner_below copies definition_variable blocks_at levels quantifier_at level_quantifier kept renamed first_nodes body_of equation guard constraint further constraints level_join level_nodes nodes_to prenex_nodes node_words words_of word_list written_nodes block_count leading prefix_block prefix_blocks kind_of prefix_words written_prefix written_variables sizes flat_map
+unfolding accepted refusal not_a_tree first_two tree_refusal users leaves should_leave left filled examples refused_row done_row below_xor below_xor_row nodes_of answer_words no_sizes refused done unless_refused unless_short too_short written lifted verdict_within partial_node too_large node_fault well_formed forward_reference range_past_end empty_block too_many_variables count_at bad_variable not_named_once is_number_to is_block_kind is_empty_block field range node_of node_at table_of digit times_named operands is_block bound dual lowest pick sum all distinct mem times place up_to numbers highest overwrite count bound_below parent path_up path above binder inner how_many level depth maximum highest_at highest_number bound_count first_name new_names new_name inner_bound_below inner_below copies definition_variable blocks_at levels quantifier_at level_quantifier kept renamed first_nodes body_of equation guard constraint further constraints level_join level_nodes nodes_to prenex_nodes node_words words_of word_list written_nodes block_count leading prefix_block prefix_blocks kind_of prefix_words written_prefix written_variables sizes flat_map
 all_leave = refl
 
 all_truths : map truths examples ≡ map should_be examples

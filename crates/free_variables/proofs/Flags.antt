@@ -80,7 +80,7 @@ module _ (flags : List Bool) (y : ℕ) where
   set_new found r a h e c l k =
       record {
         count_is = omega (arith, a.count_is, flag_new h e);
-        lowest_le = omega (arith, a.lowest-le, length-set flags y true);
+        lowest_le = omega (arith, a.lowest_le, length-set flags y true);
         none_below = λ x q. set_flag h x ∙ or_neither (get_or flags x false) (eqb x y) (a.none_below x (omega arith)) (ne_eqb x y (λ z. omega arith));
       }
 

@@ -1,5 +1,7 @@
 // Reads names of QCIR files from standard input, one a line, and prints a line of figures for each and the totals
 // (request S-13); or the number of the refusal of the names.
+#![tactic(auto)]
+
 ghost use Rattle.std.specs.Prelude.{ℕ, ◌≤◌, ◌≡◌, List, ◌++◌, length, take};
 ghost use Rattle.refusals.specs.Verdict.{accepted};
 ghost use Rattle.growth.specs.Lines.{line_at};

@@ -1,5 +1,7 @@
 // What the programs that lift a file share: reading a QCIR text, from the file that the argument names or from
 // standard input, and printing what one call makes of it; or saying on standard error why the text is refused.
+#![tactic(auto)]
+
 use form_writer::Format;
 use libc::{STDERR_FILENO, STDOUT_FILENO};
 use lift_text::TEXT;

@@ -1,5 +1,7 @@
 // Reads a QCIR text, from the file that its argument names or from standard input, and prints the QDIMACS
 // text of its prenex form; or says on standard error why the text is refused.
+#![tactic(auto)]
+
 use form_writer::Format;
 
 fn main() {

@@ -129,7 +129,7 @@ module _ (ws ls : List ℕ) (ok : verdict ws ls ≡ accepted) where
             let m = sizes_written (table_of ws ls) in
             let n : length (written_nodes (table_of ws ls)) ≡ width * r.sizes.nodes = m.nodes_measured ∙ ap (λ (y : Sizes). width * y.nodes) (sym s) in
             let b : length (written_prefix (table_of ws ls)) ≡ prefix_width * r.sizes.blocks = m.blocks_measured ∙ ap (λ (y : Sizes). prefix_width * y.blocks) (sym s) in
-            let v : length (written_variables (table_of ws ls)) ≡ r.sizes.entries = m.entries-measured ∙ ap (λ (y : Sizes). y.entries) (sym s) in
+            let v : length (written_variables (table_of ws ls)) ≡ r.sizes.entries = m.entries_measured ∙ ap (λ (y : Sizes). y.entries) (sym s) in
             let hn = ap (λ (o : Outcome Sizes FormBuffers). o.buffers.nodes) d in
             let hb = ap (λ (o : Outcome Sizes FormBuffers). o.buffers.prefix) d in
             let hv = ap (λ (o : Outcome Sizes FormBuffers). o.buffers.variables) d in

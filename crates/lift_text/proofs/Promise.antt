@@ -137,7 +137,7 @@ module _ (text : List ℕ) (f : File) (s : Spells limits.names text f) (names : 
   unfolding sizes
   linear format =
       let p = prenex ws ls table.accepts in
-      let e = (sizes_written (table_of ws ls)).entries-measured in
+      let e = (sizes_written (table_of ws ls)).entries_measured in
       record {
         nodes_bound = omega (arith, p.nodes_bound, nodes_are);
         variables_bound = omega (arith, p.variables_bound, e);

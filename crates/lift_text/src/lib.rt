@@ -1,4 +1,6 @@
 // From the bytes of a QCIR file to the bytes of its prenex form, QCIR or QDIMACS; and the sizes of both.
+#![tactic(auto)]
+
 ghost use Rattle.std.specs.Prelude.{◌≡◌};
 ghost use Rattle.refusals.specs.Verdict.{accepted};
 ghost use Rattle.acceptance.specs.Verdict.{verdict};

@@ -18,7 +18,7 @@ use Rattle.lists.proofs.Stores.{get_or-filled, set_cases}
 use Rattle.formula.specs.Words.{width, node_count, field, is_block_kind, is_empty_block, words_at}
 use Rattle.formula.specs.declared.NodeWords.{NodeWords}
 use Rattle.formula.proofs.Nodes.{Kind, kind_of_lem, kind_constant, kind_variable, kind_negation, kind_operator, kind_exists, kind_for_all, kind_none}
-use Rattle.refusals.specs.Verdict.{refusal, not_aTree, accepted}
+use Rattle.refusals.specs.Verdict.{refusal, not_a_tree, accepted}
 use Rattle.refusals.specs.declared.Verdict.{Verdict}
 use Rattle.acceptance.specs.Verdict.{is_number_to, partial_node, too_large, well_formed, forward_reference, range_past_end, empty_block, too_many_variables, bad_variable, node_fault, not_named_once, tree_refusal, verdict_within}
 use Rattle.tree_check.specs.Named.{named_by, named_below}
@@ -240,7 +240,7 @@ module _ (ns : List ℕ) where
         past = le-ltb _ _ (rw first_is at none)
 
         pub matrix_tree : j < node_count ns - 1 → Answers 14 j
-        unfolding verdict_within tree_refusal not_aTree
+        unfolding verdict_within tree_refusal not_a_tree
         matrix_tree h =
             let l : lowest (not_named_once ns []) (node_count ns - 1) < node_count ns - 1 = rw lone at h in
             rw lone

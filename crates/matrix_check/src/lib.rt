@@ -1,5 +1,7 @@
 // The matrix half of the form checker: faults 1, 3, 4 and 8 of a table without blocks, with more nodes and
 // higher names than a formula table may have.
+#![tactic(auto)]
+
 ghost use Rattle.std.specs.Prelude.{true, false, not, [], ◌∷◌, ◌≡◌, ℕ, ◌+◌, ◌<◌, ◌≤◌, min, eqb, length, get_or};
 ghost use Rattle.lists.specs.Choice.{pick};
 ghost use Rattle.lists.specs.Search.{lowest};

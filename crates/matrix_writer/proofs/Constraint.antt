@@ -67,13 +67,13 @@ module _ {ws ls starts : List ℕ} {names copies : ℕ} {definitions : List ℕ}
   guard_part at = guard_nodes at (get_or definitions i 0) (guard (quantifier_of (field ws i 0))) (s + 1)
 
   definition_is : definition_part ≡ defining (table_of ws ls) i s
-  definition_is = rw (held.names-held.defined.definition_is i b.below b.is_inner, body_is ws ls ok i b)
+  definition_is = rw (held.names_held.defined.definition_is i b.below b.is_inner, body_is ws ls ok i b)
 
   equations_are : equations_part ≡ up_to (equation (table_of ws ls) i (s + 2)) (count (table_of ws ls) i)
-  equations_are = rw (← size_of, held.names-held.names-first, held.names-held.copies-first) (entries_are ws ls ok i b held.starts_held.started (s + 2))
+  equations_are = rw (← size_of, held.names_held.names_first, held.names_held.copies_first) (entries_are ws ls ok i b held.starts_held.started (s + 2))
 
   guard_is : guard_part (s + 2 + (4 * field ws i 2 - 1)) ≡ guarding (table_of ws ls) i s
-  guard_is = rw (held.names-held.defined.definition_is i b.below b.is_inner, quantifier_is ws ls i, size_of)
+  guard_is = rw (held.names_held.defined.definition_is i b.below b.is_inner, quantifier_is ws ls i, size_of)
 
   constraint_is : constraint (table_of ws ls) i s ≡ definition_part ++ (equations_part ++ guard_part (s + 2 + (4 * field ws i 2 - 1)))
   constraint_is =
@@ -131,8 +131,8 @@ block_facts {ws} {ls} {starts} {names} {copies} {definitions} {i} at held b =
     record {
       whole = omega (arith, a.whole);
       few = omega (arith, a.nodes_limit);
-      names_small = omega (arith, held.names-held.names-first);
-      copies_small = omega (arith, held.names-held.copies-first);
+      names_small = omega (arith, held.names_held.names_first);
+      copies_small = omega (arith, held.names_held.copies_first);
       binds = binds_some held b at;
       length_is = constraint_length held b at;
     }

@@ -1,5 +1,7 @@
 // Writes the nodes of a prenex form that come after those of its table (document 01, "The written
 // form": for each level its blocks' constraints, joined to the matrix) into a lent buffer.
+#![tactic(auto)]
+
 ghost use mathlib.Core.List.{[], ◌∷◌, flat_map};
 ghost use Rattle.std.specs.Prelude.{◌≡◌, ◌+◌, ◌*◌, ◌-◌, ◌≤◌, ◌<◌, length};
 ghost use Rattle.lists.specs.Parts.{overwrite};

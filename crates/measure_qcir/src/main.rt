@@ -1,5 +1,7 @@
 // Reads a QCIR text, from the file that its argument names or from standard input, and prints what
 // measuring says of its table; or says on standard error why the text is refused.
+#![tactic(auto)]
+
 use prenex_form::Sizes;
 use refusals::ACCEPTED;
 

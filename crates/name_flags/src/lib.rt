@@ -1,4 +1,6 @@
 // Names flagged by number: which names of a form are bound (the form checker's flag), and which are free.
+#![tactic(auto)]
+
 ghost use Rattle.std.specs.Prelude.{true, ◌≡◌, ℕ, ◌<◌, max, eqb, length, get_or};
 ghost use Rattle.lists.specs.Choice.{pick};
 ghost use Rattle.name_flags.specs.Flags.{flag_with};

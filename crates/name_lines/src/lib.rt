@@ -1,5 +1,7 @@
 // The names in a text (request S-13): one a line, empty lines skipped. How many there are, one after the other, and kept from
 // a text that comes in parts.
+#![tactic(auto)]
+
 ghost use Rattle.std.specs.Prelude.{ℕ, ◌+◌, ◌≤◌, ◌<◌, ◌≡◌, List, [], ◌++◌, length};
 ghost use Rattle.name_lines.specs.Names.{answer_of, counted, judged, line_end, names};
 ghost use Rattle.name_lines.specs.Walk.{LineEnds, NextName, Skipped};

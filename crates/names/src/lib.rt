@@ -1,4 +1,6 @@
 // Hands out the new names of a lift.
+#![tactic(auto)]
+
 ghost use Rattle.std.specs.Prelude.{◌≡◌, ◌+◌, ◌≤◌, ◌<◌};
 
 // The next free number. Every new name is handed out by it.

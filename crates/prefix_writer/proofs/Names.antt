@@ -75,11 +75,11 @@ module _ (ws ls starts : List ℕ) (s : Started ws ls starts) where
     module _ (names copied : ℕ) (definitions : List ℕ) (m : Named ws ls names copied definitions) where
       names_is : held ws starts names i ≡ new_names (table_of ws ls) i
       unfolding new_names first_name
-      names_is = held_is names _ (omega (arith, m.names-first))
+      names_is = held_is names _ (omega (arith, m.names_first))
 
       copies_is : held ws starts copied i ≡ copies (table_of ws ls) i
       unfolding copies table_of
-      copies_is = held_is copied _ (omega (arith, m.copies-first, inner_bound_is_lem (table_of ws ls) i h))
+      copies_is = held_is copied _ (omega (arith, m.copies_first, inner_bound_is_lem (table_of ws ls) i h))
 
       own_is : inner (table_of ws ls) i ≡ true
           → held_own ws starts names definitions i ≡ new_names (table_of ws ls) i ++ (definition_variable (table_of ws ls) i ∷ [])
@@ -120,10 +120,10 @@ module _ (ws ls starts : List ℕ) (names copied : ℕ) (definitions : List ℕ)
   node l i e = blocks_at-lt (table_of ws ls) tree l i e
 
   pub names_low : names ≤ highest_first
-  names_low = omega (arith, m.names-first, highest_limit ws ls (ok ws ls starts s))
+  names_low = omega (arith, m.names_first, highest_limit ws ls (ok ws ls starts s))
 
   pub copies_low : copied ≤ highest_first
-  copies_low = omega (arith, m.copies-first, highest_limit ws ls (ok ws ls starts s), bound_limit ws ls (ok ws ls starts s))
+  copies_low = omega (arith, m.copies_first, highest_limit ws ls (ok ws ls starts s), bound_limit ws ls (ok ws ls starts s))
 
   leading_is : (j : ℕ) → held_leading ws ls starts names definitions j ≡ leading (table_of ws ls) j
   unfolding held_leading leading table_of

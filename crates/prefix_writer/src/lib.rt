@@ -1,5 +1,7 @@
 // The prefix of a prenex form: its blocks, three words each, and the list of their variables, one block's after the
 // other's.
+#![tactic(auto)]
+
 ghost use mathlib.Core.List.{[], ◌∷◌, flat_map};
 ghost use Rattle.std.specs.Prelude.{◌≡◌, ◌+◌, ◌*◌, ◌≤◌, ◌<◌, length};
 ghost use Rattle.lists.specs.Parts.{numbers, overwrite};

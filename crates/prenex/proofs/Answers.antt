@@ -37,13 +37,13 @@ module _ (ws ls : List ℕ) (v : Verdict) (is : v ≡ verdict ws ls) where
     handed-on : answer_of r ≡ refused (verdict ws ls) no_sizes
     handed-on = e ∙ ap (λ (w : Verdict). refused w no_sizes) is
 
-    pub measured-refused : answer_of r ≡ measured ws ls
+    pub measured_refused : answer_of r ≡ measured ws ls
     unfolding measured
-    measured-refused = handed-on ∙ sym (answer_refused (verdict ws ls) no_sizes _ (λ z. n (number_is ∙ z)))
+    measured_refused = handed-on ∙ sym (answer_refused (verdict ws ls) no_sizes _ (λ z. n (number_is ∙ z)))
 
-    pub lifted-refused : (before : FormBuffers) → after r before ≡ lifted ws ls before
+    pub lifted_refused : (before : FormBuffers) → after r before ≡ lifted ws ls before
     unfolding lifted
-    lifted-refused before =
+    lifted_refused before =
         ap (λ (a : AnswerWith Sizes). record { answer = a; buffers = before }) handed-on
         ∙ sym (call_refused no_sizes before _ (verdict ws ls) (λ z. n (number_is ∙ z)))
 
@@ -55,17 +55,17 @@ room_enough ws ls nodes prefix variables room =
     or_neither _ _ (or_neither _ _ (le-ltb _ _ room.nodes_fit) (le-ltb _ _ room.prefix_fits)) (le-ltb _ _ room.variables_fit)
 
 module _ (t : Table) (before : FormBuffers) where
-  pub short-nodes : length before.nodes < length (written_nodes t) → too_short t before ≡ true
+  pub short_nodes : length before.nodes < length (written_nodes t) → too_short t before ≡ true
   unfolding too_short
-  short-nodes h = or_left _ _ (or_left _ _ (lt-ltb _ _ h))
+  short_nodes h = or_left _ _ (or_left _ _ (lt-ltb _ _ h))
 
-  pub short-prefix : length before.prefix < length (written_prefix t) → too_short t before ≡ true
+  pub short_prefix : length before.prefix < length (written_prefix t) → too_short t before ≡ true
   unfolding too_short
-  short-prefix h = or_left _ _ (or_right (ltb (length before.nodes) (length (written_nodes t))) _ (lt-ltb _ _ h))
+  short_prefix h = or_left _ _ (or_right (ltb (length before.nodes) (length (written_nodes t))) _ (lt-ltb _ _ h))
 
-  pub short-variables : length before.variables < length (written_variables t) → too_short t before ≡ true
+  pub short_variables : length before.variables < length (written_variables t) → too_short t before ≡ true
   unfolding too_short
-  short-variables h =
+  short_variables h =
       or_right
       (ltb (length before.nodes) (length (written_nodes t)) || ltb (length before.prefix) (length (written_prefix t))) _
       (lt-ltb _ _ h)
@@ -76,25 +76,25 @@ module _ (ws ls : List ℕ) (ok : verdict ws ls ≡ accepted) where
   unfolding accepted
   zero_number = ap (λ (w : Verdict). w.number) ok
 
-  pub measured-done : (r : Answer) (s : Sizes) → answer_of r ≡ done s → s ≡ sizes (table_of ws ls) → answer_of r ≡ measured ws ls
+  pub measured_done : (r : Answer) (s : Sizes) → answer_of r ≡ done s → s ≡ sizes (table_of ws ls) → answer_of r ≡ measured ws ls
   unfolding measured
-  measured-done r s e f = e ∙ ap done f ∙ sym (answer_next (verdict ws ls) no_sizes _ zero_number)
+  measured_done r s e f = e ∙ ap done f ∙ sym (answer_next (verdict ws ls) no_sizes _ zero_number)
 
   -- refused for want of room
-  pub lifted-short : (before : FormBuffers) → too_short (table_of ws ls) before ≡ true → (r : Answer) → answer_of r ≡ refused (refusal 9 0) no_sizes
+  pub lifted_short : (before : FormBuffers) → too_short (table_of ws ls) before ≡ true → (r : Answer) → answer_of r ≡ refused (refusal 9 0) no_sizes
       → after r before ≡ lifted ws ls before
   unfolding lifted
-  lifted-short before s r e =
+  lifted_short before s r e =
       ap (λ (a : AnswerWith Sizes). record { answer = a; buffers = before }) e
       ∙ sym (call_short no_sizes before _ (too_short (table_of ws ls) before) s)
       ∙ sym (call_next no_sizes before _ (verdict ws ls) zero_number)
 
   -- done
-  pub lifted-done : (nodes prefix variables : List ℕ) → Room ws ls nodes prefix variables → (r : Answer) (s : Sizes) → answer_of r ≡ done s → s ≡ sizes (table_of ws ls)
+  pub lifted_done : (nodes prefix variables : List ℕ) → Room ws ls nodes prefix variables → (r : Answer) (s : Sizes) → answer_of r ≡ done s → s ≡ sizes (table_of ws ls)
       → (nodes' prefix' variables' : List ℕ) → Written ws ls nodes prefix variables nodes' prefix' variables'
       → after r (buffers nodes' prefix' variables') ≡ lifted ws ls (buffers nodes prefix variables)
   unfolding lifted written
-  lifted-done nodes prefix variables room r s e f nodes' prefix' variables' w =
+  lifted_done nodes prefix variables room r s e f nodes' prefix' variables' w =
       let g = e ∙ ap done f in
       let before = buffers nodes prefix variables in
       let p : after r (buffers nodes' prefix' variables') ≡ record { answer = done (sizes (table_of ws ls)); buffers = written (table_of ws ls) before }

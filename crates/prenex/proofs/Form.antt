@@ -98,7 +98,7 @@ module _ (ws ls : List ℕ) where
       let v : take o.answer.sizes.entries o.buffers.variables ≡ written_variables t =
       ap (λ (k : ℕ). take k o.buffers.variables) (ap (λ (y : Sizes). y.entries) s)
       ∙ ap (take (sizes t).entries) (ap (λ (p : Outcome Sizes FormBuffers). p.buffers.variables) d.1)
-      ∙ start_of before.variables (written_variables t) _ m.entries-measured in
+      ∙ start_of before.variables (written_variables t) _ m.entries_measured in
       rw (n, p, v) refl
 
   pub lifted_form : (before : FormBuffers) (o : Outcome Sizes FormBuffers) → o ≡ lifted ws ls before → FormWritten (table_of ws ls) o

@@ -206,7 +206,7 @@ module _ (b : Blocks) (s : Separate b) where
       rw c at (mem-get_or (b.copies i) (place x (b.names i)) 0 (omega arith))
 
   copy_no_name : (i x : ℕ) → Member b i → mem x (b.names i) ≡ true → NoName b (s.copy x)
-  copy_no_name i x m h j n k = s.names-copies j i (s.copy x) n m k (copy_member i x m h)
+  copy_no_name i x m h j n k = s.names_copies j i (s.copy x) n m k (copy_member i x m h)
 
   copy_no_definition : (i x : ℕ) → Member b i → mem x (b.names i) ≡ true → NoDefinition b (s.copy x)
   copy_no_definition i x m h j n e = s.copies_definitions i j m n (rw e at (copy_member i x m h))

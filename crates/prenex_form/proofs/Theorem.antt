@@ -90,7 +90,7 @@ pub same_list : SameList
 same_list t tree ns ps xs p =
     let of_form = form_free-listed ns ps xs p.matrix_tree in
     one_list (free t) (form_free_variables ns ps xs) (free_variables t)
-    (record { members = λ x. of_form.members x ∙ p.same-free x; ascending = of_form.ascending })
+    (record { members = λ x. of_form.members x ∙ p.same_free x; ascending = of_form.ascending })
     (free_listed t tree)
 
 -- Measured sizes are the sizes written.
@@ -129,7 +129,7 @@ module _ (t : Table) (ns ps xs : List ℕ) (p : PrenexOf t ns ps xs) where
         nodes_limit = p.nodes_limit;
         list_limit = omega arith;
         counts_limit = omega (arith, sum_zero (count (table_of ns [])) (node_count ns) (λ i h. ap length (matrix_binds i h)));
-        formed = λ i h. formed_mono (highest_name t) 77823 (words_at ns i) p.names-limit (p.matrix_formed i h);
+        formed = λ i h. formed_mono (highest_name t) 77823 (words_at ns i) p.names_limit (p.matrix_formed i h);
         fits = λ i h b. clash b (formed_plain (highest_name t) (words_at ns i) (p.matrix_formed i h));
         filled = λ e i h b. clash b (matrix_plain i h);
         numbered = λ i h. rw (matrix_binds i h);

@@ -1,6 +1,8 @@
 // The prenex form of a formula table as a definition (specs/), and the proof that it has the
 // table's truth value and the promised sizes (proofs/). The code here is what measuring gives, and
 // the alternation of quantifiers.
+#![tactic(auto)]
+
 ghost use Rattle.std.specs.Prelude.{◌≡◌};
 ghost use Rattle.formula.specs.Node.{dual};
 ghost use Rattle.formula.specs.Form.{quantifier_of, kind_of};

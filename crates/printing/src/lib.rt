@@ -1,4 +1,6 @@
 // Text and numbers on standard output, for the programs here.
+#![tactic(auto)]
+
 use libc::STDOUT_FILENO;
 
 // The columns of a line that shows a figure: a name of up to 17 bytes, a space and five digits.

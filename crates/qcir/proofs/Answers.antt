@@ -115,9 +115,9 @@ module _ {Sizes Buffers : Type 0} (lim : Limits) (none : Sizes) (before : Buffer
       go _ (both-go-on f s n z _) = going f s n z
 
 -- The answer of a reading holds a number and a position, and no users: refusal 8 is not among a reading's.
-pub reading-plain : (lim : Limits) (text : List ℕ) (before : Buffers) (o : Outcome Written Buffers) → Reading lim text before o → Plain o.answer.verdict
+pub reading_plain : (lim : Limits) (text : List ℕ) (before : Buffers) (o : Outcome Written Buffers) → Reading lim text before o → Plain o.answer.verdict
 unfolding refused_text refused stored done_with done
-reading-plain lim text before o h =
+reading_plain lim text before o h =
     from_text lim none_written before (stored before) text (λ (q : Outcome Written Buffers). Plain q.answer.verdict)
     (λ number position m. plain_refusal number position)
     (λ f s n z. plain_room none_written before (done_with (table_words f) (table_list f) before) plain_accepted _)

@@ -1,4 +1,6 @@
 // Gates of a QCIR file by number: where each is defined first, and how often it is used.
+#![tactic(auto)]
+
 ghost use Rattle.std.specs.Prelude.{not, ◌&&◌, List, ◌∷◌, ◌≡◌, ℕ, ◌+◌, ◌<◌, ◌≤◌, min, eqb, length, get_or};
 ghost use Rattle.lists.specs.Choice.{pick};
 ghost use Rattle.qcir.specs.File.{File};

@@ -1,4 +1,6 @@
 // The header of a QCIR text: where it ends.
+#![tactic(auto)]
+
 ghost use Rattle.std.specs.Prelude.{◌≡◌};
 ghost use Rattle.qcir_header.specs.Header.{header_end};
 

@@ -1,5 +1,7 @@
 // The walk that counts or writes the text of a form: header, free line, prefix lines, output line, gate lines. Over an
 // empty buffer it tells the size, over one that has room it writes.
+#![tactic(auto)]
+
 ghost use Rattle.std.specs.Prelude.{Bool, [], map, ◌≡◌, ℕ, suc, ◌+◌, ◌*◌, ◌/◌, ◌<◌, ◌≤◌, length, get_or};
 ghost use Rattle.formula.specs.Truth.{digit};
 ghost use Rattle.formula.specs.Words.{node_count, node_at, table_of};

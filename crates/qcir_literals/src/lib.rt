@@ -1,6 +1,8 @@
 // A pass over a matrix from its first node up: the literal that stands for each node that is written, gates
 // being numbered in node order. A literal is held in one word: twice its number, and one more with a
 // minus sign.
+#![tactic(auto)]
+
 ghost use Rattle.std.specs.Prelude.{Bool, [], ◌≡◌, ℕ, ◌+◌, ◌*◌, ◌/◌, ◌<◌, ◌≤◌, length, get_or};
 ghost use Rattle.formula.specs.Truth.{digit};
 ghost use Rattle.formula.specs.Words.{node_count, node_at, table_of};

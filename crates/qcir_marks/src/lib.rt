@@ -1,5 +1,7 @@
 // A pass over a matrix from its root down: which nodes are written, and which names occur at them. An
 // operand that a row ignores is not written, nor what hangs on it.
+#![tactic(auto)]
+
 ghost use Rattle.std.specs.Prelude.{[], ◌≡◌, ℕ, ◌<◌, length, get_or};
 ghost use Rattle.lists.specs.Choice.{pick};
 ghost use Rattle.lists.specs.Members.{mem};

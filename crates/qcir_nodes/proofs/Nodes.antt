@@ -74,7 +74,7 @@ follows_then {p} {a} {f} u v =
       listed_kept = w.listed_kept ∙ u.listed_kept;
       kind_kept = w.kind_kept ∙ u.kind_kept;
       gate_kept = w.gate_kept ∙ u.gate_kept;
-      first_kept = w.first-kept ∙ u.first-kept;
+      first_kept = w.first_kept ∙ u.first_kept;
     }
 
 pub follows_name : (p : Progress) (g x : ℕ) → Follows p (add_name p g x)
@@ -207,7 +207,7 @@ pub first_le : {o m : List ℕ} {p q : Progress} {a : Added} → Wrote o p a m q
 first_le {q = q} w f h =
     let e = ap (λ s. s.first) w.progress_is in
     let d = ap (λ s. s.listed) w.progress_is in
-    omega (arith, f.first-kept, f.listed_kept)
+    omega (arith, f.first_kept, f.listed_kept)
 
 -- One more than the node of a gate's last operand, or of the gate that is closed, can be held in 16 bits.
 pub closed_small : {o m l : List ℕ} {p q r : Progress} (g role x : ℕ) → g < 65536 → Wrote o p (add_operand p g role x) m q → Wrote m q (add_block q) l r

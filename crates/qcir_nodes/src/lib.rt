@@ -1,5 +1,7 @@
 // Writes what one token of a gate line adds to the formula table of a QCIR file: the nodes of an input, of
 // a gate without inputs and of a quantified gate's block, and the list entry of a bound variable.
+#![tactic(auto)]
+
 ghost use Rattle.std.specs.Prelude.{◌≡◌, ◌+◌, ◌≤◌, length, get_or, set};
 ghost use Rattle.lists.specs.Choice.{pick};
 ghost use Rattle.lists.specs.Parts.{overwrite};

@@ -83,8 +83,8 @@ list_fits f p = table_few limit f p.none_exceeding
 pub file_table : (text : List ℕ) (f : File) → Spells 65535 text f → Passed f → TableOf 65535 text (table_words f) (table_list f)
 file_table text f s p =
     record {
-      accepts = table_accepted f (numbers_ranged f (ranged s)) p.placed p.used-once p.few_nodes p.none_exceeding;
-      truth_kept = λ g r v. subst (λ (z : File). truth (table_of (table_words f) (table_list f)) v ≡ file_truth z v) (unique s r) (table_truth f p.placed p.used-once v);
+      accepts = table_accepted f (numbers_ranged f (ranged s)) p.placed p.used_once p.few_nodes p.none_exceeding;
+      truth_kept = λ g r v. subst (λ (z : File). truth (table_of (table_words f) (table_list f)) v ≡ file_truth z v) (unique s r) (table_truth f p.placed p.used_once v);
     }
 
 -- What is left of an outcome that is done.

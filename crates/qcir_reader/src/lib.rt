@@ -1,4 +1,6 @@
 // Reads QCIR texts into formula tables: a public operation.
+#![tactic(auto)]
+
 ghost use Rattle.std.specs.Prelude.{[], ◌≡◌, ◌≤◌, length};
 ghost use Rattle.qcir.specs.File.{File};
 ghost use Rattle.qcir.specs.Refusals.{misplaced, not_used_once, unbound};

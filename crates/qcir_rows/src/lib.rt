@@ -1,4 +1,6 @@
 // The sixteen rows: what each operator is written as, and with it every node of a matrix.
+#![tactic(auto)]
+
 ghost use Rattle.std.specs.Prelude.{[], ◌≡◌, ◌<◌};
 ghost use Rattle.formula.specs.Words.{node_count, node_at};
 ghost use Rattle.acceptance.specs.Accepted.{AcceptedWithin};

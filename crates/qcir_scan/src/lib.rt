@@ -1,4 +1,6 @@
 // Takes the bytes of a QCIR text and collects the file's tokens: the machine of qcir_spelling, by tables.
+#![tactic(auto)]
+
 ghost use Rattle.std.specs.Prelude.{◌≡◌, ◌+◌, ◌%◌, ◌≤◌, ◌<◌, eqb, length, set};
 ghost use Rattle.qcir.specs.Spelling.{is_space, is_digit};
 ghost use Rattle.qcir_header.specs.Header.{header_end};

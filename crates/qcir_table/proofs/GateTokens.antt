@@ -302,8 +302,8 @@ module _ (d : Draft) (q : Quantifier) (ns : List ℕ) (l : Literal) (p : Progres
       let e = aligned_after (with_entries d ns) p input aligned f in
       let k : leb 16 r.kind ≡ true = ap (leb 16) f.kind_kept ∙ kind in
       let b : gate_block_kind r.kind ≡ kind_of q = ap gate_block_kind f.kind_kept ∙ block in
-      let first : r.first ≡ length d.entries = f.first-kept ∙ sym listed in
-      let n : r.listed - r.first ≡ length ns = omega (arith, f.first-kept, f.listed_kept) in
+      let first : r.first ≡ length d.entries = f.first_kept ∙ sym listed in
+      let n : r.listed - r.first ≡ length ns = omega (arith, f.first_kept, f.listed_kept) in
       with_then (with_entries d ns) input add_block
       ∙ ap (with_added (with_added (with_entries d ns) input).draft) (pick_yes (leb 16 r.kind) (add_node r (block_words (gate_block_kind r.kind) r.first (r.listed - r.first) r.node)) (add_none r) k)
       ∙ with_node_lem (with_added (with_entries d ns) input).draft r (block_words (gate_block_kind r.kind) r.first (r.listed - r.first) r.node) e
@@ -315,7 +315,7 @@ abbrev defined : Writing → ℕ → ℕ → Writing
 defined w role g = record { draft = w.draft; progress = begun w.progress role g }
 
 counted_defined : (w : Writing) (role g : ℕ) → is_definition role ≡ true → Counted w → Counted (defined w role g)
-counted_defined w role g t k = record { words_counted = k.words_counted; entries_counted = k.entries-counted; first_in = omega arith }
+counted_defined w role g t k = record { words_counted = k.words_counted; entries_counted = k.entries_counted; first_in = omega arith }
 
 junction_kind : (j : Junction) → (leb 16 (junction_role j) ≡ false) × (join_table (junction_role j) ≡ junction_table j) × (empty_constant (junction_role j) ≡ empty_value j)
 unfolding junction_role join_table junction_table empty_value pick
@@ -368,7 +368,7 @@ quantified_law q g x xs l w k =
     ∙ ap (λ z. (write_tokens z (inputs_tokens l [])).draft) (bound_law x xs v)
     ∙ last_token u (input_role l.minus true) n (store_block q ns (store_literal w.draft l)) r.0 r.1 r.2
     (ap (with_added u.draft) (use_input l.minus true u.progress (w.draft.gate n) n)
-    ∙ block_is w.draft q ns l u.progress k.words_counted k.entries-counted (omega arith) refl c.1 c.2)
+    ∙ block_is w.draft q ns l u.progress k.words_counted k.entries_counted (omega arith) refl c.1 c.2)
 
 gate_law : (g : Gate) (w : Writing) → Counted w → (write_tokens w (gate_tokens g)).draft ≡ closed (store_gate w.draft g) (gate_name g).number
 unfolding write_tokens gate_tokens any_inputs_tokens token store_gate gate_name

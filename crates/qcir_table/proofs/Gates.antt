@@ -44,7 +44,7 @@ adds_by false false p role x c f =
     record {
       words_counted = f.counted;
       entries_counted = omega arith;
-      first_in = λ h. omega (arith, f.first-kept, f.listed_kept);
+      first_in = λ h. omega (arith, f.first_kept, f.listed_kept);
       gate_low = λ h k. omega (arith, f.gate_kept);
     }
 
@@ -64,7 +64,7 @@ counted_token w role x k =
     let t = token_adds w.progress (w.draft.gate x) role x in
     record {
       words_counted = simp length-append (omega (arith, k.words_counted, t.words_counted));
-      entries_counted = simp length-append (omega (arith, k.entries-counted, t.entries-counted));
+      entries_counted = simp length-append (omega (arith, k.entries_counted, t.entries_counted));
       first_in = t.first_in k.first_in;
     }
 
@@ -175,7 +175,7 @@ module _ (roles numbers : List ℕ) (first : ℕ) where
         let a = ap (λ q. q.next) r.progress_is in
         let b = ap (λ q. q.listed) r.progress_is in
         let d = ap (λ q. q.first) r.progress_is in
-        (omega (arith, k.words_counted), omega (arith, k.entries-counted), omega (arith, k.first_in))
+        (omega (arith, k.words_counted), omega (arith, k.entries_counted), omega (arith, k.first_in))
 
     -- how much is stored after it
     after_words : length (gates_written roles numbers first (suc n)).draft.words ≡ length before.draft.words + length (add_token p (get_or nodes x 0) role x).words

@@ -145,11 +145,11 @@ prefix_law (l ∷ ls) d p a b =
     let e : add_outers (list_tokens (line_role q) later_role l.first l.others ++ prefix_tokens ls) (no_lines p) ≡ with_line s q ns =
     outers_append (list_tokens (line_role q) later_role l.first l.others) (prefix_tokens ls) (no_lines p) ∙ line_law q l.first l.others s r.none_waits in
     let wc = simp length-append at r.words_counted in
-    let ec = simp length-append at r.entries-counted in
+    let ec = simp length-append at r.entries_counted in
     subst (PrefixStored d p (l ∷ ls)) (sym e)
     (record {
       none_waits = refl;
-      stored_is = ap (store_block q ns) r.stored_is ∙ block_law d s q ns r.words_counted r.entries-counted;
+      stored_is = ap (store_block q ns) r.stored_is ∙ block_law d s q ns r.words_counted r.entries_counted;
       words_counted = simp length-append (omega (arith, word_list-length (block_words (kind_of q) s.progress.listed (length ns) s.progress.node)));
       entries_counted = simp length-append (omega arith);
     })

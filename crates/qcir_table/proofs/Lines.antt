@@ -53,7 +53,7 @@ module _ (roles numbers : List ℕ) (start : Progress) where
       let s = lines_written roles numbers start (suc i) n in
       let k = lines_counted (suc i) n in
       let a = line_adds s.progress (get_or roles i 0) (get_or numbers i 0 ∷ s.pending) in
-      (simp length-append (omega (arith, a.words_counted)), simp length-append (omega (arith, a.entries-counted)))
+      (simp length-append (omega (arith, a.words_counted)), simp length-append (omega (arith, a.entries_counted)))
 
   -- more tokens add no less
   grows_one : (i n : ℕ) → ((lines_written roles numbers start (suc i) n).progress.next ≤ (lines_written roles numbers start i (suc n)).progress.next) × ((lines_written roles numbers start (suc i) n).progress.listed ≤ (lines_written roles numbers start i (suc n)).progress.listed)
@@ -61,7 +61,7 @@ module _ (roles numbers : List ℕ) (start : Progress) where
   grows_one i n =
       let s = lines_written roles numbers start (suc i) n in
       let a = line_adds s.progress (get_or roles i 0) (get_or numbers i 0 ∷ s.pending) in
-      (omega (arith, a.words_counted), omega (arith, a.entries-counted))
+      (omega (arith, a.words_counted), omega (arith, a.entries_counted))
 
   module _ (outer : ℕ) where
     -- What the tokens from token i on add.
@@ -202,7 +202,7 @@ module _ (roles numbers : List ℕ) (start : Progress) where
                 write_after words₀ words words' (width * start.next) (width * p.next) before.words a.words r.words_are w.words_are (omega arith) (omega (arith, adds.words_counted, rm.fits, r.words_kept))
                 ∙ ap (λ s. overwrite words₀ (width * start.next) s.words) (sym after_is);
             list_is =
-                write_after list₀ list list' start.listed p.listed before.entries es r.list_is l (omega arith) (omega (arith, adds.entries-counted, ls.0, r.list_kept))
+                write_after list₀ list list' start.listed p.listed before.entries es r.list_is l (omega arith) (omega (arith, adds.entries_counted, ls.0, r.list_kept))
                 ∙ ap (λ s. overwrite list₀ start.listed s.entries) (sym after_is);
             progress_is = w.progress_is ∙ ap (λ s. s.progress) (sym after_is);
             waiting_are = ap (λ s. s.pending) after_is ∙ waiting_by (starts_line role) _ numbers i end refl ∙ ap (λ z. slice i z numbers) (sym e);

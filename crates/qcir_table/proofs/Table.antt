@@ -257,7 +257,7 @@ module _ (roles numbers ps : List ℕ) where
     draft_is =
         let h = follows_literal gates.progress (gates.draft.gate (get_or numbers k 0)) (get_or numbers k 0) (is_minus (get_or roles k 0)) in
         let a = aligned_after gates.draft gates.progress output gates_counted.words_counted h in
-        let b = gates_counted.entries-counted ∙ sym h.listed_kept in
+        let b = gates_counted.entries_counted ∙ sym h.listed_kept in
         let r = prefix_law f.prefix (with_added gates.draft output).draft output.progress a b in
         ap (λ d. (store_prefix (store_literal d f.output) f.prefix).draft) (sym gates_stored)
         ∙ ap (λ s. (store_prefix s f.prefix).draft) (sym output_stored)

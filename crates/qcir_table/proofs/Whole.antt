@@ -54,7 +54,7 @@ module _ (roles numbers : List ℕ) (count k : ℕ) where
         gates_words = g.words_counted;
         output_words = f.counted;
         lines_words = l.0;
-        gates_entries = g.entries-counted ∙ sym f.listed_kept;
+        gates_entries = g.entries_counted ∙ sym f.listed_kept;
         lines_entries = l.1;
       }
 

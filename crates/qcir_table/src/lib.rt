@@ -1,5 +1,7 @@
 // Writes the formula table of a QCIR file from its tokens: the gate lines in the order of the
 // tokens, then the output, then the prefix lines as blocks, the last line first.
+#![tactic(auto)]
+
 ghost use Rattle.std.specs.Prelude.{[], ◌≡◌, ◌+◌, ◌-◌, ◌*◌, ◌≤◌, length, get_or};
 ghost use Rattle.std.proofs.Math.Seq.{slice};
 ghost use Rattle.lists.specs.Choice.{pick};

@@ -1,4 +1,6 @@
 // The sizes of the formula table of a QCIR file, without building it.
+#![tactic(auto)]
+
 ghost use Rattle.std.specs.Prelude.{true, false, List, ◌≡◌, ℕ, ◌+◌, ◌-◌, ◌<◌, ◌≤◌, ltb, length, get_or};
 ghost use Rattle.lists.specs.Choice.{pick};
 ghost use Rattle.lists.specs.Search.{lowest};

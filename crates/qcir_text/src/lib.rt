@@ -1,6 +1,8 @@
 // The text of a QCIR file, and its pieces written to a buffer. A call puts a piece at an index of the buffer and hands
 // back the index after it. The buffer then holds the piece if it fits, and a piece is counted whether it fits or not:
 // a run over an empty buffer tells the size.
+#![tactic(auto)]
+
 ghost use Rattle.std.specs.Prelude.{[], ◌∷◌, ◌++◌, ◌≡◌, ◌+◌, ◌*◌, ◌-◌, ◌≤◌, ◌<◌, length};
 ghost use Rattle.formula.specs.Form.{quantifier_of};
 ghost use Rattle.qcir.specs.File.{conjunction, junction_gate, xor_gate};

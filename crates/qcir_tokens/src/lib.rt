@@ -1,5 +1,7 @@
 // Tokens of a QCIR file: its names in the order of the text, each with its role. Three arrays hold
 // them: roles, numbers and positions.
+#![tactic(auto)]
+
 ghost use Rattle.std.specs.Prelude.{◌≡◌};
 ghost use Rattle.qcir_tokens.specs.Tokens.{is_outer, is_free, is_output, is_definition, is_bound, is_input, is_use, is_minus, is_last};
 

@@ -6,6 +6,8 @@
 // before; so a variable's mark says, at each use, whether a block above binds it. One array, by token, keeps what the walk
 // has to know on its way back: at an entry the mark before, and at a definition the token that uses the gate. Each token of
 // a gate line is come by twice: the walk ends within two steps a token.
+#![tactic(auto)]
+
 ghost use Rattle.std.specs.Prelude.{true, false, not, ◌&&◌, [], ◌≡◌, ℕ, ◌*◌, ◌≤◌, ◌<◌, min, eqb, length, get_or};
 ghost use Rattle.lists.specs.Choice.{pick};
 ghost use Rattle.qcir.specs.File.{File};

@@ -1,4 +1,6 @@
 // Writing a prenex form as a QCIR text.
+#![tactic(auto)]
+
 ghost use Rattle.std.specs.Prelude.{[], ◌≡◌, ℕ, length, get_or};
 ghost use Rattle.lists.specs.Members.{maximum};
 ghost use Rattle.formula.specs.Truth.{digit};

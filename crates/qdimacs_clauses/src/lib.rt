@@ -1,5 +1,7 @@
 // The clauses of a matrix, put into a buffer gate by gate. Over an empty buffer the walk tells the size, over one
 // that has room it writes.
+#![tactic(auto)]
+
 ghost use Rattle.std.specs.Prelude.{[], ◌≡◌, ℕ, suc, ◌+◌, ◌*◌, ◌-◌, ◌<◌, ◌≤◌};
 ghost use Rattle.formula.specs.Truth.{operator_value};
 ghost use Rattle.formula.specs.Words.{node_count, field, table_of};

@@ -1,5 +1,7 @@
 // Two passes over a matrix: which names are free, and then the word of the variable that stands for each
 // node, with the number of clauses.
+#![tactic(auto)]
+
 ghost use Rattle.std.specs.Prelude.{List, [], ◌≡◌, ℕ, suc, ◌+◌, ◌*◌, ◌<◌, ◌≤◌, length, get_or};
 ghost use Rattle.formula.specs.Words.{node_count, table_of};
 ghost use Rattle.formula.specs.FreeVariables.{highest_variable};

@@ -1,5 +1,7 @@
 // The quantifier lines of a problem, put into a buffer: the free names, the prefix blocks, the gates. Empty blocks
 // have no line, and neighbours of one kind have one together.
+#![tactic(auto)]
+
 ghost use Rattle.std.specs.Prelude.{true, [], ◌∷◌, ◌≡◌, suc, ◌+◌, ◌*◌, ◌-◌, ◌<◌, ◌≤◌, eqb, length, get_or};
 ghost use Rattle.lists.specs.Choice.{pick};
 ghost use Rattle.lists.specs.Parts.{numbers};

@@ -1,5 +1,7 @@
 // The clauses of one gate, a row of its meaning each, put into a buffer. Over an empty buffer a call tells the size,
 // over one that has room it writes.
+#![tactic(auto)]
+
 ghost use Rattle.std.specs.Prelude.{Bool, true, false, List, [], ◌∷◌, ◌++◌, ◌≡◌, ℕ, ◌+◌, ◌<◌, ◌≤◌, length};
 ghost use Rattle.formula.specs.Truth.{digit, operator_value};
 ghost use Rattle.texts.specs.Bounds.{last_piece};

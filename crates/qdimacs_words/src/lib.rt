@@ -1,5 +1,7 @@
 // Literals as words of eight bytes, each stored at once: much faster than byte by byte. A piece shorter than eight
 // bytes spoils what follows it, which is stored over later.
+#![tactic(auto)]
+
 ghost use Rattle.std.specs.Prelude.{true, false, List, [], ◌∷◌, ◌++◌, ◌≡◌, ℕ, ◌+◌, ◌*◌, ◌≤◌, ◌<◌, length};
 ghost use Rattle.lists.specs.Parts.{overwrite};
 ghost use Rattle.texts.specs.Numerals.{digits};

@@ -6,6 +6,8 @@
 // walk down its chain meets it among the block's own entries. The walk ends where those of earlier blocks begin: so the
 // variable of an entry is read from the block's range, and no array keeps it. At most 64 variables share a remainder, so
 // that no walk takes more steps, and nothing is ever cleared.
+#![tactic(auto)]
+
 ghost use Rattle.std.specs.Prelude.{true, ◌≡◌, ◌+◌, ◌-◌, ◌%◌, ◌≤◌, ◌<◌, length, get_or, set};
 ghost use Rattle.lists.specs.Members.{mem};
 ghost use Rattle.formula.specs.Words.{range};

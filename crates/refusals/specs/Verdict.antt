@@ -17,8 +17,8 @@ unfoldable pub refusal : ℕ → ℕ → Verdict
 refusal number position = record { number = number; position = position; users = no_users }
 
 -- Refusal 8.
-unfoldable pub not_aTree : ℕ → Users → Verdict
-not_aTree position users = record { number = 8; position = position; users = users }
+unfoldable pub not_a_tree : ℕ → Users → Verdict
+not_a_tree position users = record { number = 8; position = position; users = users }
 
 -- "the number (0 is done), the place (0 if done)"
 unfoldable pub accepted : Verdict

@@ -1,9 +1,11 @@
 // The numbers of the refusals, the verdict that carries one, and what a call answers and leaves
 // (specs/).
+#![tactic(auto)]
+
 ghost use Rattle.std.specs.Prelude.{◌≡◌};
 ghost use Rattle.refusals.specs.Verdict.{
   refusal as refusal_of,
-  not_aTree,
+  not_a_tree,
   accepted as accepted_of,
 };
 
@@ -95,7 +97,7 @@ pub fn refusal(number: u32, position: u32) -> Verdict
 
 // Refusal 8, of a node with these users.
 pub fn not_a_tree(position: u32, users: Users) -> Verdict
-    ensures { result ≡ not_aTree position users }
+    ensures { result ≡ not_a_tree position users }
 {
     Verdict {
         number: NOT_A_TREE,

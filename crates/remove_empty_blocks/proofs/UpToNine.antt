@@ -12,7 +12,7 @@ use Rattle.lists.specs.Choice.{pick_no, Is, is_true, is_false, look}
 use Rattle.lists.specs.Parts.{overwrite}
 use Rattle.lists.proofs.Parts.{pick_within}
 use Rattle.formula.specs.Words.{node_count}
-use Rattle.refusals.specs.Verdict.{refusal, not_aTree, accepted}
+use Rattle.refusals.specs.Verdict.{refusal, not_a_tree, accepted}
 use Rattle.refusals.specs.Outcome.{Outcome, refused, done, unless_short}
 use Rattle.refusals.specs.declared.Verdict.{Verdict}
 use Rattle.refusals.proofs.Outcome.{call_refused, call_room, call_short}
@@ -36,7 +36,7 @@ fault_within ws ls i =
     (pick_within _ 7 _ 7 (omega arith) (omega arith))))))
 
 verdict_within : (ws ls : List ℕ) (v : Verdict) → FirstThatApplies stored_limits ws ls v → v.number ≤ 8
-unfolding refusal accepted tree_refusal not_aTree
+unfolding refusal accepted tree_refusal not_a_tree
 verdict_within ws ls _ (partial p) = omega arith
 verdict_within ws ls _ (large p l) = omega arith
 verdict_within ws ls _ (fault w i h f before) = omega (arith, fault_within ws ls i)

@@ -1,4 +1,6 @@
 // The text of a growth report (request S-13): a line of figures for each name, and the totals.
+#![tactic(auto)]
+
 ghost use Rattle.std.specs.Prelude.{◌+◌, ◌*◌, ◌≤◌, ◌≡◌, length};
 ghost use mathlib.Core.List.{◌++◌, flat_map};
 ghost use Rattle.texts.specs.Put.{Put};

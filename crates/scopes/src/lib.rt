@@ -1,5 +1,7 @@
 // The parent block and the level of each node of an accepted table, and the counts that give the sizes
 // of its prenex form: one pass from the root down, which visits each node once.
+#![tactic(auto)]
+
 ghost use Rattle.std.specs.Prelude.{true, [], ◌∷◌, ◌≡◌, ◌+◌, ◌<◌, length};
 ghost use Rattle.formula.specs.Node.{is_block};
 ghost use Rattle.formula.specs.Words.{node_count, node_at, table_of};

@@ -1,5 +1,7 @@
 // How much stack the process may use.
 
+#![tactic(auto)]
+
 // What getrlimit stores where there is no limit, C's RLIM_INFINITY.
 pub const NO_LIMIT: u64 = 0xFFFF_FFFF_FFFF_FFFF;
 

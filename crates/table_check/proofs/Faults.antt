@@ -17,7 +17,7 @@ use Rattle.lists.proofs.Search.{lowest_holds, lowest_before, lowest_is, lowest_n
 use Rattle.formula.specs.Words.{width, node_count, field, is_block_kind, is_empty_block, words_at}
 use Rattle.formula.specs.declared.NodeWords.{NodeWords}
 use Rattle.formula.proofs.Nodes.{Kind, kind_of_lem, kind_constant, kind_variable, kind_negation, kind_operator, kind_exists, kind_for_all, kind_none}
-use Rattle.refusals.specs.Verdict.{first_two, refusal, not_aTree, accepted}
+use Rattle.refusals.specs.Verdict.{first_two, refusal, not_a_tree, accepted}
 use Rattle.refusals.specs.declared.Verdict.{Verdict}
 use Rattle.acceptance.specs.Limits.{TableLimits, limit, table_limits, tables_with}
 use Rattle.acceptance.specs.Verdict.{is_number, partial_node, too_large, well_formed, forward_reference, range_past_end, empty_block, count_at, too_many_variables, bad_variable, node_fault, tree_refusal, verdict_within}
@@ -340,7 +340,7 @@ module _ (lim : TableLimits) (ws ls : List ℕ) where
       ∙ pick_no _ _ _ l
       ∙ pick_no _ _ _ (le-ltb at (node_count ws) (omega arith))
       ∙ ap (λ (j : ℕ). pick (ltb j last) (tree_refusal ws ls j) accepted) (not_once_is ws ls last)
-      ∙ ap (λ (us : List ℕ). pick (ltb j last) (not_aTree j (first_two us)) accepted) (users_are ws ls j)
+      ∙ ap (λ (us : List ℕ). pick (ltb j last) (not_a_tree j (first_two us)) accepted) (users_are ws ls j)
 
   pub few_nodes : too_large lim ws ls ≡ false → node_count ws ≤ lim.nodes
   unfolding too_large

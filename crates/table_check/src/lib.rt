@@ -1,4 +1,6 @@
 // The table checker: which formula tables are accepted, and the exact refusal of every other.
+#![tactic(auto)]
+
 ghost use Rattle.std.specs.Prelude.{true, ◌≡◌, ℕ, ◌+◌, ◌≤◌, ◌<◌, get_or};
 ghost use Rattle.lists.specs.Members.{times};
 ghost use Rattle.lists.specs.Parts.{sum};

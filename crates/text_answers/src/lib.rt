@@ -1,4 +1,6 @@
 // What the calls from a text answer: made, and put into C's words.
+#![tactic(auto)]
+
 ghost use Rattle.std.specs.Prelude.{◌≡◌};
 ghost use Rattle.refusals.specs.Verdict.{refusal, Plain};
 ghost use Rattle.refusals.specs.Outcome.{refused as refused_of};

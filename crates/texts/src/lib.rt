@@ -1,6 +1,8 @@
 // Bytes and numbers written to a buffer. A call puts a piece at an index of the buffer and hands back the
 // index after it. The buffer then holds the piece if it fits, and a piece is counted whether it fits or not:
 // a run over an empty buffer tells the size.
+#![tactic(auto)]
+
 ghost use Rattle.std.specs.Prelude.{◌≡◌, ◌+◌, ◌*◌, ◌-◌, ◌≤◌, ◌<◌, length};
 ghost use Rattle.lists.specs.Parts.{overwrite};
 ghost use Rattle.texts.specs.Numerals.{digits};

@@ -21,7 +21,7 @@ use Rattle.formula.specs.Words.{node_count, is_block_kind, words_at, node_of, no
 use Rattle.formula.specs.declared.NodeWords.{NodeWords}
 use Rattle.formula.specs.Tree.{times_named}
 use Rattle.formula.proofs.Nodes.{Kind, kind_of_lem, kind_constant, kind_variable, kind_negation, kind_operator, kind_exists, kind_for_all, kind_none}
-use Rattle.refusals.specs.Verdict.{first_two, not_aTree, accepted}
+use Rattle.refusals.specs.Verdict.{first_two, not_a_tree, accepted}
 use Rattle.refusals.specs.declared.Verdict.{Verdict}
 use Rattle.acceptance.specs.Limits.{limit}
 use Rattle.acceptance.specs.Verdict.{not_named_once}
@@ -151,7 +151,7 @@ module _ (ws named : List ℕ) (counted : Counted ws named (node_count ws)) (j :
 
   -- refusal 8 at a node
   abbrev refused : ℕ → Verdict
-  refused k = not_aTree k (first_two (users_below ws k (node_count ws)))
+  refused k = not_a_tree k (first_two (users_below ws k (node_count ws)))
 
   verdict_at : tree_verdict ws ≡ pick (ltb j (node_count ws - 1)) (refused j) accepted
   unfolding tree_verdict

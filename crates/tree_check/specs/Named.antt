@@ -7,7 +7,7 @@ use Rattle.lists.specs.Members.{times}
 use Rattle.lists.specs.Parts.{up_to, sum}
 use Rattle.formula.specs.Words.{node_count, is_block_kind, words_at}
 use Rattle.formula.specs.declared.NodeWords.{NodeWords}
-use Rattle.refusals.specs.Verdict.{first_two, not_aTree, accepted}
+use Rattle.refusals.specs.Verdict.{first_two, not_a_tree, accepted}
 use Rattle.refusals.specs.declared.Verdict.{Verdict}
 use Rattle.acceptance.specs.Limits.{limit}
 use Rattle.tree_check.specs.declared.FirstUsers.{FirstUsers}
@@ -49,4 +49,4 @@ unfoldable pub tree_verdict : List ℕ → Verdict
 tree_verdict ws =
     let n = node_count ws in
     let j = lowest (λ j. not (eqb (named_below ws j n) 1)) (n - 1) in
-    pick (ltb j (n - 1)) (not_aTree j (first_two (users_below ws j n))) accepted
+    pick (ltb j (n - 1)) (not_a_tree j (first_two (users_below ws j n))) accepted

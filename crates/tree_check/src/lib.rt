@@ -1,4 +1,6 @@
 // The test that a table is a tree: how often each node is named, refusal 8, and the users of its node.
+#![tactic(auto)]
+
 ghost use Rattle.std.specs.Prelude.{true, not, List, [], ◌∷◌, ◌++◌, ◌≡◌, ℕ, ◌+◌, ◌<◌, ◌≤◌, eqb, length, get_or, replicate};
 ghost use Rattle.lists.specs.Choice.{pick};
 ghost use Rattle.lists.specs.Search.{lowest};

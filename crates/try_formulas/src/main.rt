@@ -1,5 +1,7 @@
 // Document 01's "Formulas to try": each formula's name and what measuring or lifting says of it; and
 // tables whose prenex forms were worked out by hand.
+#![tactic(auto)]
+
 mod by_hand;
 mod notation;
 mod output;

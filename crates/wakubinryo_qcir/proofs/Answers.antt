@@ -14,5 +14,5 @@ abbrev Said : List ℕ → Buffers → Outcome Written Buffers → Type 0
 Said text before o = Reading limits text before o × (Only limits text before o × TableWritten limits.names text o)
 
 -- what is promised of an answer holds of an equal one
-pub read-said : (text words list words' list' : List ℕ) (r : Answer) (a : AnswerWith Written) → a ≡ answer_of r → Said text (buffers words list) (after r (buffers words' list')) → Said text (buffers words list) (record { answer = a; buffers = buffers words' list' })
-read-said text words list words' list' r a e h = subst (λ (x : AnswerWith Written). Said text (buffers words list) (record { answer = x; buffers = buffers words' list' })) (sym e) h
+pub read_said : (text words list words' list' : List ℕ) (r : Answer) (a : AnswerWith Written) → a ≡ answer_of r → Said text (buffers words list) (after r (buffers words' list')) → Said text (buffers words list) (record { answer = a; buffers = buffers words' list' })
+read_said text words list words' list' r a e h = subst (λ (x : AnswerWith Written). Said text (buffers words list) (record { answer = x; buffers = buffers words' list' })) (sym e) h

@@ -1,5 +1,7 @@
 // The C interface of files: reading QCIR, and writing QCIR and QDIMACS, under their C names.
 // include/wakubinryo.h says the promises in words.
+#![tactic(auto)]
+
 ghost use Rattle.std.specs.Prelude.{◌≡◌};
 ghost use Rattle.refusals.specs.Verdict.{Plain};
 ghost use Rattle.qcir.specs.FromText.{limits};

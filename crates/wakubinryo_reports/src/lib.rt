@@ -1,4 +1,6 @@
 // The C interface of growth reports, under C names. include/wakubinryo.h says each promise in words.
+#![tactic(auto)]
+
 ghost use Rattle.std.specs.Prelude.{◌≤◌, ◌≡◌};
 ghost use Rattle.refusals.specs.Verdict.{Plain};
 ghost use Rattle.form_texts.specs.Words.{said_outcome};

@@ -12,10 +12,10 @@ pub said : {Sizes Buffers : Type 0} (a b : AnswerWith Sizes) (held : Buffers) (o
 said {Sizes} {Buffers} a b held o e out = ap (λ (x : AnswerWith Sizes). record { answer = x; buffers = held }) e ∙ out
 
 -- what is promised of it holds of that one too
-pub promise-said : {Sizes Buffers : Type 0} (P : Outcome Sizes Buffers → Type 0) (a b : AnswerWith Sizes) (held : Buffers) → a ≡ b
+pub promise_said : {Sizes Buffers : Type 0} (P : Outcome Sizes Buffers → Type 0) (a b : AnswerWith Sizes) (held : Buffers) → a ≡ b
     → P (record { answer = b; buffers = held }) → P (record { answer = a; buffers = held })
-promise-said {Sizes} P a b held e = subst (λ (x : AnswerWith Sizes). P (record { answer = x; buffers = held })) (sym e)
+promise_said {Sizes} P a b held e = subst (λ (x : AnswerWith Sizes). P (record { answer = x; buffers = held })) (sym e)
 
 -- what is promised of an answer's sizes holds of those of an equal one
-pub sizes-said : (t : Table) (a b : AnswerWith Sizes) → a ≡ b → SizesWritten t b → SizesWritten t a
-sizes-said t a b e = subst (SizesWritten t) (sym e)
+pub sizes_said : (t : Table) (a b : AnswerWith Sizes) → a ≡ b → SizesWritten t b → SizesWritten t a
+sizes_said t a b e = subst (SizesWritten t) (sym e)

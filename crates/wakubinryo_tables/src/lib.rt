@@ -1,5 +1,7 @@
 // The C interface of formula tables: measuring, lifting, listing free variables and removing empty
 // blocks under C names. include/wakubinryo.h says each promise in words.
+#![tactic(auto)]
+
 ghost use Rattle.std.specs.Prelude.{◌≡◌};
 ghost use Rattle.free_variables.specs.Outcome.{listed};
 ghost use Rattle.prenex.specs.Outcome.{table_in, answer_of, measured, buffers, lifted, SizesWritten, FormWritten};

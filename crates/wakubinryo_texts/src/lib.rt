@@ -1,5 +1,7 @@
 // The C interface from text to text: lifting and measuring QCIR texts, under C names.
 // include/wakubinryo.h says each promise in words.
+#![tactic(auto)]
+
 ghost use Rattle.std.specs.Prelude.{◌≡◌};
 ghost use Rattle.refusals.specs.Verdict.{refusal};
 ghost use Rattle.qcir.specs.FromText.{refused_text};

@@ -8,7 +8,7 @@ use borrow.Author.Rules.{rules}
 use Rattle.formula.specs.Words.{table_of}
 use Rattle.binders.specs.Scope.{Open}
 use Rattle.binders.proofs.Tables.{node_within}
-use Rattle.binders.proofs.Blocks.{BlockAt, block_at, counted, entry_lt, range-lt, entry_head, entry_put, enter_start, enter_end}
+use Rattle.binders.proofs.Blocks.{BlockAt, block_at, counted, entry_lt, range_lt, entry_head, entry_put, enter_start, enter_end}
 use Rattle.binders.proofs.enter.Statement.{statement}
 use Rattle.binders.proofs.enter.Tie as tie
 
@@ -47,7 +47,7 @@ mul-put-entry : tie.Need-overflow-mul-put-entry invariant-loop decreases-loop
 mul-put-entry c = search rules
 
 shared-slice-read-put-entry : tie.Need-shared-slice-read-put-entry invariant-loop decreases-loop
-shared-slice-read-put-entry c = let l = c.before.before.before in range-lt l.before.loop.invariant.0 _ (turn l)
+shared-slice-read-put-entry c = let l = c.before.before.before in range_lt l.before.loop.invariant.0 _ (turn l)
 
 add-put-entry-2 : tie.Need-overflow-add-put-entry-2 invariant-loop decreases-loop
 add-put-entry-2 c = let l = c.before.before.before in omega (arith, entry_lt l.before.loop.invariant.0 _ (turn l))

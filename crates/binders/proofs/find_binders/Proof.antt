@@ -3,8 +3,8 @@
 use native.Mathlib.Omega.{arith}
 use borrow.Author.Rules.{rules}
 use Rattle.formula.specs.Words.{table_of}
-use Rattle.acceptance.proofs.Accepted.{accepted-holds}
-use Rattle.prenex_form.proofs.Limits.{highest-limit}
+use Rattle.acceptance.proofs.Accepted.{accepted_holds}
+use Rattle.prenex_form.proofs.Limits.{highest_limit}
 use Rattle.binders.proofs.Outside.{open_outside}
 use Rattle.binders.proofs.find_binders.Statement.{statement}
 use Rattle.binders.proofs.find_binders.Tie as tie
@@ -19,7 +19,7 @@ walk-requires : tie.Need-walk-requires
 unfolding table_of
 walk-requires c κs =
     let s = c.before.before.before.before.before.before.before.before.before.before.before in
-    let a = accepted-holds _ _ s.requires.0.accepts in
+    let a = accepted_holds _ _ s.requires.0.accepts in
     (s.requires.0, (s.requires.1.1, open_outside (table_of s.args.words.now s.args.list.now) a.proper.tree 4096 (omega (arith, s.requires.1.0, c.before.before.before.if1.true))))
 
 same_length : tie.Need-same-length
@@ -38,8 +38,8 @@ walk-requires-2 : tie.Need-walk-requires-2
 unfolding table_of
 walk-requires-2 c κs =
     let s = c.before.before.before.before.before.before.before.before.before.before.before in
-    let a = accepted-holds _ _ s.requires.0.accepts in
-    (s.requires.0, (s.requires.1.1, open_outside (table_of s.args.words.now s.args.list.now) a.proper.tree 65536 (omega (arith, highest-limit _ _ a))))
+    let a = accepted_holds _ _ s.requires.0.accepts in
+    (s.requires.0, (s.requires.1.1, open_outside (table_of s.args.words.now s.args.list.now) a.proper.tree 65536 (omega (arith, highest_limit _ _ a))))
 
 same-length-2 : tie.Need-same-length-2
 same-length-2 c = search rules

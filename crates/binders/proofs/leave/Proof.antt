@@ -9,7 +9,7 @@ use Rattle.formula.specs.Words.{table_of}
 use Rattle.acceptance.specs.Limits.{limit}
 use Rattle.binders.specs.Scope.{Open}
 use Rattle.binders.proofs.Tables.{node_within}
-use Rattle.binders.proofs.Blocks.{BlockAt, block_at, counted, entry_lt, range-lt, entry_head, entry_taken, leave_start, leave_end}
+use Rattle.binders.proofs.Blocks.{BlockAt, block_at, counted, entry_lt, range_lt, entry_head, entry_taken, leave_start, leave_end}
 use Rattle.binders.proofs.leave.Statement.{statement}
 use Rattle.binders.proofs.leave.Tie as tie
 
@@ -24,7 +24,7 @@ turn : (c : tie.In-loop invariant-loop decreases-loop) → c.before.loop.k < c.b
 turn c = omega arith
 
 in_list : (c : tie.In-loop invariant-loop decreases-loop) → c.before.before.before.before.Node-at.result.a + c.before.loop.k < length c.before.before.before.before.before.before.before.before.before.args.list.now
-in_list c = range-lt c.before.loop.invariant.0 _ (turn c)
+in_list c = range_lt c.before.loop.invariant.0 _ (turn c)
 
 few : (c : tie.In-loop invariant-loop decreases-loop) → c.before.before.before.before.before.before.before.before.before.args.start + c.before.loop.k < limit
 few c = entry_lt c.before.loop.invariant.0 _ (turn c)

@@ -12,7 +12,7 @@ use Rattle.formula.specs.declared.NodeWords.{NodeWords}
 use Rattle.acceptance.specs.Limits.{limit}
 use Rattle.binders.proofs.Tables.{kind_block}
 use Rattle.binders.proofs.Search.{variable_head, head_binds}
-use Rattle.binders.proofs.Walked.{block_left, Indexed, indexed, start_at, steps_few, count_few, leaves, link-lt, link-is_member, link_open, passes, enters}
+use Rattle.binders.proofs.Walked.{block_left, Indexed, indexed, start_at, steps_few, count_few, leaves, link_lt, link-is_member, link_open, passes, enters}
 use Rattle.binders.proofs.step.Statement.{statement}
 use Rattle.binders.proofs.step.Tie as tie
 
@@ -41,7 +41,7 @@ at-node c = let n = c.if1.false in omega arith
 come-by : (c : tie.Else1) → Known (entry c.before) ((entry c.before).args.place.link - 1)
 come-by c =
     let s = entry c.before in
-    indexed s.pre.0 _ (link-lt s.pre.1.0 (at-node c))
+    indexed s.pre.0 _ (link_lt s.pre.1.0 (at-node c))
 
 -- where its words have been read
 abbrev read : tie.After-struct-known4 → tie.Else1

@@ -63,7 +63,7 @@ returns c =
       started = record { checked = p.0; started = e.1.0; starts_long = k.1.1.1.1.1.0 ∙ p.1.1.1.0 };
       bound = record { bindings_length = f.auto.1.1.1.1.1.1.1.0 ∙ p.1.1.1.1; bindings_hold = f.ensures.0 };
       highest_is = e.1.1.0;
-      highest-limit = e.1.1.1;
+      highest_limit = e.1.1.1;
     }
 
 pub find-bindings-spec : {M : Type 1} → statement M

@@ -9,7 +9,7 @@ use Rattle.formula.specs.Words.{node_count, table_of}
 use Rattle.acceptance.specs.Limits.{limit}
 use Rattle.arrays.proofs.Nodes.{accepted_tree}
 use Rattle.chains.specs.Chaining.{LevelsFrom}
-use Rattle.chains.proofs.Chaining.{levels-none, levels-done}
+use Rattle.chains.proofs.Chaining.{levels_none, levels_done}
 use Rattle.chains.proofs.chain_levels.Statement.{statement}
 use Rattle.chains.proofs.chain_levels.Tie as tie
 
@@ -32,7 +32,7 @@ loop-holds c =
     let s = c.before.before.before.before.before in
     let n = some_node_lem s in
     let f = s.requires.1.1 in
-    (omega arith, f.firsts_length, f.nexts_length, levels-none s.args.words.now s.args.list.now _ _ _ (omega arith) f)
+    (omega arith, f.firsts_length, f.nexts_length, levels_none s.args.words.now s.args.list.now _ _ _ (omega arith) f)
 
 sub-i-2 : tie.Need-overflow-sub-i-2 invariant-loop decreases-loop
 sub-i-2 c = search rules
@@ -65,7 +65,7 @@ returns : tie.Need-returns invariant-loop decreases-loop
 returns c =
     let s = c.before.before.before.before.before.before.before in
     let l = c.before.loop in
-    levels-done s.args.words.now s.args.list.now _ _ _ (omega (arith, c.loop-test.false)) l.invariant.3
+    levels_done s.args.words.now s.args.list.now _ _ _ (omega (arith, c.loop-test.false)) l.invariant.3
 
 pub chain-levels-spec : {M : Type 1} → statement M
 chain-levels-spec =

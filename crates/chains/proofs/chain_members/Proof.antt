@@ -5,10 +5,10 @@ use mathlib.Core.Path.{◌≡◌, sym, ◌∙◌}
 use Prim.Native.Nat.{◌≤◌}
 use native.Mathlib.Omega.{arith}
 use Rattle.formula.specs.Words.{node_count, table_of}
-use Rattle.acceptance.proofs.Accepted.{accepted-holds}
-use Rattle.prenex_form.proofs.Limits.{highest-limit}
+use Rattle.acceptance.proofs.Accepted.{accepted_holds}
+use Rattle.prenex_form.proofs.Limits.{highest_limit}
 use Rattle.chains.specs.Chaining.{ChainedFrom}
-use Rattle.chains.proofs.Chaining.{passed_none, members_done, starts_done, highest-done}
+use Rattle.chains.proofs.Chaining.{passed_none, members_done, starts_done, highest_done}
 use Rattle.chains.proofs.chain_members.Statement.{statement}
 use Rattle.chains.proofs.chain_members.Tie as tie
 
@@ -52,8 +52,8 @@ returns c =
     let s = c.before.before.before.before.before.before.before.before.before in
     let l = c.before.before.loop in
     let z : l.passed.node ≡ 0 = omega (arith, c.if1.false) in
-    let h = highest-done s.args.words.now s.args.list.now _ _ _ _ _ z l.invariant.1 in
-    let k = highest-limit s.args.words.now s.args.list.now (accepted-holds s.args.words.now s.args.list.now s.requires.0) in
+    let h = highest_done s.args.words.now s.args.list.now _ _ _ _ _ z l.invariant.1 in
+    let k = highest_limit s.args.words.now s.args.list.now (accepted_holds s.args.words.now s.args.list.now s.requires.0) in
     (members_done s.args.words.now s.args.list.now _ _ _ _ _ z l.invariant.1, (starts_done s.args.words.now s.args.list.now _ _ _ _ _ z l.invariant.1, (h, omega (arith, h, k))))
 
 pub chain-members-spec : {M : Type 1} → statement M

@@ -13,7 +13,7 @@ use Rattle.arrays.proofs.Members.{block_member}
 use Rattle.arrays.proofs.Nodes.{block_read}
 use Rattle.chains.specs.Chaining.{ChainedFrom}
 use Rattle.chains.proofs.Nodes.{variable_member, index_lt, index_fits}
-use Rattle.chains.proofs.Chaining.{entries-within, start_fits, start_narrow, variable_passed, plain_passed, block_passed}
+use Rattle.chains.proofs.Chaining.{entries_within, start_fits, start_narrow, variable_passed, plain_passed, block_passed}
 use Rattle.chains.proofs.chain_node.Statement.{statement}
 use Rattle.chains.proofs.chain_node.Tie as tie
 
@@ -119,7 +119,7 @@ highest-entry-requires : tie.Need-highest-entry-requires
 highest-entry-requires c κs =
     let b = c.before.before.before.before.before.before.before.before.before.before.before in
     let s = entry (read b) in
-    entries-within s.args.words.now s.args.list.now s.pre.0 (s.args.passed.node - 1) (below s) _ (read b).Node-at.ensures (block_here b)
+    entries_within s.args.words.now s.args.list.now s.pre.0 (s.args.passed.node - 1) (below s) _ (read b).Node-at.ensures (block_here b)
 
 larger-requires-2 : tie.Need-larger-requires-2
 larger-requires-2 c κs = search rules

@@ -6,7 +6,7 @@ use native.Mathlib.Omega.{arith}
 use borrow.Author.Rules.{rules}
 use Rattle.lists.specs.Members.{maximum}
 use Rattle.formula.specs.Words.{range}
-use Rattle.chains.proofs.Highest.{maximum-none, maximum_next}
+use Rattle.chains.proofs.Highest.{maximum_none, maximum_next}
 use Rattle.chains.proofs.highest_entry.Statement.{statement}
 use Rattle.chains.proofs.highest_entry.Tie as tie
 
@@ -17,7 +17,7 @@ abbrev decreases-loop : tie.decreases-loop
 decreases-loop list first count highest₀ k₀ highest k = count - k
 
 loop-holds : tie.Need-loop-init invariant-loop decreases-loop
-loop-holds c = (omega arith, maximum-none _ _)
+loop-holds c = (omega arith, maximum_none _ _)
 
 add-larger : tie.Need-overflow-add-larger invariant-loop decreases-loop
 add-larger c = search rules

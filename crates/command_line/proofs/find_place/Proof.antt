@@ -7,7 +7,7 @@ use lib.Seq.{take_all}
 use borrow.Author.Rules.{rules}
 use native.Mathlib.Omega.{arith}
 use Rattle.command_line.specs.Place.{line, column, next_line, next_column, through}
-use Rattle.command_line.proofs.Places.{through_next, line-bound, column-bound}
+use Rattle.command_line.proofs.Places.{through_next, line_bound, column_bound}
 use Rattle.command_line.proofs.find_place.Statement.{statement}
 use Rattle.command_line.proofs.find_place.Tie as tie
 
@@ -53,8 +53,8 @@ loop-again c =
     let made = c.after.ensures in
     let l : turn.here.line ≤ turn.at + 1 = turn.invariant.4 in
     let m : turn.here.column ≤ turn.at + 1 = turn.invariant.5 in
-    let lb = line-bound turn.here.line byte in
-    let cb = column-bound turn.here.column byte in (
+    let lb = line_bound turn.here.line byte in
+    let cb = column_bound turn.here.column byte in (
       made.0 ∙ ap (λ x. next_line x byte) turn.invariant.0 ∙ sym (through_next next_line 1 text turn.at inside),
       made.1 ∙ ap (λ x. next_column x byte) turn.invariant.1 ∙ sym (through_next next_column 1 text turn.at inside),
       omega arith,

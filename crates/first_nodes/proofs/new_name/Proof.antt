@@ -2,7 +2,7 @@
 -- Assumes nothing.
 use native.Mathlib.Omega.{arith}
 use borrow.Author.Rules.{rules}
-use Rattle.acceptance.proofs.Accepted.{accepted-holds}
+use Rattle.acceptance.proofs.Accepted.{accepted_holds}
 use Rattle.first_nodes.proofs.Renamed.{keeps_number, name_small, takes_name}
 use Rattle.first_nodes.proofs.new_name.Statement.{statement}
 use Rattle.first_nodes.proofs.new_name.Tie as tie
@@ -13,7 +13,7 @@ mul-entry c = search rules
 shared-slice-read-entry : tie.Need-shared-slice-read-entry
 shared-slice-read-entry c =
     let p = c.before.requires in
-    omega (arith, (accepted-holds _ _ p.0.accepts).nodes_limit, p.0.entries-bound.bindings_length, p.1.0)
+    omega (arith, (accepted_holds _ _ p.0.accepts).nodes_limit, p.0.entries_bound.bindings_length, p.1.0)
 
 cast-entry : tie.Need-overflow-cast-entry
 cast-entry c = search (rules, c.shared-slice-known.given c.before.args.i)

@@ -6,15 +6,15 @@ use native.Mathlib.Omega.{arith}
 use borrow.Author.Rules.{rules}
 use Rattle.formula.specs.Words.{node_count, table_of}
 use Rattle.acceptance.specs.Accepted.{Accepted}
-use Rattle.acceptance.proofs.Accepted.{accepted-holds}
+use Rattle.acceptance.proofs.Accepted.{accepted_holds}
 use Rattle.first_nodes.proofs.Defined.{name_left, named_none, is_definition_lem, named_next}
-use Rattle.first_nodes.proofs.Renamed.{kept-lt, kept_node, written, is_inner, not_inner, variable_is, variable_form, block_form, copy_form}
+use Rattle.first_nodes.proofs.Renamed.{kept_lt, kept_node, written, is_inner, not_inner, variable_is, variable_form, block_form, copy_form}
 use Rattle.first_nodes.proofs.write_node.Statement.{statement}
 use Rattle.first_nodes.proofs.write_node.Tie as tie
 
 -- the table is accepted, and has the node
 accepted-table : (s : tie.Start) → Accepted s.args.words.now s.args.list.now
-accepted-table s = accepted-holds _ _ s.requires.0.accepts
+accepted-table s = accepted_holds _ _ s.requires.0.accepts
 
 node_in : (s : tie.Start) → s.args.i < node_count s.args.words.now
 node_in s = kept_node _ _ (accepted-table s) _ s.requires.1.1.1.0
@@ -55,7 +55,7 @@ returns c =
 take-requires : tie.Need-take-requires
 take-requires c κs =
     let s = entry c.before.before.before in
-    name_left _ _ _ s.pre.1.0 (accepted-table s) (kept-lt _ _ s.pre.1.1.1.0)
+    name_left _ _ _ s.pre.1.0 (accepted-table s) (kept_lt _ _ s.pre.1.1.1.0)
 
 mul-definitions : tie.Need-overflow-mul-definitions
 mul-definitions c = search rules
@@ -88,7 +88,7 @@ returns-2 c =
     let form = block_form _ _ d _ h read y.if2.true _ (is_definition_lem _ _ _ s.pre.1.0 _ handed.0) in (
       written _ _ d _ h (c.before.before.before.before.variable-node2.ensures ∙ form) _ _
           c.before.before.before.put-node2.ensures,
-      named_next _ _ _ s.pre.1.0 _ handed.0 d (kept-lt _ _ h) s.pre.1.1.0 (is_inner _ _ d _ h read y.if2.true)
+      named_next _ _ _ s.pre.1.0 _ handed.0 d (kept_lt _ _ h) s.pre.1.1.0 (is_inner _ _ d _ h read y.if2.true)
           handed.1,
     )
 

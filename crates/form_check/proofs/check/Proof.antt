@@ -5,7 +5,7 @@ use native.Mathlib.Omega.{arith}
 use borrow.Author.Rules.{rules}
 use Rattle.form_check.specs.Verdict.{form_limits}
 use Rattle.form_check.proofs.Order.{form_refused, form_passed}
-use Rattle.form_check.proofs.Flags.{flagged-none, flags_bind}
+use Rattle.form_check.proofs.Flags.{flagged_none, flags_bind}
 use Rattle.form_check.proofs.check.Statement.{statement}
 use Rattle.form_check.proofs.check.Tie as tie
 
@@ -28,7 +28,7 @@ returns c =
     )
 
 check-prefix-requires : tie.Need-check-prefix-requires
-check-prefix-requires c κs = flagged-none _ c.before.before.before.before.before.before.before.before.requires.0 c.before.before.before.before.before.before.before.before.requires.1
+check-prefix-requires c κs = flagged_none _ c.before.before.before.before.before.before.before.before.requires.0 c.before.before.before.before.before.before.before.before.requires.1
 
 same_length : tie.Need-same-length
 same_length c = c.before.before.check-prefix.auto.1.1.0

@@ -8,11 +8,11 @@ use lib.ListN.{length}
 use borrow.Author.Count.{below_more}
 use borrow.Author.Rules.{rules}
 use borrow.Author.Tests.{not-true, not-false}
-use Rattle.lists.proofs.Search.{lowest_is, lowest-none}
+use Rattle.lists.proofs.Search.{lowest_is, lowest_none}
 use Rattle.formula.specs.Form.{prefix_width}
 use Rattle.form_check.specs.Verdict.{form_limits, names_before, bad_block}
 use Rattle.form_check.specs.Steps.{NamesFlagged}
-use Rattle.form_check.proofs.Names.{names-none}
+use Rattle.form_check.proofs.Names.{names_none}
 use Rattle.form_check.proofs.first_bad.Statement.{statement}
 use Rattle.form_check.proofs.first_bad.Tie as tie
 
@@ -24,7 +24,7 @@ abbrev decreases-loop : tie.decreases-loop
 decreases-loop prefix variables bound₀ highest₀ m j₀ bound highest j = length prefix / prefix_width - j
 
 loop-holds : tie.Need-loop-init invariant-loop decreases-loop
-loop-holds c = (omega arith, rw (names-none c.before.before.before.args.prefix.now c.before.before.before.args.variables.now) c.before.before.before.requires, λ k l. absurd (omega arith))
+loop-holds c = (omega arith, rw (names_none c.before.before.before.args.prefix.now c.before.before.before.args.variables.now) c.before.before.before.requires, λ k l. absurd (omega arith))
 
 take-block-requires : tie.Need-take-block-requires invariant-loop decreases-loop
 take-block-requires c κs = (c.before.before.loop-test.true, c.before.before.before.loop.invariant.1)
@@ -58,7 +58,7 @@ returns-2 : tie.Need-returns-2 invariant-loop decreases-loop
 returns-2 c =
     let l = c.before.loop in
     let all : length c.before.before.before.before.before.args.prefix.now / prefix_width ≡ l.j = omega arith in
-    (sym (lowest-none _ _ (λ k h. l.invariant.2 k (omega arith))), λ e. rw all l.invariant.1)
+    (sym (lowest_none _ _ (λ k h. l.invariant.2 k (omega arith))), λ e. rw all l.invariant.1)
 
 pub first-bad-spec : {M : Type 1} → statement M
 first-bad-spec =

@@ -9,7 +9,7 @@ use lib.ListN.{length}
 use borrow.Author.Rules.{rules}
 use borrow.Author.Tests.{not-true, not-false}
 use Rattle.form_check.specs.Steps.{NamesFlagged}
-use Rattle.form_check.proofs.Flags.{Reached, reached-start, reached_bad, reached_next, reached_new, reached-flagged}
+use Rattle.form_check.proofs.Flags.{Reached, reached_start, reached_bad, reached_next, reached_new, reached_flagged}
 use Rattle.form_check.proofs.flag_names.Statement.{statement}
 use Rattle.form_check.proofs.flag_names.Tie as tie
 
@@ -21,7 +21,7 @@ abbrev decreases-loop : tie.decreases-loop
 decreases-loop variables bound₀ highest₀ first end k₀ bound highest k = end - k
 
 loop-holds : tie.Need-loop-init invariant-loop decreases-loop
-loop-holds c = (omega arith, c.before.before.requires.0.0, c.before.before.requires.1, λ before f. reached-start _ before _ _ _ _ f)
+loop-holds c = (omega arith, c.before.before.requires.0.0, c.before.before.requires.1, λ before f. reached_start _ before _ _ _ _ f)
 
 mul-flag-name : tie.Need-overflow-mul-flag-name invariant-loop decreases-loop
 mul-flag-name c = search rules
@@ -65,7 +65,7 @@ same-length-2 c = c.before.loop.invariant.2 ∙ sym c.before.before.before.befor
 returns-2 : tie.Need-returns-2 invariant-loop decreases-loop
 returns-2 c = λ before f.
     let p = c.before.loop.invariant.3 before f in
-    (reached_new _ before _ _ _ _ _ p c.loop-test.false, λ z. reached-flagged _ before _ _ _ _ _ p c.loop-test.false)
+    (reached_new _ before _ _ _ _ _ p c.loop-test.false, λ z. reached_flagged _ before _ _ _ _ _ p c.loop-test.false)
 
 pub flag-names-spec : {M : Type 1} → statement M
 flag-names-spec =

@@ -7,8 +7,8 @@ use borrow.Author.Rules.{rules}
 use Rattle.lists.specs.Parts.{overwrite}
 use Rattle.formula.specs.Words.{table_of}
 use Rattle.arrays.proofs.Nodes.{accepted_tree}
-use Rattle.free_variables.proofs.Flags.{flags_few, flagged-free}
-use Rattle.free_variables.proofs.Listing.{listing_short, listing-done}
+use Rattle.free_variables.proofs.Flags.{flags_few, flagged_free}
+use Rattle.free_variables.proofs.Listing.{listing_short, listing_done}
 use Rattle.free_variables.proofs.list_flagged.Statement.{statement}
 use Rattle.free_variables.proofs.list_flagged.Tie as tie
 
@@ -26,7 +26,7 @@ unfolding table_of
 returns c =
     let s = c.before.before.before.before.before.before.before.before.before.before.before.before in
     let m = c.before.before.before.before.before.flag-unbound.ensures in
-    let e = flagged-free (table_of s.args.words.now s.args.list.now) (accepted_tree s.args.words.now s.args.list.now s.requires.0) _ _ m in
+    let e = flagged_free (table_of s.args.words.now s.args.list.now) (accepted_tree s.args.words.now s.args.list.now s.requires.0) _ _ m in
     listing_short _ _ _ c.refusal.ensures (omega (arith, ap length e, m.are_set.count_is, c.before.if1.true))
 
 write-flagged-requires : tie.Need-write-flagged-requires
@@ -53,8 +53,8 @@ unfolding table_of
 returns-2 c =
     let s = c.before.before.before.before.before.before.before.before.before.before.before.before.before.before.before.before.before.before in
     let m = c.before.before.before.before.before.before.before.before.before.before.before.flag-unbound.ensures in
-    let e = flagged-free (table_of s.args.words.now s.args.list.now) (accepted_tree s.args.words.now s.args.list.now s.requires.0) _ _ m in
-    listing-done _ _ _ c.before.accepted.ensures (omega (arith, ap length e, m.are_set.count_is, c.before.before.before.before.before.before.before.if1.false)) _ (m.are_set.count_is ∙ ap length e) _ (c.before.before.before.before.write-flagged.ensures ∙ ap (overwrite s.args.names.now 0) e)
+    let e = flagged_free (table_of s.args.words.now s.args.list.now) (accepted_tree s.args.words.now s.args.list.now s.requires.0) _ _ m in
+    listing_done _ _ _ c.before.accepted.ensures (omega (arith, ap length e, m.are_set.count_is, c.before.before.before.before.before.before.before.if1.false)) _ (m.are_set.count_is ∙ ap length e) _ (c.before.before.before.before.write-flagged.ensures ∙ ap (overwrite s.args.names.now 0) e)
 
 pub list-flagged-spec : {M : Type 1} → statement M
 list-flagged-spec =

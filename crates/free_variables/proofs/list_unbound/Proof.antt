@@ -3,8 +3,8 @@
 use native.Mathlib.Omega.{arith}
 use borrow.Author.Rules.{rules}
 use Rattle.formula.specs.Words.{table_of}
-use Rattle.acceptance.proofs.Accepted.{accepted-holds}
-use Rattle.prenex_form.proofs.Limits.{highest-limit}
+use Rattle.acceptance.proofs.Accepted.{accepted_holds}
+use Rattle.prenex_form.proofs.Limits.{highest_limit}
 use Rattle.free_variables.proofs.Flags.{flags_none}
 use Rattle.free_variables.proofs.list_unbound.Statement.{statement}
 use Rattle.free_variables.proofs.list_unbound.Tie as tie
@@ -29,7 +29,7 @@ slice-aggregate-list-flagged-2 c = search rules
 list-flagged-requires-2 : tie.Need-list-flagged-requires-2
 list-flagged-requires-2 c κs =
     let s = c.before.before.before.before.before.before.before in
-    let h = highest-limit s.args.words.now s.args.list.now (accepted-holds s.args.words.now s.args.list.now s.requires.0) in
+    let h = highest_limit s.args.words.now s.args.list.now (accepted_holds s.args.words.now s.args.list.now s.requires.0) in
     (s.requires.0, (s.requires.1.0, flags_none (table_of s.args.words.now s.args.list.now) 65536 (omega (arith, h)) (omega arith)))
 
 same-length-2 : tie.Need-same-length-2

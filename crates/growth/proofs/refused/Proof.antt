@@ -1,7 +1,7 @@
 -- `growth::refused` meets its contract.
 -- Assumes nothing.
 use borrow.Author.Rules.{rules}
-use Rattle.refusals.specs.Outcome.{refused as refusedOf}
+use Rattle.refusals.specs.Outcome.{refused as refused_of}
 use Rattle.growth.proofs.refused.Statement.{statement}
 use Rattle.growth.proofs.refused.Tie as tie
 
@@ -12,7 +12,7 @@ no-totals-requires : tie.Need-no-totals-requires
 no-totals-requires c κs = search rules
 
 returns : tie.Need-returns
-unfolding refusedOf
+unfolding refused_of
 returns c = λ k. record { verdict = c.before.refusal.ensures k; sizes = c.no-totals.ensures k }
 
 pub refused-spec : {M : Type 1} → statement M

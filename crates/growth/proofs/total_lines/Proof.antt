@@ -5,16 +5,16 @@ use Prim.Native.Nat.{◌*◌, ◌-◌, ◌≤◌}
 use native.Mathlib.Omega.{arith}
 use borrow.Author.Rules.{rules}
 use Rattle.growth.specs.Lines.{line_at}
-use Rattle.growth.specs.Totals.{totals as totalsOf}
+use Rattle.growth.specs.Totals.{totals as totals_of}
 use Rattle.growth.specs.Steps.{with_line}
 use Rattle.growth.specs.Bounds.{Within}
-use Rattle.growth.proofs.Steps.{totals-start, totals_next, within-start, within_more}
+use Rattle.growth.proofs.Steps.{totals_start, totals_next, within_start, within_more}
 use Rattle.growth.proofs.total_lines.Statement.{statement}
 use Rattle.growth.proofs.total_lines.Tie as tie
 
 abbrev invariant-loop : tie.invariant-loop
 invariant-loop lines count totals₀ i₀ totals i =
-    (totals ≡ totalsOf (line_at lines) i) × Within (4294967295 * i) totals × (i ≤ count)
+    (totals ≡ totals_of (line_at lines) i) × Within (4294967295 * i) totals × (i ≤ count)
 
 abbrev decreases-loop : tie.decreases-loop
 decreases-loop lines count totals₀ i₀ totals i = count - i
@@ -25,7 +25,7 @@ no-totals-requires c κs = search rules
 loop-holds : tie.Need-loop-init invariant-loop decreases-loop
 loop-holds c =
     let none = c.no-totals.ensures in
-    (none ∙ sym (totals-start _), rw none (within-start _), omega arith)
+    (none ∙ sym (totals_start _), rw none (within_start _), omega arith)
 
 line-at-requires : tie.Need-line-at-requires invariant-loop decreases-loop
 line-at-requires c κs = search rules
@@ -52,7 +52,7 @@ returns c =
     let turn = c.before.loop in
     let at = c.before.before.before.before.args in
     let end : turn.i ≡ at.count = omega (arith, turn.invariant.2, c.loop-test.false) in
-    turn.invariant.0 ∙ ap (totalsOf (line_at at.lines.now)) end
+    turn.invariant.0 ∙ ap (totals_of (line_at at.lines.now)) end
 
 pub total-lines-spec : {M : Type 1} → statement M
 total-lines-spec =

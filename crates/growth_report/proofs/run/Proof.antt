@@ -2,7 +2,7 @@
 -- Assumes nothing.
 use mathlib.Core.Path.{sym}
 use lib.Seq.{length-take-le}
-use Rattle.growth_report.proofs.Accepted.{kept-accepted}
+use Rattle.growth_report.proofs.Accepted.{kept_accepted}
 use borrow.Author.Rules.{rules}
 use Rattle.growth_report.proofs.run.Statement.{statement}
 use Rattle.growth_report.proofs.run.Tie as tie
@@ -50,7 +50,7 @@ slice-aggregate-report c =
 report-requires : tie.Need-report-requires
 report-requires c κs =
     let read = c.before.before.before.before.before.before.before.before.read_names_lem.ensures.1 in
-    kept-accepted _ _ _ read.1 c.before.if2.false
+    kept_accepted _ _ _ read.1 c.before.if2.false
 
 same-length-3 : tie.Need-same-length-3
 same-length-3 c = search rules

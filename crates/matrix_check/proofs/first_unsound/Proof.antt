@@ -9,7 +9,7 @@ use lib.Dec.{eqb}
 use borrow.Author.Count.{below_more}
 use borrow.Author.Rules.{rules}
 use borrow.Author.Tests.{not-false}
-use Rattle.lists.proofs.Search.{lowest_is, lowest-none}
+use Rattle.lists.proofs.Search.{lowest_is, lowest_none}
 use Rattle.formula.specs.Words.{node_count}
 use Rattle.acceptance.specs.Verdict.{node_fault}
 use Rattle.matrix_check.specs.Steps.{node_limits}
@@ -59,7 +59,7 @@ returns-2 : tie.Need-returns-2 invariant-loop decreases-loop
 returns-2 c =
     let l = c.before.loop in
     let all : node_count c.before.before.before.before.args.nodes.now ≡ l.i = omega arith in
-    (sym (lowest-none _ _ (λ k h. ap not (l.invariant.2 k (omega arith)))), λ e. rw all l.invariant.1)
+    (sym (lowest_none _ _ (λ k h. ap not (l.invariant.2 k (omega arith)))), λ e. rw all l.invariant.1)
 
 pub first-unsound-spec : {M : Type 1} → statement M
 first-unsound-spec =

@@ -8,7 +8,7 @@ use lib.ListN.{get_or}
 use borrow.Author.Count.{below_more}
 use borrow.Author.Rules.{rules}
 use borrow.Author.Tests.{eq-eqb, ne_eqb}
-use Rattle.lists.proofs.Search.{lowest_is, lowest-none}
+use Rattle.lists.proofs.Search.{lowest_is, lowest_none}
 use Rattle.matrix_check.proofs.lowest_not_once.Statement.{statement}
 use Rattle.matrix_check.proofs.lowest_not_once.Tie as tie
 
@@ -22,7 +22,7 @@ all-once-requires : tie.Need-all-once-requires invariant-loop decreases-loop
 all-once-requires c κs = search rules
 
 returns : tie.Need-returns invariant-loop decreases-loop
-returns c = sym (lowest-none _ _ (λ k l. ap not (eq-eqb _ 1 (c.before.all_once.ensures c.if1.true k l))))
+returns c = sym (lowest_none _ _ (λ k l. ap not (eq-eqb _ 1 (c.before.all_once.ensures c.if1.true k l))))
 
 loop-holds : tie.Need-loop-init invariant-loop decreases-loop
 loop-holds c = search rules
@@ -46,7 +46,7 @@ loop-again c = (omega arith, below_more _ _ c.before.before.before.loop.invarian
 
 returns-3 : tie.Need-returns-3 invariant-loop decreases-loop
 returns-3 c =
-    sym (lowest-none _ _ (λ k l. ap not (eq-eqb _ 1 (c.before.loop.invariant.1 k (omega arith)))))
+    sym (lowest_none _ _ (λ k l. ap not (eq-eqb _ 1 (c.before.loop.invariant.1 k (omega arith)))))
 
 pub lowest-not-once-spec : {M : Type 1} → statement M
 lowest-not-once-spec =

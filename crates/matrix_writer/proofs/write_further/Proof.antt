@@ -11,7 +11,7 @@ use Rattle.arrays.specs.Chains.{blocks_from}
 use Rattle.arrays.proofs.Chains.{linked}
 use Rattle.matrix_writer.proofs.Chain.{BlockOf, next_link}
 use Rattle.matrix_writer.proofs.Blocks.{table_few}
-use Rattle.matrix_writer.proofs.Levels.{Rest, rest_all, rest-none, rest_next, rest_shorter, rest_room}
+use Rattle.matrix_writer.proofs.Levels.{Rest, rest_all, rest_none, rest_next, rest_shorter, rest_room}
 use Rattle.matrix_writer.proofs.write_further.Statement.{statement}
 use Rattle.matrix_writer.proofs.write_further.Tie as tie
 
@@ -82,7 +82,7 @@ same_length : tie.Need-same-length invariant-loop decreases-loop
 same_length c = c.before.loop.invariant.long
 
 returns : tie.Need-returns invariant-loop decreases-loop
-returns c = rest-none _ _ c.before.loop.invariant c.loop-test.false
+returns c = rest_none _ _ c.before.loop.invariant c.loop-test.false
 
 pub write-further-spec : {M : Type 1} → statement M
 write-further-spec =

@@ -6,7 +6,7 @@ use Prim.Native.Nat.{max}
 use mathlib.Core.Path.{◌≡◌, sym, ◌∙◌}
 use borrow.Author.Tests.{eq-eqb, ne_eqb}
 use Rattle.lists.specs.Choice.{pick_yes, pick_no}
-use Rattle.name_flags.proofs.Flags.{flag-kept, flag_new}
+use Rattle.name_flags.proofs.Flags.{flag_kept, flag_new}
 use lib.ListN.{get_or}
 use Rattle.name_flags.proofs.flag_name.Statement.{statement}
 use Rattle.name_flags.proofs.flag_name.Tie as tie
@@ -18,7 +18,7 @@ returns : tie.Need-returns
 returns c =
     let a = c.before.before.before.args in
     let n : get_or a.names.now a.x 0 ≡ 0 → ⊥ = λ z. omega (arith, c.if1.true) in
-    (flag-kept a.names.now a.x n, sym (pick_no _ (max a.highest a.x) _ (ne_eqb _ 0 n)))
+    (flag_kept a.names.now a.x n, sym (pick_no _ (max a.highest a.x) _ (ne_eqb _ 0 n)))
 
 slice-write-names : tie.Need-slice-write-names
 slice-write-names c = search rules

@@ -6,7 +6,7 @@ use native.Mathlib.Omega.{arith}
 use borrow.Author.Rules.{rules}
 use lib.ListN.{length}
 use Rattle.name_lines.specs.Names.{judged}
-use Rattle.name_lines.proofs.Verdicts.{counted-refused, counted-done}
+use Rattle.name_lines.proofs.Verdicts.{counted_refused, counted_done}
 use Rattle.name_lines.proofs.Walk.{Walked, walked_start, walked_below, walked_next, walked_all}
 use Rattle.name_lines.proofs.check_names.Statement.{statement}
 use Rattle.name_lines.proofs.check_names.Tie as tie
@@ -48,12 +48,12 @@ judge-requires c κs = search rules
 returns : tie.Need-returns invariant-loop decreases-loop
 returns c =
     let all = walked_all _ _ _ _ c.before.before.before.before.before.loop.invariant (omega (arith, c.before.before.before.if1.false)) in
-    counted-refused _ _ (c.before.before.judge.ensures ∙ (λ i. judged (sym all.0 i) (sym all.1 i))) c.if2.true
+    counted_refused _ _ (c.before.before.judge.ensures ∙ (λ i. judged (sym all.0 i) (sym all.1 i))) c.if2.true
 
 returns-2 : tie.Need-returns-2 invariant-loop decreases-loop
 returns-2 c =
     let all = walked_all _ _ _ _ c.before.before.before.before.before.loop.invariant (omega (arith, c.before.before.before.if1.false)) in
-    counted-done _ _ _ (c.before.before.judge.ensures ∙ (λ i. judged (sym all.0 i) (sym all.1 i))) c.if2.false (sym all.0)
+    counted_done _ _ _ (c.before.before.judge.ensures ∙ (λ i. judged (sym all.0 i) (sym all.1 i))) c.if2.false (sym all.0)
 
 pub check-names-spec : {M : Type 1} → statement M
 check-names-spec =

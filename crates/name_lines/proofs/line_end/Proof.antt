@@ -5,7 +5,7 @@ use Prim.Native.Nat.{◌≤◌, ◌<◌, ◌-◌}
 use native.Mathlib.Omega.{arith}
 use borrow.Author.Rules.{rules}
 use lib.ListN.{length}
-use Rattle.name_lines.proofs.Walk.{Begun, begun-start, begun_more, begun_end, begun_all}
+use Rattle.name_lines.proofs.Walk.{Begun, begun_start, begun_more, begun_end, begun_all}
 use Rattle.name_lines.proofs.line_end.Statement.{statement}
 use Rattle.name_lines.proofs.line_end.Tie as tie
 
@@ -16,7 +16,7 @@ abbrev decreases-loop : tie.decreases-loop
 decreases-loop text from i₀ i = length text - i
 
 loop-holds : tie.Need-loop-init invariant-loop decreases-loop
-loop-holds c = (begun-start c.args.text.now c.args.from, omega arith, omega arith)
+loop-holds c = (begun_start c.args.text.now c.args.from, omega arith, omega arith)
 
 shared-slice-read-if1 : tie.Need-shared-slice-read-if1 invariant-loop decreases-loop
 shared-slice-read-if1 c = search rules

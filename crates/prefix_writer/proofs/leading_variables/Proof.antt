@@ -3,7 +3,7 @@
 use native.Mathlib.Omega.{arith}
 use borrow.Author.Rules.{rules}
 use Rattle.prefix_writer.proofs.Words.{has_root}
-use Rattle.prefix_writer.proofs.Names.{leading_root, leading-level}
+use Rattle.prefix_writer.proofs.Names.{leading_root, leading_level}
 use Rattle.prefix_writer.proofs.leading_variables.Statement.{statement}
 use Rattle.prefix_writer.proofs.leading_variables.Tie as tie
 
@@ -25,13 +25,13 @@ returns c = rw (leading_root _ _ _ _ _ _ c.before.before.before.before.if1.true)
 level-variables-requires : tie.Need-level-variables-requires
 level-variables-requires c κs =
     let p = c.before.before.before.before.before.before.before.before.before.requires in
-    (p.0, (p.1.0, (p.1.1.0, (p.1.1.1.0, rw (leading-level _ _ _ _ _ _ c.before.if1.false) at p.1.1.1.1))))
+    (p.0, (p.1.0, (p.1.1.0, (p.1.1.1.0, rw (leading_level _ _ _ _ _ _ c.before.if1.false) at p.1.1.1.1))))
 
 same-length-2 : tie.Need-same-length-2
 same-length-2 c = search rules
 
 returns-2 : tie.Need-returns-2
-returns-2 c = rw (leading-level _ _ _ _ _ _ c.before.before.before.before.if1.false) c.before.before.level-variables.ensures
+returns-2 c = rw (leading_level _ _ _ _ _ _ c.before.before.before.before.if1.false) c.before.before.level-variables.ensures
 
 pub leading-variables-spec : {M : Type 1} → statement M
 leading-variables-spec =

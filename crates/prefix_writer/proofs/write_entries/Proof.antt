@@ -4,7 +4,7 @@ use mathlib.Core.Path.{◌∙◌, sym}
 use native.Mathlib.Omega.{arith}
 use borrow.Author.Rules.{rules}
 use Rattle.prefix_writer.specs.Held.{held}
-use Rattle.prefix_writer.proofs.Names.{node_lt, count-le, held-length}
+use Rattle.prefix_writer.proofs.Names.{node_lt, count_le, held_length}
 use Rattle.prefix_writer.proofs.write_entries.Statement.{statement}
 use Rattle.prefix_writer.proofs.write_entries.Tie as tie
 
@@ -28,8 +28,8 @@ write-numbers-requires c κs =
     let p = c.before.before.before.before.before.before.before.requires in
     let a = c.before.before.before.before.before.before.before.args in
     let n = c.before.before.count_at_lem.ensures in (
-      omega (arith, n, p.1.0.1, c.shared-slice-known4.given a.i, count-le _ _ _ p.0 _ p.1.0.0),
-      omega (arith, n, p.1.1, held-length a.words.now a.starts.now a.first a.i),
+      omega (arith, n, p.1.0.1, c.shared-slice-known4.given a.i, count_le _ _ _ p.0 _ p.1.0.0),
+      omega (arith, n, p.1.1, held_length a.words.now a.starts.now a.first a.i),
     )
 
 same_length : tie.Need-same-length
@@ -40,7 +40,7 @@ unfolding held
 returns c =
     let a = c.before.before.before.before.before.before.before.before.before.before.args in
     let n = c.before.before.before.before.before.count_at_lem.ensures in
-    (rw (← n) c.before.before.write-numbers.ensures, n ∙ sym (held-length a.words.now a.starts.now a.first a.i))
+    (rw (← n) c.before.before.write-numbers.ensures, n ∙ sym (held_length a.words.now a.starts.now a.first a.i))
 
 pub write-entries-spec : {M : Type 1} → statement M
 write-entries-spec =

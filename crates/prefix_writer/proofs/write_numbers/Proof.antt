@@ -4,7 +4,7 @@ use Prim.Native.Nat.{◌≤◌, ◌-◌}
 use native.Mathlib.Omega.{arith}
 use borrow.Author.Rules.{rules}
 use Rattle.lists.specs.Parts.{numbers}
-use Rattle.prefix_writer.proofs.Writing.{Left, numbers_left, numbers-start, numbers-step, numbers_end}
+use Rattle.prefix_writer.proofs.Writing.{Left, numbers_left, numbers_start, numbers_step, numbers_end}
 use Rattle.prefix_writer.proofs.write_numbers.Statement.{statement}
 use Rattle.prefix_writer.proofs.write_numbers.Tie as tie
 
@@ -15,7 +15,7 @@ abbrev decreases-loop : tie.decreases-loop
 decreases-loop out₀ first count k₀ out k = count - k
 
 loop-holds : tie.Need-loop-init invariant-loop decreases-loop
-loop-holds c = (omega arith, numbers-start _ _ _)
+loop-holds c = (omega arith, numbers_start _ _ _)
 
 cast-out : tie.Need-overflow-cast-out invariant-loop decreases-loop
 cast-out c = search rules
@@ -36,7 +36,7 @@ loop-less : tie.Need-loop-smaller invariant-loop decreases-loop
 loop-less c = search rules
 
 loop-again : tie.Need-loop-preserved invariant-loop decreases-loop
-loop-again c = (search rules, numbers-step _ _ _ _ _ c.before.loop.invariant.1 c.before.before.requires.1 c.loop-test.true)
+loop-again c = (search rules, numbers_step _ _ _ _ _ c.before.loop.invariant.1 c.before.before.requires.1 c.loop-test.true)
 
 same_length : tie.Need-same-length invariant-loop decreases-loop
 same_length c = search rules

@@ -1,8 +1,8 @@
 -- `prenex::lift` meets its contract.
 -- Assumes nothing.
-use Rattle.prenex.proofs.Answers.{accepted_by, lifted-refused}
+use Rattle.prenex.proofs.Answers.{accepted_by, lifted_refused}
 use Rattle.prenex.specs.Outcome.{buffers}
-use Rattle.prenex.proofs.Form.{lifted-sizes, lifted_form}
+use Rattle.prenex.proofs.Form.{lifted_sizes, lifted_form}
 use borrow.Author.Rules.{rules}
 use Rattle.prenex.proofs.lift.Statement.{statement}
 use Rattle.prenex.proofs.lift.Tie as tie
@@ -18,8 +18,8 @@ returns c =
     let s = c.before.before.before.before.before.before.before.before.before in
     let d = c.before.before.before in
     let before = buffers s.args.nodes.now s.args.prefix.now s.args.variables.now in
-    let e = lifted-refused s.args.words.now s.args.list.now d.check.result d.check.ensures c.before.if1.true _ c.refused.ensures before in
-    (e, (lifted-sizes s.args.words.now s.args.list.now before _ e, lifted_form s.args.words.now s.args.list.now before _ e))
+    let e = lifted_refused s.args.words.now s.args.list.now d.check.result d.check.ensures c.before.if1.true _ c.refused.ensures before in
+    (e, (lifted_sizes s.args.words.now s.args.list.now before _ e, lifted_form s.args.words.now s.args.list.now before _ e))
 
 lift-accepted-requires : tie.Need-lift-accepted-requires
 lift-accepted-requires c κs =
@@ -41,7 +41,7 @@ returns-2 c =
     let s = c.before.before.before.before.before.before.before.before.before.before.before.before.before.before.before.before.before.before in
     let before = buffers s.args.nodes.now s.args.prefix.now s.args.variables.now in
     let e = c.before.before.before.before.before.before.lift-accepted.ensures in
-    (e, (lifted-sizes s.args.words.now s.args.list.now before _ e, lifted_form s.args.words.now s.args.list.now before _ e))
+    (e, (lifted_sizes s.args.words.now s.args.list.now before _ e, lifted_form s.args.words.now s.args.list.now before _ e))
 
 pub lift-spec : {M : Type 1} → statement M
 lift-spec =

@@ -1,13 +1,13 @@
 -- `prenex::lift_accepted` meets its contract.
 -- Assumes nothing.
 use mathlib.Core.Path.{ap}
-use Rattle.prenex_form.proofs.Theorem.{sizes-written}
+use Rattle.prenex_form.proofs.Theorem.{sizes_written}
 use Rattle.prenex_form.specs.declared.Sizes.{Sizes}
 use Rattle.arrays.specs.Held.{Placed}
 use Rattle.formula.specs.Words.{table_of}
 use Rattle.prenex.specs.Arrays.{Room}
 use Rattle.prenex.specs.Outcome.{buffers}
-use Rattle.prenex.proofs.Answers.{short-nodes, short-prefix, short-variables, lifted-short, lifted-done}
+use Rattle.prenex.proofs.Answers.{short_nodes, short_prefix, short_variables, lifted_short, lifted_done}
 use native.Mathlib.Omega.{arith}
 use borrow.Author.Rules.{rules}
 use Rattle.prenex.proofs.lift_accepted.Statement.{statement}
@@ -37,9 +37,9 @@ short-requires c κs = search rules
 returns : tie.Need-returns
 returns c =
     let s = c.before.before.before.before.before.before.before.before.before.before.before.before.before.before in
-    let m = sizes-written (table_of s.args.words.now s.args.list.now) in
+    let m = sizes_written (table_of s.args.words.now s.args.list.now) in
     let e = ap (λ (z : Sizes). z.nodes) c.before.before.before.sizes-of.ensures in
-    lifted-short s.args.words.now s.args.list.now s.requires (buffers s.args.nodes.now s.args.prefix.now s.args.variables.now) (short-nodes (table_of s.args.words.now s.args.list.now) (buffers s.args.nodes.now s.args.prefix.now s.args.variables.now) (omega (arith, m.nodes_measured, e, c.before.if1.true))) _ c.short.ensures
+    lifted_short s.args.words.now s.args.list.now s.requires (buffers s.args.nodes.now s.args.prefix.now s.args.variables.now) (short_nodes (table_of s.args.words.now s.args.list.now) (buffers s.args.nodes.now s.args.prefix.now s.args.variables.now) (omega (arith, m.nodes_measured, e, c.before.if1.true))) _ c.short.ensures
 
 cast-if2 : tie.Need-overflow-cast-if2
 cast-if2 c = search rules
@@ -53,9 +53,9 @@ short-requires-2 c κs = search rules
 returns-2 : tie.Need-returns-2
 returns-2 c =
     let s = c.before.before.before.before.before.before.before.before.before.before.before.before.before.before.before.before in
-    let m = sizes-written (table_of s.args.words.now s.args.list.now) in
+    let m = sizes_written (table_of s.args.words.now s.args.list.now) in
     let e = ap (λ (z : Sizes). z.blocks) c.before.before.before.before.before.sizes-of.ensures in
-    lifted-short s.args.words.now s.args.list.now s.requires (buffers s.args.nodes.now s.args.prefix.now s.args.variables.now) (short-prefix (table_of s.args.words.now s.args.list.now) (buffers s.args.nodes.now s.args.prefix.now s.args.variables.now) (omega (arith, m.blocks_measured, e, c.before.if2.true))) _ c.short2.ensures
+    lifted_short s.args.words.now s.args.list.now s.requires (buffers s.args.nodes.now s.args.prefix.now s.args.variables.now) (short_prefix (table_of s.args.words.now s.args.list.now) (buffers s.args.nodes.now s.args.prefix.now s.args.variables.now) (omega (arith, m.blocks_measured, e, c.before.if2.true))) _ c.short2.ensures
 
 cast-if3 : tie.Need-overflow-cast-if3
 cast-if3 c = search rules
@@ -66,9 +66,9 @@ short-requires-3 c κs = search rules
 returns-3 : tie.Need-returns-3
 returns-3 c =
     let s = c.before.before.before.before.before.before.before.before.before.before.before.before.before.before.before.before.before.before in
-    let m = sizes-written (table_of s.args.words.now s.args.list.now) in
+    let m = sizes_written (table_of s.args.words.now s.args.list.now) in
     let e = ap (λ (z : Sizes). z.entries) c.before.before.before.before.before.before.before.sizes-of.ensures in
-    lifted-short s.args.words.now s.args.list.now s.requires (buffers s.args.nodes.now s.args.prefix.now s.args.variables.now) (short-variables (table_of s.args.words.now s.args.list.now) (buffers s.args.nodes.now s.args.prefix.now s.args.variables.now) (omega (arith, m.entries-measured, e, c.before.if3.true))) _ c.short3.ensures
+    lifted_short s.args.words.now s.args.list.now s.requires (buffers s.args.nodes.now s.args.prefix.now s.args.variables.now) (short_variables (table_of s.args.words.now s.args.list.now) (buffers s.args.nodes.now s.args.prefix.now s.args.variables.now) (omega (arith, m.entries_measured, e, c.before.if3.true))) _ c.short3.ensures
 
 slice-aggregate-write-form : tie.Need-slice-aggregate-write-form
 slice-aggregate-write-form c = search rules
@@ -79,13 +79,13 @@ slice-aggregate-write-form-2 c = search rules
 write-form-requires : tie.Need-write-form-requires
 write-form-requires c κs =
     let s = c.before.before.before.before.before.before.before.before.before.before.before.before.before.before.before.before.before.before.before.before.before.before in
-    let m = sizes-written (table_of s.args.words.now s.args.list.now) in
+    let m = sizes_written (table_of s.args.words.now s.args.list.now) in
     let z = c.before.before.before.before.before.before.before.before.before.before.before.sizes-of.ensures in
     let room : Room s.args.words.now s.args.list.now s.args.nodes.now s.args.prefix.now s.args.variables.now =
     record {
       nodes_fit = omega (arith, m.nodes_measured, ap (λ (z : Sizes). z.nodes) z, c.before.before.before.before.before.before.before.before.before.if1.false);
       prefix_fits = omega (arith, m.blocks_measured, ap (λ (z : Sizes). z.blocks) z, c.before.before.before.before.before.before.before.if2.false);
-      variables_fit = omega (arith, m.entries-measured, ap (λ (z : Sizes). z.entries) z, c.before.before.before.before.before.if3.false);
+      variables_fit = omega (arith, m.entries_measured, ap (λ (z : Sizes). z.entries) z, c.before.before.before.before.before.if3.false);
     } in
     let f = c.before.before.before.before.before.before.before.before.before.before.before.before.before.before.fill-scopes in
     let a : Placed s.args.words.now s.args.list.now _ _ =
@@ -112,15 +112,15 @@ same-length-3 c = search rules
 returns-4 : tie.Need-returns-4
 returns-4 c =
     let s = c.before.before.before.before.before.before.before.before.before.before.before.before.before.before.before.before.before.before.before.before.before.before.before.before.before.before.before.before.before.before in
-    let m = sizes-written (table_of s.args.words.now s.args.list.now) in
+    let m = sizes_written (table_of s.args.words.now s.args.list.now) in
     let z = c.before.before.before.before.before.before.before.before.before.before.before.before.before.before.before.before.before.before.before.sizes-of.ensures in
     let room : Room s.args.words.now s.args.list.now s.args.nodes.now s.args.prefix.now s.args.variables.now =
     record {
       nodes_fit = omega (arith, m.nodes_measured, ap (λ (z : Sizes). z.nodes) z, c.before.before.before.before.before.before.before.before.before.before.before.before.before.before.before.before.before.if1.false);
       prefix_fits = omega (arith, m.blocks_measured, ap (λ (z : Sizes). z.blocks) z, c.before.before.before.before.before.before.before.before.before.before.before.before.before.before.before.if2.false);
-      variables_fit = omega (arith, m.entries-measured, ap (λ (z : Sizes). z.entries) z, c.before.before.before.before.before.before.before.before.before.before.before.before.before.if3.false);
+      variables_fit = omega (arith, m.entries_measured, ap (λ (z : Sizes). z.entries) z, c.before.before.before.before.before.before.before.before.before.before.before.before.before.if3.false);
     } in
-    lifted-done s.args.words.now s.args.list.now s.requires s.args.nodes.now s.args.prefix.now s.args.variables.now room _ _ c.done.ensures z _ _ _ c.before.before.before.before.before.before.before.write-form.ensures
+    lifted_done s.args.words.now s.args.list.now s.requires s.args.nodes.now s.args.prefix.now s.args.variables.now room _ _ c.done.ensures z _ _ _ c.before.before.before.before.before.before.before.write-form.ensures
 
 pub lift-accepted-spec : {M : Type 1} → statement M
 lift-accepted-spec =

@@ -3,17 +3,17 @@
 use mathlib.Core.Path.{◌∙◌, sym}
 use Rattle.lists.specs.Choice.{pick_yes, pick_no}
 use Rattle.arrays.proofs.Nodes.{block_read}
-use Rattle.prenex.proofs.Measured.{count-some}
+use Rattle.prenex.proofs.Measured.{count_some}
 use borrow.Author.Rules.{rules}
 use native.Mathlib.Omega.{arith}
 use Rattle.prenex.proofs.root_blocks.Statement.{statement}
 use Rattle.prenex.proofs.root_blocks.Tie as tie
 
 sub-node-at : tie.Need-overflow-sub-node-at
-sub-node-at c = omega (arith, count-some _ _ c.before.before.requires)
+sub-node-at c = omega (arith, count_some _ _ c.before.before.requires)
 
 node-at-requires : tie.Need-node-at-requires
-node-at-requires c κs = omega (arith, count-some _ _ c.before.before.requires)
+node-at-requires c κs = omega (arith, count_some _ _ c.before.before.requires)
 
 is-block-kind-requires : tie.Need-is-block-kind-requires
 is-block-kind-requires c κs = search rules

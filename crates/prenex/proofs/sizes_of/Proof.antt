@@ -6,7 +6,7 @@ use lib.Dec.{eqb}
 use Rattle.lists.specs.Choice.{pick}
 use Rattle.formula.specs.Words.{table_of}
 use Rattle.prenex_form.specs.Prefix.{block_count}
-use Rattle.prenex.proofs.Measured.{root_le, sizes_are, levels-limit, count-limit, count-some, added_limit, bound_few, inner_bound_few, inner_few}
+use Rattle.prenex.proofs.Measured.{root_le, sizes_are, levels_limit, count_limit, count_some, added_limit, bound_few, inner_bound_few, inner_few}
 use native.Mathlib.Omega.{arith}
 use borrow.Author.Rules.{rules}
 use Rattle.prenex.proofs.sizes_of.Statement.{statement}
@@ -15,7 +15,7 @@ use Rattle.prenex.proofs.sizes_of.Tie as tie
 cast-n : tie.Need-overflow-cast-n
 cast-n c =
     let s = c.before.before in
-    omega (arith, count-limit s.args.words.now s.args.list.now s.requires.0)
+    omega (arith, count_limit s.args.words.now s.args.list.now s.requires.0)
 
 root-blocks-requires : tie.Need-root-blocks-requires
 root-blocks-requires c κs = search rules
@@ -24,13 +24,13 @@ add-t9 : tie.Need-overflow-add-t9
 unfolding table_of
 add-t9 c =
     let s = c.before.before.before in
-    omega (arith, levels-limit s.args.words.now s.args.list.now s.requires.0, s.requires.1.deepest_is, root_le (table_of s.args.words.now s.args.list.now), c.root_blocks_lem.ensures)
+    omega (arith, levels_limit s.args.words.now s.args.list.now s.requires.0, s.requires.1.deepest_is, root_le (table_of s.args.words.now s.args.list.now), c.root_blocks_lem.ensures)
 
 sub-t10 : tie.Need-overflow-sub-t10
 unfolding table_of
 sub-t10 c =
     let s = c.before.before.before in
-    omega (arith, count-some s.args.words.now s.args.list.now s.requires.0, root_le (table_of s.args.words.now s.args.list.now), c.root_blocks_lem.ensures)
+    omega (arith, count_some s.args.words.now s.args.list.now s.requires.0, root_le (table_of s.args.words.now s.args.list.now), c.root_blocks_lem.ensures)
 
 add-t11 : tie.Need-overflow-add-t11
 unfolding table_of
@@ -41,7 +41,7 @@ add-t11 c =
 prefix-count-requires : tie.Need-prefix-count-requires
 prefix-count-requires c κs =
     let s = c.before.before.before.before in
-    omega (arith, levels-limit s.args.words.now s.args.list.now s.requires.0, s.requires.1.deepest_is)
+    omega (arith, levels_limit s.args.words.now s.args.list.now s.requires.0, s.requires.1.deepest_is)
 
 add-t13 : tie.Need-overflow-add-t13
 unfolding table_of

@@ -52,7 +52,7 @@ write-named-requires c κs =
     let l = c.before.before.before.before.before.before.before.before.before.chain-levels in
     let chained : Chained s.args.words.now s.args.list.now _ _ =
     record { chained = l.ensures; firsts_long = l.auto.1.1.1.0; nexts_long = l.auto.1.1.1.1.0 } in
-    (f.started, (chained, (f.bound, (p.1.1.0, ((f.highest_is, f.highest-limit), p.1.1.1)))))
+    (f.started, (chained, (f.bound, (p.1.1.0, ((f.highest_is, f.highest_limit), p.1.1.1)))))
 
 same_length : tie.Need-same-length
 same_length c = search rules

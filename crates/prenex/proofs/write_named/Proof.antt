@@ -2,11 +2,11 @@
 -- Assumes nothing.
 use mathlib.Core.Path.{refl}
 use Rattle.formula.specs.Words.{table_of}
-use Rattle.acceptance.proofs.Accepted.{accepted-holds}
+use Rattle.acceptance.proofs.Accepted.{accepted_holds}
 use Rattle.lists.specs.Parts.{sum}
 use Rattle.prenex_form.specs.Names.{bound_count, inner_below}
 use Rattle.prenex_form.proofs.NameLaws.{inner_bound_le_lem}
-use Rattle.prenex_form.proofs.Limits.{bound-limit}
+use Rattle.prenex_form.proofs.Limits.{bound_limit}
 use Rattle.arrays.specs.Held.{Named}
 use Rattle.first_nodes.specs.Given.{Given, Counted}
 use native.Mathlib.Omega.{arith}
@@ -20,8 +20,8 @@ add-t18 c = search rules
 take-run-requires : tie.Need-take-run-requires
 take-run-requires c κs =
     let s = c.before.before.before.before.before.before.before.before.before in
-    let a = accepted-holds s.args.words.now s.args.list.now s.requires.0.checked in
-    omega (arith, s.requires.1.1.1.0.bound_is, s.requires.1.1.1.1.0, bound-limit s.args.words.now s.args.list.now a)
+    let a = accepted_holds s.args.words.now s.args.list.now s.requires.0.checked in
+    omega (arith, s.requires.1.1.1.0.bound_is, s.requires.1.1.1.1.0, bound_limit s.args.words.now s.args.list.now a)
 
 take-run-requires-2 : tie.Need-take-run-requires-2
 unfolding table_of bound_count
@@ -35,7 +35,7 @@ take-run-requires-2 c κs =
       n.inner_bound_is,
       s.requires.1.1.1.1.0,
       c.take-run.ensures.1,
-      bound-limit s.args.words.now s.args.list.now (accepted-holds s.args.words.now s.args.list.now s.requires.0.checked),
+      bound_limit s.args.words.now s.args.list.now (accepted_holds s.args.words.now s.args.list.now s.requires.0.checked),
       inner_bound_le_lem t t.size,
     )
 
@@ -56,8 +56,8 @@ write-nodes-requires c κs =
     let b : Given s.args.words.now s.args.list.now s.args.bindings.now c.before.before.before.before.take-run.result.name =
     record {
       accepts = p.0.checked;
-      entries-bound = p.1.1.0;
-      names-first = omega (arith, x.0, p.1.1.1.1.0);
+      entries_bound = p.1.1.0;
+      names_first = omega (arith, x.0, p.1.1.1.1.0);
     } in
     let d : Counted s.args.words.now s.args.list.now 0 _ c.before.before.before.take-run2.result.counter =
     record { definitions_length = refl; next_is = omega (arith, x.1, y.1, p.1.1.1.1.0, n.bound_is, n.inner_bound_is) } in
@@ -80,8 +80,8 @@ write-prefix-requires c κs =
     let r = p.1.1.1.1.1 in
     let named : Named s.args.words.now s.args.list.now x.result.name y.result.name _ =
     record {
-      names-first = omega (arith, x.ensures.0, p.1.1.1.1.0);
-      copies-first = omega (arith, x.ensures.1, y.ensures.0, p.1.1.1.1.0, n.bound_is);
+      names_first = omega (arith, x.ensures.0, p.1.1.1.1.0);
+      copies_first = omega (arith, x.ensures.1, y.ensures.0, p.1.1.1.1.0, n.bound_is);
       defined = f.ensures.1;
       definitions_long = f.auto.1.1.1.1.1.1.1.1.1.0;
     } in

@@ -8,7 +8,7 @@ use Rattle.formula.specs.Words.{table_of}
 use Rattle.matrix_writer.specs.Added.{added_nodes}
 use Rattle.matrix_writer.specs.Arrays.{BlockArrays}
 use Rattle.prenex.proofs.Matrix.{kept_is, first_room, added_room, whole}
-use Rattle.prenex.proofs.Measured.{root_le, count-some}
+use Rattle.prenex.proofs.Measured.{root_le, count_some}
 use Rattle.prenex.proofs.write_nodes.Statement.{statement}
 use Rattle.prenex.proofs.write_nodes.Tie as tie
 
@@ -22,7 +22,7 @@ sub-first : tie.Need-overflow-sub-first
 unfolding table_of
 sub-first c =
     let s = c.before.before.before.before.before.before.before.before.before in
-    omega (arith, c.root_blocks_lem.ensures, root_le (table_of s.args.words.now s.args.list.now), count-some s.args.words.now s.args.list.now s.requires.0.checked)
+    omega (arith, c.root_blocks_lem.ensures, root_le (table_of s.args.words.now s.args.list.now), count_some s.args.words.now s.args.list.now s.requires.0.checked)
 
 write-first-requires : tie.Need-write-first-requires
 unfolding table_of
@@ -45,10 +45,10 @@ write-levels-requires c κs =
     let blocks : BlockArrays s.args.words.now s.args.list.now s.args.starts.now s.args.names s.args.copies _ =
     record {
       starts_held = p.0;
-      names-held =
+      names_held =
           record {
-            names-first = p.1.1.0.names-first;
-            copies-first = p.1.1.1.0;
+            names_first = p.1.1.0.names_first;
+            copies_first = p.1.1.1.0;
             defined = f.ensures.1;
             definitions_long = f.auto.1.1.1.1.1.0 ∙ p.1.1.1.1.0.definitions_length;
           };

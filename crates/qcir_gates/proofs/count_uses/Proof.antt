@@ -3,7 +3,7 @@
 use Prim.Native.Nat.{◌≤◌}
 use native.Mathlib.Omega.{arith}
 use borrow.Author.Rules.{rules}
-use Rattle.qcir_gates.proofs.Passes.{Counted, counted_none, counted_more, counted-all}
+use Rattle.qcir_gates.proofs.Passes.{Counted, counted_none, counted_more, counted_all}
 use Rattle.qcir_gates.proofs.count_uses.Statement.{statement}
 use Rattle.qcir_gates.proofs.count_uses.Tie as tie
 
@@ -52,7 +52,7 @@ returns : tie.Need-returns invariant-loop decreases-loop
 returns c =
     let l = c.before.loop in
     let a = c.before.before.before.before.before.args in
-    counted-all a.roles.now a.numbers.now a.count _ l.i (omega arith) l.invariant.1
+    counted_all a.roles.now a.numbers.now a.count _ l.i (omega arith) l.invariant.1
 
 pub count-uses-spec : {M : Type 1} → statement M
 count-uses-spec =

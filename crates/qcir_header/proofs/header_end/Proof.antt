@@ -7,7 +7,7 @@ use lib.ListN.{length, get_or, drop}
 use borrow.Author.Rules.{rules}
 use Rattle.qcir.specs.Spelling.{header}
 use Rattle.qcir_header.specs.Header.{common, header_end}
-use Rattle.qcir_header.proofs.Common.{common-ended, common_whole, common_differs, common_next}
+use Rattle.qcir_header.proofs.Common.{common_ended, common_whole, common_differs, common_next}
 use Rattle.qcir_header.proofs.header_end.Statement.{statement}
 use Rattle.qcir_header.proofs.header_end.Tie as tie
 
@@ -77,7 +77,7 @@ returns-3 c =
     let turn = c.before.loop in
     let text = c.before.before.args.text.now in
     let from = c.before.before.args.from in
-    omega (arith, turn.invariant.2, common-ended header text (turn.at - from) turn.at (omega arith))
+    omega (arith, turn.invariant.2, common_ended header text (turn.at - from) turn.at (omega arith))
 
 pub header-end-spec : {M : Type 1} → statement M
 header-end-spec =

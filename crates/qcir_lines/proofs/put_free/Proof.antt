@@ -8,7 +8,7 @@ use lib.Dec.{eqb}
 use lib.ListN.{length}
 use borrow.Author.Tests.{eqb-true, eqb-false}
 use Rattle.texts.specs.Put.{Put}
-use Rattle.qcir_lines.proofs.Free.{open_line, free-none, free_name, free_end, free_no_line}
+use Rattle.qcir_lines.proofs.Free.{open_line, free_none, free_name, free_end, free_no_line}
 use Rattle.qcir_lines.proofs.put_free.Statement.{statement}
 use Rattle.qcir_lines.proofs.put_free.Tie as tie
 
@@ -20,7 +20,7 @@ abbrev decreases-loop : tie.decreases-loop
 decreases-loop names highest text₀ at next₀ x₀ text next x = suc highest - x
 
 loop-holds : tie.Need-loop-init invariant-loop decreases-loop
-loop-holds c = (omega arith, refl, omega arith, free-none _ _ _)
+loop-holds c = (omega arith, refl, omega arith, free_none _ _ _)
 
 cast-put-free-name : tie.Need-overflow-cast-put-free-name invariant-loop decreases-loop
 cast-put-free-name c = search rules

@@ -1,7 +1,7 @@
 -- `qcir_lines::put_free_name` meets its contract.
 -- Assumes nothing.
 use native.Mathlib.Omega.{arith}
-use Rattle.texts.proofs.Put.{put-none, put_as}
+use Rattle.texts.proofs.Put.{put_none, put_as}
 use Rattle.qcir_lines.proofs.Free.{name_none, name_first, name_next}
 use borrow.Author.Rules.{rules}
 use Rattle.qcir_lines.proofs.put_free_name.Statement.{statement}
@@ -10,7 +10,7 @@ use Rattle.qcir_lines.proofs.put_free_name.Tie as tie
 returns : tie.Need-returns
 returns c =
     let s = c.before.before in
-    (put_as (name_none s.args.first s.args.flag s.args.x c.if1.true) (put-none _ _), omega arith)
+    (put_as (name_none s.args.first s.args.flag s.args.x c.if1.true) (put_none _ _), omega arith)
 
 put-first-free-requires : tie.Need-put-first-free-requires
 put-first-free-requires c κs = search rules

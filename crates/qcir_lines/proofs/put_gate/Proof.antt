@@ -7,7 +7,7 @@ use Rattle.formula.specs.Words.{node_at, table_of}
 use Rattle.qcir_rows.specs.declared.Shape.{Shape}
 use Rattle.qcir_rows.proofs.Matrix.{plain_node}
 use Rattle.qcir_rows.proofs.Shapes.{operands_low}
-use Rattle.qcir_lines.proofs.Nodes.{put_blank, put_name, signs_low, put_by_row, put-left, put_right}
+use Rattle.qcir_lines.proofs.Nodes.{put_blank, put_name, signs_low, put_by_row, put_left, put_right}
 use borrow.Author.Rules.{rules}
 use Rattle.qcir_lines.proofs.put_gate.Statement.{statement}
 use Rattle.qcir_lines.proofs.put_gate.Tie as tie
@@ -34,7 +34,7 @@ returns-2 c =
 returns-3 : tie.Need-returns-3
 returns-3 c =
     let s = c.before.before.before.before.before.before.before.before.before.before in
-    (put-left s.args.literals.now s.args.i (node_at s.args.nodes.now [] s.args.i) (plain_node 40960 77823 s.args.nodes.now s.requires.0 s.args.i s.requires.1.0.0) _ c.before.before.before.before.shape_at.ensures c.before.before.if2.false c.before.before.before.before.before.if1.false c.if3.true, omega arith)
+    (put_left s.args.literals.now s.args.i (node_at s.args.nodes.now [] s.args.i) (plain_node 40960 77823 s.args.nodes.now s.requires.0 s.args.i s.requires.1.0.0) _ c.before.before.before.before.shape_at.ensures c.before.before.if2.false c.before.before.before.before.before.if1.false c.if3.true, omega arith)
 
 returns-4 : tie.Need-returns-4
 returns-4 c =

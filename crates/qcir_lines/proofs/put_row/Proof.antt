@@ -3,7 +3,7 @@
 use native.Mathlib.Omega.{arith}
 use Rattle.qcir_text.specs.Pieces.{literal_of}
 use Rattle.texts.proofs.Put.{put_as}
-use Rattle.qcir_lines.proofs.Rows.{unsigned_word, row-and, row_xor, row_constant, row_else}
+use Rattle.qcir_lines.proofs.Rows.{unsigned_word, row_and, row_xor, row_constant, row_else}
 use borrow.Author.Rules.{rules}
 use Rattle.qcir_lines.proofs.put_row.Statement.{statement}
 use Rattle.qcir_lines.proofs.put_row.Tie as tie
@@ -32,7 +32,7 @@ returns c =
     let p = c.before.before.put-and in (
       (λ k d e q l r.
           put_as
-          (row-and k d e s.args.gate (literal_of s.args.l) (literal_of s.args.m) s.args.row.kind q _ _ c.before.before.before.before.before.before.before.before.if1.true
+          (row_and k d e s.args.gate (literal_of s.args.l) (literal_of s.args.m) s.args.row.kind q _ _ c.before.before.before.before.before.before.before.before.if1.true
           (c.before.before.before.before.before.before.turned.ensures.0 d l)
           (c.before.before.before.before.turned2.ensures.0 e r))
           p.ensures.0),

@@ -2,7 +2,7 @@
 -- Assumes nothing.
 use native.Mathlib.Omega.{arith}
 use borrow.Author.Rules.{rules}
-use Rattle.qcir_literals.proofs.Codes.{of_gate, of_xor, row-left, row_right, row_xor, row_else}
+use Rattle.qcir_literals.proofs.Codes.{of_gate, of_xor, row_left, row_right, row_xor, row_else}
 use Rattle.qcir_literals.proofs.row_literal.Statement.{statement}
 use Rattle.qcir_literals.proofs.row_literal.Tie as tie
 
@@ -16,7 +16,7 @@ returns : tie.Need-returns
 returns c =
     let a = c.before.before.before.before.args in
     let r = c.turned.ensures in
-    (λ k w e s. row-left k w a.row.kind a.gate a.l a.m _ e c.before.if1.true (r.0 w s), (λ p q. let l = p c.before.if1.true in omega (arith, r.1), omega (arith, r.1, c.before.before.before.before.requires)))
+    (λ k w e s. row_left k w a.row.kind a.gate a.l a.m _ e c.before.if1.true (r.0 w s), (λ p q. let l = p c.before.if1.true in omega (arith, r.1), omega (arith, r.1, c.before.before.before.before.requires)))
 
 turned-requires-2 : tie.Need-turned-requires-2
 turned-requires-2 c κs = search rules

@@ -7,7 +7,7 @@ use mathlib.Core.List.{[]}
 use Rattle.formula.specs.Words.{node_at, table_of}
 use Rattle.qcir_rows.specs.declared.Shape.{Shape}
 use Rattle.qcir_rows.proofs.Matrix.{plain_node, node_name_low}
-use Rattle.qcir_rows.proofs.Shapes.{is_name, is_row, some-row, operands_low}
+use Rattle.qcir_rows.proofs.Shapes.{is_name, is_row, some_row, operands_low}
 use Rattle.qcir_marks.proofs.Steps.{node_unmarked, node_name, node_row}
 use Rattle.formula.specs.Node.{variable}
 use Rattle.qcir_marks.proofs.mark_node.Statement.{statement}
@@ -67,7 +67,7 @@ returns-3 c =
     let e = c.before.before.before.before.before.before.before.before.shape_at.ensures in
     let nd = node_at s.args.nodes.now [] s.args.i in
     let plain = plain_node 40960 77823 s.args.nodes.now s.requires.0 s.args.i s.requires.1.0 in
-    let k = some-row nd plain (λ z. c.before.before.before.before.before.before.if2.false (ap (λ (r : Shape). r.row.kind) e ∙ z)) in
+    let k = some_row nd plain (λ z. c.before.before.before.before.before.before.if2.false (ap (λ (r : Shape). r.row.kind) e ∙ z)) in
     node_row s.args.marks.now s.args.names.now s.args.i s.args.highest nd _ k.0 (λ z. omega (arith, c.before.before.before.before.before.before.before.before.before.if1.false, z)) (is_row nd plain k.0 k.1) (rw (← k.1, ← e) c.before.before.mark-operands.ensures)
 
 pub mark-node-spec : {M : Type 1} → statement M

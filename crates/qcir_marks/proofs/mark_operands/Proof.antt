@@ -1,12 +1,12 @@
 -- `qcir_marks::mark_operands` meets its contract, kind by kind.
 -- Assumes nothing.
 use borrow.Author.Rules.{rules}
-use Rattle.qcir_marks.proofs.Steps.{operands-none, operands-left, operands_right, operands_both}
+use Rattle.qcir_marks.proofs.Steps.{operands_none, operands_left, operands_right, operands_both}
 use Rattle.qcir_marks.proofs.mark_operands.Statement.{statement}
 use Rattle.qcir_marks.proofs.mark_operands.Tie as tie
 
 returns : tie.Need-returns
-returns c = let a = c.before.args in operands-none a.marks.now a.left a.right a.kind c.if1.true
+returns c = let a = c.before.args in operands_none a.marks.now a.left a.right a.kind c.if1.true
 
 mul-marks : tie.Need-overflow-mul-marks
 mul-marks c = search rules
@@ -18,7 +18,7 @@ same_length : tie.Need-same-length
 same_length c = search rules
 
 returns-2 : tie.Need-returns-2
-returns-2 c = let a = c.before.before.args in operands-left a.marks.now a.left a.right c.before.before.requires.0 a.kind c.if2.true
+returns-2 c = let a = c.before.before.args in operands_left a.marks.now a.left a.right c.before.before.requires.0 a.kind c.if2.true
 
 mul-marks-2 : tie.Need-overflow-mul-marks-2
 mul-marks-2 c = search rules

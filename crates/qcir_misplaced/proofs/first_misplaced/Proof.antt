@@ -6,7 +6,7 @@ use lib.ListN.{replicate}
 use borrow.Author.Rules.{rules}
 use Rattle.lists.proofs.Stores.{get_or-filled}
 use Rattle.qcir_tokens.specs.Held.{tokens_from}
-use Rattle.qcir_misplaced.proofs.Misplaced.{first-misplaced}
+use Rattle.qcir_misplaced.proofs.Misplaced.{first_misplaced}
 use Rattle.qcir_misplaced.proofs.first_misplaced.Statement.{statement}
 use Rattle.qcir_misplaced.proofs.first_misplaced.Tie as tie
 
@@ -23,7 +23,7 @@ returns c f h =
     let start = c.before.before.before.before.before.before.before in
     let a = start.args in
     c.before.first-fault.ensures
-    ∙ first-misplaced a.gates.now (replicate 65536 0) (tokens_from a.roles.now a.numbers.now a.positions.now 0 a.count) (start.requires.1.1 a.positions.now)
+    ∙ first_misplaced a.gates.now (replicate 65536 0) (tokens_from a.roles.now a.numbers.now a.positions.now 0 a.count) (start.requires.1.1 a.positions.now)
     (λ x. get_or-filled 65536 x 0) f h.tokens h.ordered
 
 pub first-misplaced-spec : {M : Type 1} → statement M

@@ -5,7 +5,7 @@ use mathlib.Core.Bool.{◌&&◌}
 use native.Mathlib.Numerals.{add-one}
 use lib.Dec.{leb}
 use borrow.Author.Rules.{rules}
-use Rattle.qcir_misplaced.proofs.Turn.{fault_entry, fault-definition, fault_other}
+use Rattle.qcir_misplaced.proofs.Turn.{fault_entry, fault_definition, fault_other}
 use Rattle.qcir_misplaced.proofs.is_fault.Statement.{statement}
 use Rattle.qcir_misplaced.proofs.is_fault.Tie as tie
 
@@ -23,7 +23,7 @@ is-definition-requires c κs = search rules
 
 returns-2 : tie.Need-returns-2
 returns-2 c =
-    sym (fault-definition _ _ _ _ _
+    sym (fault_definition _ _ _ _ _
     (sym c.before.before.before.is-entry.ensures ∙ c.before.before.if1.false)
     (sym c.before.is_definition_lem.ensures ∙ c.if2.true))
 

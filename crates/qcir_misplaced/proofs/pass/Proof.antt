@@ -3,7 +3,7 @@
 use mathlib.Core.Path.{sym, ◌∙◌, ap}
 use native.Mathlib.Numerals.{add-one}
 use borrow.Author.Rules.{rules}
-use Rattle.qcir_misplaced.proofs.Turn.{entry_defines_none, stored_entry, lists_other, line-definition, line_other}
+use Rattle.qcir_misplaced.proofs.Turn.{entry_defines_none, stored_entry, lists_other, line_definition, line_other}
 use Rattle.qcir_misplaced.proofs.pass.Statement.{statement}
 use Rattle.qcir_misplaced.proofs.pass.Tie as tie
 
@@ -40,7 +40,7 @@ returns-2 : tie.Need-returns-2
 returns-2 c =
     let e = sym c.before.before.before.is-entry.ensures ∙ c.before.before.if1.false in
     let d = sym c.before.is_definition_lem.ensures ∙ c.if2.true in
-    (λ y. sym (ap (λ l. l y) (lists_other _ _ _ _ e)), rw add-one (sym (line-definition _ _ _ d)))
+    (λ y. sym (ap (λ l. l y) (lists_other _ _ _ _ e)), rw add-one (sym (line_definition _ _ _ d)))
 
 returns-3 : tie.Need-returns-3
 returns-3 c =

@@ -6,7 +6,7 @@ use lib.ListN.{length}
 use borrow.Author.Rules.{rules}
 use Rattle.lists.specs.Choice.{pick_no}
 use Rattle.qcir_nodes.specs.Nodes.{add_token}
-use Rattle.qcir_nodes.proofs.Roles.{definition_not_last, bound_not_last, entries-definition, entries-bound, entries_use, list_none, list_one}
+use Rattle.qcir_nodes.proofs.Roles.{definition_not_last, bound_not_last, entries_definition, entries_bound, entries_use, list_none, list_one}
 use Rattle.qcir_nodes.proofs.Nodes.{room_no, wrote_yes, wrote_no, wrote_none}
 use Rattle.qcir_nodes.proofs.write_token.Statement.{statement}
 use Rattle.qcir_nodes.proofs.write_token.Tie as tie
@@ -18,7 +18,7 @@ returns : tie.Need-returns
 unfolding add_token
 returns c =
     let t = sym c.before.is_definition_lem.ensures ∙ c.if1.true in
-    (wrote_yes _ _ _ _ _ _ _ t (wrote_none _ _ _), (list_none _ _ _ (entries-definition _ _ t), sym (pick_no _ _ _ (definition_not_last _ t))))
+    (wrote_yes _ _ _ _ _ _ _ t (wrote_none _ _ _), (list_none _ _ _ (entries_definition _ _ t), sym (pick_no _ _ _ (definition_not_last _ t))))
 
 is-bound-requires : tie.Need-is-bound-requires
 is-bound-requires c κs = search rules
@@ -32,7 +32,7 @@ mul-list c = search rules
 slice-write-list : tie.Need-slice-write-list
 slice-write-list c =
     let s = c.before.before.before.before.before.before.before.before in
-    let e = ap length (entries-bound s.args.role s.args.x (sym c.before.before.before.before.is_definition_lem.ensures ∙ c.before.before.before.if1.false) (sym c.before.before.is_bound.ensures ∙ c.before.if2.true)) in
+    let e = ap length (entries_bound s.args.role s.args.x (sym c.before.before.before.before.is_definition_lem.ensures ∙ c.before.before.before.if1.false) (sym c.before.before.is_bound.ensures ∙ c.before.if2.true)) in
     omega (arith, s.requires.0)
 
 add-q : tie.Need-overflow-add-q
@@ -47,7 +47,7 @@ returns-2 c =
     let s = c.before.before.before.before.before.before.before.before.before in
     let t = sym c.before.before.before.before.before.is_definition_lem.ensures ∙ c.before.before.before.before.if1.false in
     let u = sym c.before.before.before.is_bound.ensures ∙ c.before.before.if2.true in
-    (wrote_no _ _ _ _ _ _ _ t (wrote_yes _ _ _ _ _ _ _ u (wrote_none _ _ _)), (list_one _ _ _ _ (entries-bound _ _ t u) s.requires.0.1, sym (pick_no _ _ _ (bound_not_last _ u))))
+    (wrote_no _ _ _ _ _ _ _ t (wrote_yes _ _ _ _ _ _ _ u (wrote_none _ _ _)), (list_one _ _ _ _ (entries_bound _ _ t u) s.requires.0.1, sym (pick_no _ _ _ (bound_not_last _ u))))
 
 write-use-requires : tie.Need-write-use-requires
 unfolding add_token

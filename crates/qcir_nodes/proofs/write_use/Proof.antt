@@ -6,7 +6,7 @@ use borrow.Author.Tests.{not-true, not-false}
 use borrow.Author.Rules.{rules}
 use Rattle.lists.specs.Choice.{pick_yes, pick_no}
 use Rattle.qcir_nodes.specs.Nodes.{add_use, add_end}
-use Rattle.qcir_nodes.proofs.Nodes.{follows_operand, follows_end, room_first, room_second, room_yes, wrote_then, wrote_yes, wrote_no, wrote_none, first-le, closed_small}
+use Rattle.qcir_nodes.proofs.Nodes.{follows_operand, follows_end, room_first, room_second, room_yes, wrote_then, wrote_yes, wrote_no, wrote_none, first_le, closed_small}
 use Rattle.qcir_nodes.proofs.write_use.Statement.{statement}
 use Rattle.qcir_nodes.proofs.write_use.Tie as tie
 
@@ -41,7 +41,7 @@ write-block-requires c κs =
     let s = c.before.before.before.before.before.before.before.before.before.before in
     let w = c.before.before.before.before.before.write-operand in
     let t = sym c.before.before.is_last.ensures ∙ not-false _ c.before.if1.false in
-    (first-le w.ensures (follows_operand _ _ _ _) s.requires.0, room_yes _ _ _ _ t (room_second _ _ _ (follows_end s.args.role) s.requires.1.1 _ _ _ w.ensures w.auto.0))
+    (first_le w.ensures (follows_operand _ _ _ _) s.requires.0, room_yes _ _ _ _ t (room_second _ _ _ (follows_end s.args.role) s.requires.1.1 _ _ _ w.ensures w.auto.0))
 
 add-nodes : tie.Need-overflow-add-nodes
 unfolding add_use

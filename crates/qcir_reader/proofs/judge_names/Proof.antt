@@ -27,7 +27,7 @@ returns : tie.Need-returns
 returns c f h =
     let s = c.before.before.before.before.before.before.before.before in
     let ps = s.args.positions.now in
-    c.name-verdict.ensures f (c.before.before.before.first-misplaced.ensures f h) (c.before.before.lowest-misused.ensures f (ps, h)) (c.before.lowest-unbound.ensures f (ps, h))
+    c.name-verdict.ensures f (c.before.before.before.first_misplaced.ensures f h) (c.before.before.lowest-misused.ensures f (ps, h)) (c.before.lowest-unbound.ensures f (ps, h))
 
 pub judge-names-spec : {M : Type 1} → statement M
 judge-names-spec =

@@ -2,7 +2,7 @@
 -- Assumes nothing.
 use mathlib.Core.Path.{◌∙◌}
 use Rattle.qcir.specs.Refusals.{misplaced, not_used_once, unbound}
-use Rattle.qcir_reader.proofs.Stages.{nothing_found, misplaced-first, misused_first, unbound-first, none_first}
+use Rattle.qcir_reader.proofs.Stages.{nothing_found, misplaced_first, misused_first, unbound_first, none_first}
 use borrow.Author.Rules.{rules}
 use Rattle.qcir_reader.proofs.name_verdict.Statement.{statement}
 use Rattle.qcir_reader.proofs.name_verdict.Tie as tie
@@ -11,7 +11,7 @@ refusal-requires : tie.Need-refusal-requires
 refusal-requires c κs = search rules
 
 returns : tie.Need-returns
-returns c f p g v = c.refusal.ensures ∙ misplaced-first f _ p c.before.if1.true
+returns c f p g v = c.refusal.ensures ∙ misplaced_first f _ p c.before.if1.true
 
 refusal-requires-2 : tie.Need-refusal-requires-2
 refusal-requires-2 c κs = search rules
@@ -28,7 +28,7 @@ returns-3 : tie.Need-returns-3
 returns-3 c f p g v =
     let m = nothing_found _ (misplaced f) p c.before.before.before.if1.false in
     let u = nothing_found _ (not_used_once f) g c.before.before.if2.false in
-    c.refusal3.ensures ∙ unbound-first f _ m u (v m u) c.before.if3.true
+    c.refusal3.ensures ∙ unbound_first f _ m u (v m u) c.before.if3.true
 
 accepted-requires : tie.Need-accepted-requires
 accepted-requires c κs = search rules

@@ -2,7 +2,7 @@
 -- Assumes nothing.
 use Rattle.refusals.specs.Verdict.{refusal}
 use Rattle.qcir.proofs.Theorem.{table_whole}
-use Rattle.qcir_reader.proofs.Stages.{refuses, many_nodes, many_variables, Within, few_listed, short_words, short_list, stored-done}
+use Rattle.qcir_reader.proofs.Stages.{refuses, many_nodes, many_variables, Within, few_listed, short_words, short_list, stored_done}
 use native.Mathlib.Omega.{arith}
 use borrow.Author.Rules.{rules}
 use Rattle.qcir_reader.proofs.store_table.Statement.{statement}
@@ -119,7 +119,7 @@ returns-5 c f h =
     let whole = table_whole f in
     let w : Within f s.args.words.now s.args.list.now = record { nodes_within = omega (arith, z.0, c.before.before.before.before.before.before.before.before.before.before.before.if1.false); none_exceeding = omega (arith, z.0, z.2, c.before.before.before.before.before.before.before.before.before.before.if2.false) } in
     let t = c.before.before.before.before.before.write-table.ensures f h in
-    stored-done f s.args.words.now s.args.list.now _ _ _ _ _ w (omega (arith, z.0, whole, c.before.before.before.before.before.before.before.before.before.if3.false)) (omega (arith, z.1, c.before.before.before.before.before.before.before.before.if4.false)) c.accepted.ensures z.0 z.1 t.0 t.1
+    stored_done f s.args.words.now s.args.list.now _ _ _ _ _ w (omega (arith, z.0, whole, c.before.before.before.before.before.before.before.before.before.if3.false)) (omega (arith, z.1, c.before.before.before.before.before.before.before.before.if4.false)) c.accepted.ensures z.0 z.1 t.0 t.1
 
 pub store-table-spec : {M : Type 1} → statement M
 store-table-spec =

@@ -6,7 +6,7 @@ use lib.ListN.{get_or}
 use borrow.Author.Rules.{rules}
 use Rattle.qcir_scan.specs.Held.{InName}
 use Rattle.qcir_scan.proofs.Rule.{name_place}
-use Rattle.qcir_scan.proofs.Steps.{after_byte, after-digit, after_too_high}
+use Rattle.qcir_scan.proofs.Steps.{after_byte, after_digit, after_too_high}
 use Rattle.qcir_scan.proofs.advance.Statement.{statement}
 use Rattle.qcir_scan.proofs.advance.Tie as tie
 
@@ -115,7 +115,7 @@ returns-3 c =
     let entry = c.before.before.before.before.before.entry_at in
     let high : 24 < entry.result / 256 = omega (arith, c.before.before.before.before.if1.false) in
     let r = c.read-digits.ensures in
-    (r.1 _ _ _ (after-digit text a.roles.now a.numbers.now a.positions.now q h l start.requires.1.1.0.1 start.requires.1.0 w entry.result entry.ensures high c.before.before.before.number-after.ensures c.before.begin-after.ensures c.before.before.if2.false), omega (arith, r.0))
+    (r.1 _ _ _ (after_digit text a.roles.now a.numbers.now a.positions.now q h l start.requires.1.1.0.1 start.requires.1.0 w entry.result entry.ensures high c.before.before.before.number-after.ensures c.before.begin-after.ensures c.before.before.if2.false), omega (arith, r.0))
 
 pub advance-spec : {M : Type 1} → statement M
 advance-spec =

@@ -5,7 +5,7 @@ use native.Mathlib.Omega.{arith}
 use lib.ListN.{length}
 use borrow.Author.Rules.{rules}
 use Rattle.qcir_scan.specs.Held.{Holds}
-use Rattle.qcir_scan.proofs.Scans.{holds-start, answers_dead, answers_end}
+use Rattle.qcir_scan.proofs.Scans.{holds_start, answers_dead, answers_end}
 use Rattle.qcir_scan.proofs.walk.Statement.{statement}
 use Rattle.qcir_scan.proofs.walk.Tie as tie
 
@@ -19,7 +19,7 @@ loop-holds : tie.Need-loop-init invariant-loop decreases-loop
 loop-holds c =
     let start = c.before.before.before.before in
     let a = start.args in
-    (holds-start a.text.now a.roles.now a.numbers.now a.positions.now a.at start.requires.1.1.0.0 start.requires.1.1.0.1 start.requires.1.1.1, omega arith)
+    (holds_start a.text.now a.roles.now a.numbers.now a.positions.now a.at start.requires.1.1.0.0 start.requires.1.1.0.1 start.requires.1.1.1, omega arith)
 
 advance-requires : tie.Need-advance-requires invariant-loop decreases-loop
 advance-requires c κs =

@@ -7,7 +7,7 @@ use native.Mathlib.Omega.{arith}
 use lib.ListN.{get_or}
 use borrow.Author.Count.{below_more}
 use borrow.Author.Rules.{rules}
-use Rattle.lists.proofs.Search.{lowest_is, lowest-none}
+use Rattle.lists.proofs.Search.{lowest_is, lowest_none}
 use Rattle.qcir_tokens.specs.Tokens.{is_outer}
 use Rattle.qcir_table.specs.Passes.{output_index}
 use Rattle.qcir_table.proofs.output_index.Statement.{statement}
@@ -48,7 +48,7 @@ unfolding output_index
 returns-2 c =
     let v = c.before.loop in
     let e : v.i ≡ c.before.before.before.args.count = omega arith in
-    rw e (sym (lowest-none _ _ (rw e at v.invariant.1)))
+    rw e (sym (lowest_none _ _ (rw e at v.invariant.1)))
 
 pub output-index-spec : {M : Type 1} → statement M
 output-index-spec =

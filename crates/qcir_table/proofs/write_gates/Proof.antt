@@ -4,7 +4,7 @@ use mathlib.Core.Path.{◌≡◌, sym, ◌∙◌}
 use Prim.Native.Nat.{suc, ◌+◌, ◌-◌, ◌≤◌}
 use native.Mathlib.Omega.{arith}
 use borrow.Author.Rules.{rules}
-use Rattle.qcir_table.proofs.Gates.{fits_less, Reached, reached-start, token_room, token-listed, reached-token, from_first}
+use Rattle.qcir_table.proofs.Gates.{fits_less, Reached, reached_start, token_room, token_listed, reached_token, from_first}
 use Rattle.qcir_table.proofs.write_gates.Statement.{statement}
 use Rattle.qcir_table.proofs.write_gates.Tie as tie
 
@@ -18,7 +18,7 @@ loop-holds : tie.Need-loop-init invariant-loop decreases-loop
 loop-holds c =
     let s = c.before.before.before.before.before in
     let e : s.args.first - s.args.first ≡ 0 = omega arith in
-    (omega arith, s.requires.0.0, rw e (reached-start _ _ _ _ _ _ s.requires.1.0))
+    (omega arith, s.requires.0.0, rw e (reached_start _ _ _ _ _ _ s.requires.1.0))
 
 shared-slice-read-write-token : tie.Need-shared-slice-read-write-token invariant-loop decreases-loop
 shared-slice-read-write-token c = search rules
@@ -38,7 +38,7 @@ write-token-requires c κs =
     let f = fits_less a.roles.now a.numbers.now a.first (suc (v.i - a.first)) (a.count - a.first) _ _ (omega arith) (record { words_fit = s.requires.1.1.0.0; few_words = s.requires.1.1.0.1; list_fits = s.requires.1.1.1.0; few_entries = s.requires.1.1.1.1 }) in
     let role = from_first a.roles.now a.first v.i v.invariant.0 in
     let x = from_first a.numbers.now a.first v.i v.invariant.0 in
-    (token-listed _ _ _ _ _ _ _ _ _ _ _ _ v.invariant.2 role x f, (v.invariant.2.nodes_are.wide, token_room _ _ _ _ _ _ _ _ _ _ _ _ v.invariant.2 role x f))
+    (token_listed _ _ _ _ _ _ _ _ _ _ _ _ v.invariant.2 role x f, (v.invariant.2.nodes_are.wide, token_room _ _ _ _ _ _ _ _ _ _ _ _ v.invariant.2 role x f))
 
 add-i : tie.Need-overflow-add-i invariant-loop decreases-loop
 add-i c = search rules
@@ -58,7 +58,7 @@ loop-again c =
     let w = c.before.before.before.before.before.before.write-token in
     let e : v.i + 1 - a.first ≡ suc (v.i - a.first) = omega arith in
     let low = c.before.before.before.before.before.before.before.shared-slice-known4.given v.i in
-    (omega arith, omega arith, rw e (reached-token _ _ _ _ _ _ _ _ _ _ _ _ v.invariant.2 role x f _ _ _ _ (omega arith) w.ensures.0 w.ensures.1.0 w.ensures.1.1 w.auto.0 w.auto.1.0))
+    (omega arith, omega arith, rw e (reached_token _ _ _ _ _ _ _ _ _ _ _ _ v.invariant.2 role x f _ _ _ _ (omega arith) w.ensures.0 w.ensures.1.0 w.ensures.1.1 w.auto.0 w.auto.1.0))
 
 same_length : tie.Need-same-length invariant-loop decreases-loop
 same_length c = c.before.loop.invariant.2.words_kept

@@ -4,7 +4,7 @@ use mathlib.Core.Path.{◌≡◌}
 use Prim.Native.Nat.{suc, ◌-◌}
 use native.Mathlib.Omega.{arith}
 use borrow.Author.Rules.{rules}
-use Rattle.qcir_table.proofs.Lines.{Reached, Fits, reached-start, outer_room, outer_listed, reached_outer, reached_end}
+use Rattle.qcir_table.proofs.Lines.{Reached, Fits, reached_start, outer_room, outer_listed, reached_outer, reached_end}
 use Rattle.qcir_table.proofs.write_lines.Statement.{statement}
 use Rattle.qcir_table.proofs.write_lines.Tie as tie
 
@@ -15,7 +15,7 @@ abbrev decreases-loop : tie.decreases-loop
 decreases-loop roles numbers outer words₀ list₀ p₀ end₀ i₀ words list p end i = i
 
 loop-holds : tie.Need-loop-init invariant-loop decreases-loop
-loop-holds c = reached-start _ _ _ _ _ _
+loop-holds c = reached_start _ _ _ _ _ _
 
 sub-i : tie.Need-overflow-sub-i invariant-loop decreases-loop
 sub-i c = search rules

@@ -6,7 +6,7 @@ use native.Mathlib.Omega.{arith}
 use lib.ListN.{get_or}
 use borrow.Author.Rules.{rules}
 use Rattle.qcir_table_sizes.specs.Pass.{gate_step}
-use Rattle.qcir_table_sizes.proofs.Passes.{Left, left-start, left_more, left-none, small_room}
+use Rattle.qcir_table_sizes.proofs.Passes.{Left, left_start, left_more, left_none, small_room}
 use Rattle.qcir_table_sizes.proofs.gates_pass.Statement.{statement}
 use Rattle.qcir_table_sizes.proofs.gates_pass.Tie as tie
 
@@ -22,7 +22,7 @@ start-requires c κs = search rules
 loop-holds : tie.Need-loop-init invariant-loop decreases-loop
 loop-holds c =
     let a = c.before.before.before.before.args in
-    (omega arith, rw c.start.ensures (left-start a.roles.now a.numbers.now a.count a.gates.now a.from))
+    (omega arith, rw c.start.ensures (left_start a.roles.now a.numbers.now a.count a.gates.now a.from))
 
 gate-of-requires : tie.Need-gate-of-requires invariant-loop decreases-loop
 gate-of-requires c κs = search rules
@@ -55,7 +55,7 @@ returns c =
     let l = c.before.loop in
     let a = c.before.before.before.before.before.before.args in
     let e : l.i ≡ a.count = omega arith in
-    (rw e at l.invariant.1.small, left-none a.roles.now a.numbers.now a.count a.gates.now a.from l.i l.s (omega arith) l.invariant.1)
+    (rw e at l.invariant.1.small, left_none a.roles.now a.numbers.now a.count a.gates.now a.from l.i l.s (omega arith) l.invariant.1)
 
 pub gates-pass-spec : {M : Type 1} → statement M
 gates-pass-spec =

@@ -4,7 +4,7 @@ use native.Mathlib.Omega.{arith}
 use borrow.Author.Rules.{rules}
 use Prim.Native.Nat.{◌<◌}
 use lib.ListN.{length}
-use Rattle.qcir_text.proofs.Lines.{put_no_line, put-line}
+use Rattle.qcir_text.proofs.Lines.{put_no_line, put_line}
 use Rattle.qcir_text.proofs.put_block.Statement.{statement}
 use Rattle.qcir_text.proofs.put_block.Tie as tie
 
@@ -27,7 +27,7 @@ returns-2 : tie.Need-returns-2
 returns-2 c =
     let names = c.before.before.before.before.before.before.before.before.before.before.before.before.before.before.before.args.names.now in
     let some : 0 < length names = omega arith in
-    (put-line _ names some c.before.before.before.before.before.before.before.before.before.before.put-quantifier.ensures.0 c.before.before.before.before.before.before.put-names.ensures.0 c.before.before.put-close.ensures.0, omega arith)
+    (put_line _ names some c.before.before.before.before.before.before.before.before.before.before.put-quantifier.ensures.0 c.before.before.before.before.before.before.put-names.ensures.0 c.before.before.put-close.ensures.0, omega arith)
 
 pub put-block-spec : {M : Type 1} → statement M
 put-block-spec =

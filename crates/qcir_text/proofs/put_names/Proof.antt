@@ -6,7 +6,7 @@ use Prim.Native.Nat.{◌+◌, ◌*◌, ◌-◌, ◌≤◌}
 use lib.ListN.{length}
 use Rattle.texts.specs.Put.{Put}
 use Rattle.qcir_text.proofs.Texts.{further}
-use Rattle.qcir_text.proofs.Lines.{put_no_further, put-further, put_all_names}
+use Rattle.qcir_text.proofs.Lines.{put_no_further, put_further, put_all_names}
 use Rattle.qcir_text.proofs.put_names.Statement.{statement}
 use Rattle.qcir_text.proofs.put_names.Tie as tie
 
@@ -44,7 +44,7 @@ loop-less c = search rules
 loop-again : tie.Need-loop-preserved invariant-loop decreases-loop
 loop-again c =
     let i = c.before.before.before.before.before.before.loop.invariant in
-    (omega arith, omega arith, omega arith, put-further _ _ i.0 i.3 c.before.before.put-next-name.ensures.0)
+    (omega arith, omega arith, omega arith, put_further _ _ i.0 i.3 c.before.before.put-next-name.ensures.0)
 
 same_length : tie.Need-same-length invariant-loop decreases-loop
 same_length c = search rules

@@ -8,7 +8,7 @@ use lib.ListN.{length, length-replicate}
 use borrow.Author.Rules.{rules}
 use Rattle.qcir_tokens.specs.Held.{number_count, token_limit}
 use Rattle.qcir_unbound.specs.Steps.{tokens_of, state_of, start, run}
-use Rattle.qcir_unbound.proofs.Within.{Low, stands_low, start_low, start_is, step_low, step_fits, back_fits, ended_is, step_taken, run-less, run_none, run-ended}
+use Rattle.qcir_unbound.proofs.Within.{Low, stands_low, start_low, start_is, step_low, step_fits, back_fits, ended_is, step_taken, run_less, run_none, run_ended}
 use Rattle.qcir_unbound.proofs.walk_tokens.Statement.{statement}
 use Rattle.qcir_unbound.proofs.walk_tokens.Tie as tie
 
@@ -52,7 +52,7 @@ returns c =
     let a = c.before.before.before.before.before.before.before.before.before.before.args in
     let l = c.before.before.before.before.before.loop in
     ap (λ u. u.walk)
-    (run-ended (tokens_of a.roles.now a.numbers.now a.gates.now) _ (state_of l.walk l.marks l.auto) _ c.before.before.before.token-at.ensures (ended_is _ l.walk _ _ c.before.before.is_above_lem.ensures c.if1.true) l.invariant.3)
+    (run_ended (tokens_of a.roles.now a.numbers.now a.gates.now) _ (state_of l.walk l.marks l.auto) _ c.before.before.before.token-at.ensures (ended_is _ l.walk _ _ c.before.before.is_above_lem.ensures c.if1.true) l.invariant.3)
 
 sub-left : tie.Need-overflow-sub-left invariant-loop decreases-loop
 sub-left c = search rules
@@ -84,7 +84,7 @@ loop-again c =
       subst (Low a.count) (sym e) (step_low s.requires.0 _ l.invariant.0),
       t.auto.1.1.0 ∙ l.invariant.1,
       t.auto.1.1.1.0 ∙ l.invariant.2,
-      run-less (tokens_of a.roles.now a.numbers.now a.gates.now) _ _ _ _ c.before.before.before.before.before.before.before.before.before.before.loop-test.true e l.invariant.3,
+      run_less (tokens_of a.roles.now a.numbers.now a.gates.now) _ _ _ _ c.before.before.before.before.before.before.before.before.before.before.loop-test.true e l.invariant.3,
     )
 
 same-length-2 : tie.Need-same-length-2 invariant-loop decreases-loop

@@ -9,7 +9,7 @@ use Rattle.formula.specs.Truth.{digit}
 use Rattle.qdimacs_words.proofs.Loose.{loose_as}
 use Rattle.qdimacs_rows.specs.Rows.{lines_text}
 use Rattle.qdimacs_rows.proofs.Lines.{binary}
-use Rattle.qdimacs_clauses.proofs.Nodes.{table_low, else_constant, left_low, right_low, only_low, no_clauses, constant_clauses, operator_clauses, negation_clauses, left-above, right_above, word_at, some_word, nothing_put}
+use Rattle.qdimacs_clauses.proofs.Nodes.{table_low, else_constant, left_low, right_low, only_low, no_clauses, constant_clauses, operator_clauses, negation_clauses, left_above, right_above, word_at, some_word, nothing_put}
 use Rattle.qdimacs_clauses.proofs.put_gate.Statement.{statement}
 use Rattle.qdimacs_clauses.proofs.put_gate.Tie as tie
 
@@ -93,7 +93,7 @@ returns-2 c =
           (word_at ns ws held s.args.i h)
           (word_at ns ws held _ (left_low ns s.requires.0 s.args.i h _ e k))
           (word_at ns ws held _ (right_low ns s.requires.0 s.args.i h _ e k))
-          (left-above ns s.requires.0 s.args.i h _ e ws held k)
+          (left_above ns s.requires.0 s.args.i h _ e ws held k)
           (right_above ns s.requires.0 s.args.i h _ e ws held k)),
       c.before.before.put-operator.ensures.1,
     )

@@ -4,7 +4,7 @@ use native.Mathlib.Omega.{arith}
 use borrow.Author.Rules.{rules}
 use Rattle.formula.specs.Truth.{operator_value}
 use Rattle.qdimacs_words.proofs.Loose.{loose_as}
-use Rattle.qdimacs_rows.proofs.Lines.{bit-none, bit_both}
+use Rattle.qdimacs_rows.proofs.Lines.{bit_none, bit_both}
 use Rattle.qdimacs_clauses.proofs.Operators.{same_operands, different_operands}
 use Rattle.qdimacs_clauses.proofs.put_operator.Statement.{statement}
 use Rattle.qdimacs_clauses.proofs.put_operator.Tie as tie
@@ -20,7 +20,7 @@ returns c =
     let s = c.before.before.before.before.before.before in (
       λ g a b w u v below lower. loose_as
           (same_operands g (operator_value s.args.table) u v below c.before.before.before.before.if1.true)
-          (c.before.before.put-one-operand.ensures.0 g a (λ p. operator_value s.args.table p p) w u (bit-none s.args.table) (bit_both s.args.table s.requires.3)),
+          (c.before.before.put-one-operand.ensures.0 g a (λ p. operator_value s.args.table p p) w u (bit_none s.args.table) (bit_both s.args.table s.requires.3)),
       omega arith,
     )
 

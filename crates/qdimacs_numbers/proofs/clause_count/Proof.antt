@@ -2,7 +2,7 @@
 -- Assumes nothing.
 use borrow.Author.Rules.{rules}
 use mathlib.Core.Path.{sym}
-use Rattle.qdimacs_numbers.proofs.Counts.{count_constant, count-one, count_same, count_two}
+use Rattle.qdimacs_numbers.proofs.Counts.{count_constant, count_one, count_same, count_two}
 use Rattle.qdimacs_numbers.proofs.clause_count.Statement.{statement}
 use Rattle.qdimacs_numbers.proofs.clause_count.Tie as tie
 
@@ -10,7 +10,7 @@ returns : tie.Need-returns
 returns c = sym (count_constant _ _ _ c.if1.true)
 
 returns-2 : tie.Need-returns-2
-returns-2 c = sym (count-one _ _ _ c.before.before.if1.false c.if2.true)
+returns-2 c = sym (count_one _ _ _ c.before.before.if1.false c.if2.true)
 
 cast-left : tie.Need-overflow-cast-left
 cast-left c = search rules

@@ -2,12 +2,12 @@
 -- Assumes nothing.
 use native.Mathlib.Omega.{arith}
 use borrow.Author.Rules.{rules}
-use Rattle.qdimacs_prefix.proofs.Steps.{ended-none, ended}
+use Rattle.qdimacs_prefix.proofs.Steps.{ended_none, ended}
 use Rattle.qdimacs_prefix.proofs.end_line_lem.Statement.{statement}
 use Rattle.qdimacs_prefix.proofs.end_line_lem.Tie as tie
 
 returns : tie.Need-returns
-returns c = (search ended-none, omega arith)
+returns c = (search ended_none, omega arith)
 
 slice-aggregate-put-word : tie.Need-slice-aggregate-put-word
 slice-aggregate-put-word c = search rules

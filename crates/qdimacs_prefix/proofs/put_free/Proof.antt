@@ -6,7 +6,7 @@ use native.Mathlib.Omega.{arith}
 use borrow.Author.Rules.{rules}
 use Rattle.name_flags.specs.Flags.{flagged_below}
 use Rattle.qdimacs_prefix.specs.Lines.{added_text, kind_after, Goes}
-use Rattle.qdimacs_prefix.proofs.Steps.{free-none, free_next}
+use Rattle.qdimacs_prefix.proofs.Steps.{free_none, free_next}
 use Rattle.qdimacs_prefix.proofs.put_free.Statement.{statement}
 use Rattle.qdimacs_prefix.proofs.put_free.Tie as tie
 
@@ -20,7 +20,7 @@ abbrev decreases-loop : tie.decreases-loop
 decreases-loop names highest text₀ next₀ x₀ text next x = suc highest - x
 
 loop-holds : tie.Need-loop-init invariant-loop decreases-loop
-loop-holds c = (omega arith, omega arith, search free-none)
+loop-holds c = (omega arith, omega arith, search free_none)
 
 cast-put-free-name : tie.Need-overflow-cast-put-free-name invariant-loop decreases-loop
 cast-put-free-name c = search rules

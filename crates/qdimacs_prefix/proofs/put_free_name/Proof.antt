@@ -2,12 +2,12 @@
 -- Assumes nothing.
 use native.Mathlib.Omega.{arith}
 use borrow.Author.Rules.{rules}
-use Rattle.qdimacs_prefix.proofs.Steps.{flag-none, flag-put}
+use Rattle.qdimacs_prefix.proofs.Steps.{flag_none, flag_put}
 use Rattle.qdimacs_prefix.proofs.put_free_name.Statement.{statement}
 use Rattle.qdimacs_prefix.proofs.put_free_name.Tie as tie
 
 returns : tie.Need-returns
-returns c = (search flag-none, omega arith)
+returns c = (search flag_none, omega arith)
 
 turn-line-requires : tie.Need-turn-line-requires
 turn-line-requires c κs = search rules
@@ -19,7 +19,7 @@ same_length : tie.Need-same-length
 same_length c = search rules
 
 returns-2 : tie.Need-returns-2
-returns-2 c = (search flag-put, omega arith)
+returns-2 c = (search flag_put, omega arith)
 
 pub put-free-name-spec : {M : Type 1} → statement M
 put-free-name-spec =

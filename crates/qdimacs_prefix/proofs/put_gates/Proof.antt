@@ -6,7 +6,7 @@ use native.Mathlib.Omega.{arith}
 use lib.ListN.{length}
 use borrow.Author.Rules.{rules}
 use Rattle.lists.specs.Parts.{numbers}
-use Rattle.lists.proofs.Parts.{length-numbers}
+use Rattle.lists.proofs.Parts.{length_numbers}
 use Rattle.qdimacs_prefix.proofs.Steps.{block_none, block_put}
 use Rattle.qdimacs_prefix.proofs.put_gates.Statement.{statement}
 use Rattle.qdimacs_prefix.proofs.put_gates.Tie as tie
@@ -14,7 +14,7 @@ use Rattle.qdimacs_prefix.proofs.put_gates.Tie as tie
 returns : tie.Need-returns
 returns c =
     let g = c.before.before.args.gates in
-    let n = length-numbers g.first (g.end - g.first) in
+    let n = length_numbers g.first (g.end - g.first) in
     let none : length (numbers g.first (g.end - g.first)) ≡ 0 = omega arith in
     (search block_none, omega arith)
 
@@ -31,7 +31,7 @@ returns-2 : tie.Need-returns-2
 returns-2 c =
     let s = c.before.before.before.before.before.before.before.before.before.before in
     let g = s.args.gates in
-    let n = length-numbers g.first (g.end - g.first) in
+    let n = length_numbers g.first (g.end - g.first) in
     let some : length (numbers g.first (g.end - g.first)) ≡ 0 → ⊥ =
     λ z. c.before.before.before.before.before.before.before.before.if1.false (omega (arith, n, s.requires.0)) in
     (search block_put, omega arith)

@@ -6,7 +6,7 @@ use lib.ListN.{length, take}
 use borrow.Author.Rules.{rules}
 use Rattle.qdimacs_words.specs.Words.{Loose}
 use Rattle.qdimacs_prefix.specs.Lines.{names_text}
-use Rattle.qdimacs_prefix.proofs.Steps.{names-none, names_next, names-all}
+use Rattle.qdimacs_prefix.proofs.Steps.{names_none, names_next, names_all}
 use Rattle.qdimacs_prefix.proofs.put_names.Statement.{statement}
 use Rattle.qdimacs_prefix.proofs.put_names.Tie as tie
 
@@ -18,7 +18,7 @@ abbrev decreases-loop : tie.decreases-loop
 decreases-loop text₀ at names next₀ i₀ text next i = length names - i
 
 loop-holds : tie.Need-loop-init invariant-loop decreases-loop
-loop-holds c = (omega arith, omega arith, search names-none)
+loop-holds c = (omega arith, omega arith, search names_none)
 
 mul-put-name : tie.Need-overflow-mul-put-name invariant-loop decreases-loop
 mul-put-name c = search rules
@@ -42,7 +42,7 @@ same_length : tie.Need-same-length invariant-loop decreases-loop
 same_length c = search rules
 
 returns : tie.Need-returns invariant-loop decreases-loop
-returns c = (search names-all, omega arith)
+returns c = (search names_all, omega arith)
 
 pub put-names-spec : {M : Type 1} → statement M
 put-names-spec =

@@ -7,7 +7,7 @@ use borrow.Author.Rules.{rules}
 use Rattle.lists.specs.Parts.{numbers}
 use Rattle.qdimacs_words.specs.Words.{Loose}
 use Rattle.qdimacs_prefix.specs.Lines.{names_text}
-use Rattle.qdimacs_prefix.proofs.Steps.{numbers-none, numbers_next}
+use Rattle.qdimacs_prefix.proofs.Steps.{numbers_none, numbers_next}
 use Rattle.qdimacs_prefix.proofs.put_numbers.Statement.{statement}
 use Rattle.qdimacs_prefix.proofs.put_numbers.Tie as tie
 
@@ -19,7 +19,7 @@ abbrev decreases-loop : tie.decreases-loop
 decreases-loop text₀ at first end next₀ x₀ text next x = end - x
 
 loop-holds : tie.Need-loop-init invariant-loop decreases-loop
-loop-holds c = (omega arith, omega arith, omega arith, search numbers-none)
+loop-holds c = (omega arith, omega arith, omega arith, search numbers_none)
 
 put-name-requires : tie.Need-put-name-requires invariant-loop decreases-loop
 put-name-requires c κs = (omega arith, omega arith)

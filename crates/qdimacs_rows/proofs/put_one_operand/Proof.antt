@@ -4,7 +4,7 @@ use mathlib.Core.Bool.{true, false}
 use native.Mathlib.Omega.{arith}
 use borrow.Author.Rules.{rules}
 use Rattle.qdimacs_words.proofs.Loose.{loose_then, loose_as, loose_counted}
-use Rattle.qdimacs_rows.proofs.Lines.{one_lines, one-sizes}
+use Rattle.qdimacs_rows.proofs.Lines.{one_lines, one_sizes}
 use Rattle.qdimacs_rows.proofs.put_one_operand.Statement.{statement}
 use Rattle.qdimacs_rows.proofs.put_one_operand.Tie as tie
 
@@ -103,7 +103,7 @@ returns-2 c =
       λ g a f w u d e. loose_counted
           (omega (
             arith,
-            one-sizes g f a,
+            one_sizes g f a,
             (l a u.writable u.word_of).0.sized,
             (t a u.writable u.word_of).0.sized,
             (o g (f false) w d).sized,

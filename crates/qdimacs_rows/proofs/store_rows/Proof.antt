@@ -4,7 +4,7 @@ use native.Mathlib.Omega.{arith}
 use borrow.Author.Rules.{rules}
 use Rattle.formula.specs.Truth.{operator_value}
 use Rattle.qdimacs_words.proofs.Loose.{loose_then, loose_as}
-use Rattle.qdimacs_rows.proofs.Lines.{two_lines, bit-none, bit_right, bit-left, bit_both}
+use Rattle.qdimacs_rows.proofs.Lines.{two_lines, bit_none, bit_right, bit_left, bit_both}
 use Rattle.qdimacs_rows.proofs.Rooms.{short, two_room, room_first, room_after, three_room}
 use Rattle.qdimacs_rows.proofs.store_rows.Statement.{statement}
 use Rattle.qdimacs_rows.proofs.store_rows.Tie as tie
@@ -32,7 +32,7 @@ store-three-requires c κs =
     let r = c.before.before.before.before.positive2.ensures p.2.0 p.2.1.writable p.2.1.word_of in
     let m = c.before.before.before.negative.ensures p.1.0 p.1.1.writable p.1.1.word_of in
     let q = c.before.before.negative2.ensures p.2.0 p.2.1.writable p.2.1.word_of in
-    let h1 = c.literal.ensures.0 p.0.0 _ p.0.1 (bit-none s.args.table) in
+    let h1 = c.literal.ensures.0 p.0.0 _ p.0.1 (bit_none s.args.table) in
     let all = two_room s.args.text.now p.0.0 (operator_value s.args.table) p.1.0 p.2.0 _ (s.requires.1 p.0.0 p.1.0 p.2.0 p.0.1 p.1.1 p.2.1) in
     ((short l.1, short r.1, c.literal.ensures.1), three_room l.0 r.0 h1 (room_first _ _ all))
 
@@ -47,7 +47,7 @@ store-three-requires-2 c κs =
     let r = c.before.before.before.before.before.before.before.before.before.positive2.ensures p.2.0 p.2.1.writable p.2.1.word_of in
     let m = c.before.before.before.before.before.before.before.before.negative.ensures p.1.0 p.1.1.writable p.1.1.word_of in
     let q = c.before.before.before.before.before.before.before.negative2.ensures p.2.0 p.2.1.writable p.2.1.word_of in
-    let h1 = c.before.before.before.before.before.literal.ensures.0 p.0.0 _ p.0.1 (bit-none s.args.table) in
+    let h1 = c.before.before.before.before.before.literal.ensures.0 p.0.0 _ p.0.1 (bit_none s.args.table) in
     let h2 = c.literal2.ensures.0 p.0.0 _ p.0.1 (bit_right s.args.table) in
     let all = two_room s.args.text.now p.0.0 (operator_value s.args.table) p.1.0 p.2.0 _ (s.requires.1 p.0.0 p.1.0 p.2.0 p.0.1 p.1.1 p.2.1) in
     let room1 = room_after _ (c.before.before.before.before.store-three.ensures.0 _ _ _ l.0 r.0 h1) all in
@@ -66,9 +66,9 @@ store-three-requires-3 c κs =
     let r = c.before.before.before.before.before.before.before.before.before.before.before.before.before.before.positive2.ensures p.2.0 p.2.1.writable p.2.1.word_of in
     let m = c.before.before.before.before.before.before.before.before.before.before.before.before.before.negative.ensures p.1.0 p.1.1.writable p.1.1.word_of in
     let q = c.before.before.before.before.before.before.before.before.before.before.before.before.negative2.ensures p.2.0 p.2.1.writable p.2.1.word_of in
-    let h1 = c.before.before.before.before.before.before.before.before.before.before.literal.ensures.0 p.0.0 _ p.0.1 (bit-none s.args.table) in
+    let h1 = c.before.before.before.before.before.before.before.before.before.before.literal.ensures.0 p.0.0 _ p.0.1 (bit_none s.args.table) in
     let h2 = c.before.before.before.before.before.literal2.ensures.0 p.0.0 _ p.0.1 (bit_right s.args.table) in
-    let h3 = c.literal3.ensures.0 p.0.0 _ p.0.1 (bit-left s.args.table) in
+    let h3 = c.literal3.ensures.0 p.0.0 _ p.0.1 (bit_left s.args.table) in
     let all = two_room s.args.text.now p.0.0 (operator_value s.args.table) p.1.0 p.2.0 _ (s.requires.1 p.0.0 p.1.0 p.2.0 p.0.1 p.1.1 p.2.1) in
     let room1 = room_after _ (c.before.before.before.before.before.before.before.before.before.store-three.ensures.0 _ _ _ l.0 r.0 h1) all in
     let room2 = room_after _ (c.before.before.before.before.store-three2.ensures.0 _ _ _ l.0 q.0 h2) room1 in
@@ -87,9 +87,9 @@ store-three-requires-4 c κs =
     let r = c.before.before.before.before.before.before.before.before.before.before.before.before.before.before.before.before.before.before.before.positive2.ensures p.2.0 p.2.1.writable p.2.1.word_of in
     let m = c.before.before.before.before.before.before.before.before.before.before.before.before.before.before.before.before.before.before.negative.ensures p.1.0 p.1.1.writable p.1.1.word_of in
     let q = c.before.before.before.before.before.before.before.before.before.before.before.before.before.before.before.before.before.negative2.ensures p.2.0 p.2.1.writable p.2.1.word_of in
-    let h1 = c.before.before.before.before.before.before.before.before.before.before.before.before.before.before.before.literal.ensures.0 p.0.0 _ p.0.1 (bit-none s.args.table) in
+    let h1 = c.before.before.before.before.before.before.before.before.before.before.before.before.before.before.before.literal.ensures.0 p.0.0 _ p.0.1 (bit_none s.args.table) in
     let h2 = c.before.before.before.before.before.before.before.before.before.before.literal2.ensures.0 p.0.0 _ p.0.1 (bit_right s.args.table) in
-    let h3 = c.before.before.before.before.before.literal3.ensures.0 p.0.0 _ p.0.1 (bit-left s.args.table) in
+    let h3 = c.before.before.before.before.before.literal3.ensures.0 p.0.0 _ p.0.1 (bit_left s.args.table) in
     let h4 = c.literal4.ensures.0 p.0.0 _ p.0.1 (bit_both s.args.table p.3) in
     let all = two_room s.args.text.now p.0.0 (operator_value s.args.table) p.1.0 p.2.0 _ (s.requires.1 p.0.0 p.1.0 p.2.0 p.0.1 p.1.1 p.2.1) in
     let room1 = room_after _ (c.before.before.before.before.before.before.before.before.before.before.before.before.before.before.store-three.ensures.0 _ _ _ l.0 r.0 h1) all in
@@ -109,11 +109,11 @@ returns c =
     let q = c.before.before.before.before.before.before.before.before.before.before.before.before.before.before.before.before.before.before.before.before.negative2.ensures in
     λ g a b w u v. loose_as (two_lines g (operator_value s.args.table) a b)
     (loose_then
-    (c.before.before.before.before.before.before.before.before.before.before.before.before.before.before.before.before.before.store-three.ensures.0 _ _ _ (l a u.writable u.word_of).0 (r b v.writable v.word_of).0 (c.before.before.before.before.before.before.before.before.before.before.before.before.before.before.before.before.before.before.literal.ensures.0 g _ w (bit-none s.args.table)))
+    (c.before.before.before.before.before.before.before.before.before.before.before.before.before.before.before.before.before.store-three.ensures.0 _ _ _ (l a u.writable u.word_of).0 (r b v.writable v.word_of).0 (c.before.before.before.before.before.before.before.before.before.before.before.before.before.before.before.before.before.before.literal.ensures.0 g _ w (bit_none s.args.table)))
     (loose_then
     (c.before.before.before.before.before.before.before.before.before.before.before.before.store-three2.ensures.0 _ _ _ (l a u.writable u.word_of).0 (q b v.writable v.word_of).0 (c.before.before.before.before.before.before.before.before.before.before.before.before.before.literal2.ensures.0 g _ w (bit_right s.args.table)))
     (loose_then
-    (c.before.before.before.before.before.before.before.store-three3.ensures.0 _ _ _ (m a u.writable u.word_of).0 (r b v.writable v.word_of).0 (c.before.before.before.before.before.before.before.before.literal3.ensures.0 g _ w (bit-left s.args.table)))
+    (c.before.before.before.before.before.before.before.store-three3.ensures.0 _ _ _ (m a u.writable u.word_of).0 (r b v.writable v.word_of).0 (c.before.before.before.before.before.before.before.before.literal3.ensures.0 g _ w (bit_left s.args.table)))
     (c.before.before.store-three4.ensures.0 _ _ _ (m a u.writable u.word_of).0 (q b v.writable v.word_of).0 (c.before.before.before.literal4.ensures.0 g _ w (bit_both s.args.table s.requires.0.3))))))
 
 pub store-rows-spec : {M : Type 1} → statement M

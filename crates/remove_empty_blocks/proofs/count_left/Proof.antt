@@ -7,7 +7,7 @@ use borrow.Author.Rules.{rules}
 use Rattle.lists.specs.Parts.{sum}
 use Rattle.formula.specs.Words.{node_count}
 use Rattle.empty_blocks.specs.Removal.{left_below}
-use Rattle.remove_empty_blocks.proofs.Left.{left_le, left-counted}
+use Rattle.remove_empty_blocks.proofs.Left.{left_le, left_counted}
 use Rattle.remove_empty_blocks.proofs.count_left.Statement.{statement}
 use Rattle.remove_empty_blocks.proofs.count_left.Tie as tie
 
@@ -31,7 +31,7 @@ add_left : tie.Need-overflow-add-left invariant-loop decreases-loop
 add_left c =
     let s = c.before.before.before.before in
     let l = c.before.before.loop in
-    let e = left-counted s.args.words.now l.i _ c.stays.ensures in
+    let e = left_counted s.args.words.now l.i _ c.stays.ensures in
     omega (arith, l.invariant.1, e, left_le s.args.words.now (l.i + 1), s.requires.few)
 
 add-i : tie.Need-overflow-add-i invariant-loop decreases-loop
@@ -41,7 +41,7 @@ loop-less : tie.Need-loop-smaller invariant-loop decreases-loop
 loop-less c = search rules
 
 loop-again : tie.Need-loop-preserved invariant-loop decreases-loop
-loop-again c = let l = c.before.before.loop in (omega arith, omega (arith, l.invariant.1, left-counted _ l.i _ c.stays.ensures))
+loop-again c = let l = c.before.before.loop in (omega arith, omega (arith, l.invariant.1, left_counted _ l.i _ c.stays.ensures))
 
 returns : tie.Need-returns invariant-loop decreases-loop
 returns c =

@@ -3,7 +3,7 @@
 use mathlib.Core.Path.{◌∙◌, ap}
 use native.Mathlib.Omega.{arith}
 use borrow.Author.Rules.{rules}
-use Rattle.remove_empty_blocks.proofs.Outcome.{removed-refused, removed-accepted, small, table_left}
+use Rattle.remove_empty_blocks.proofs.Outcome.{removed_refused, removed_accepted, small, table_left}
 use Rattle.remove_empty_blocks.proofs.remove_empty_blocks.Statement.{statement}
 use Rattle.remove_empty_blocks.proofs.remove_empty_blocks.Tie as tie
 
@@ -12,7 +12,7 @@ check-stored-requires c κs = search rules
 
 returns : tie.Need-returns
 returns c =
-    let o = removed-refused _ _ _ _ c.before.before.check-stored.ensures (λ z. omega arith) in (o, table_left _ _ _ _ o)
+    let o = removed_refused _ _ _ _ c.before.before.check-stored.ensures (λ z. omega arith) in (o, table_left _ _ _ _ o)
 
 store-left-requires : tie.Need-store-left-requires
 store-left-requires c κs =
@@ -27,7 +27,7 @@ returns-2 : tie.Need-returns-2
 returns-2 c =
     let a = c.before.before.before.before.before.before.before.before.before.before.args in
     let n = ap (λ v. v.number) c.before.before.before.before.before.before.check-stored.ensures in
-    let o = c.before.before.store-left.ensures ∙ removed-accepted a.words.now a.list.now a.nodes.now (omega arith) in
+    let o = c.before.before.store-left.ensures ∙ removed_accepted a.words.now a.list.now a.nodes.now (omega arith) in
     (o, table_left _ _ _ _ o)
 
 pub remove-empty-blocks-spec : {M : Type 1} → statement M

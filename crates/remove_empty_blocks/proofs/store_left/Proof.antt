@@ -4,9 +4,9 @@ use mathlib.Core.Path.{sym, ◌∙◌}
 use native.Mathlib.Omega.{arith}
 use borrow.Author.Rules.{rules}
 use Rattle.formula.specs.Words.{node_count}
-use Rattle.empty_blocks.proofs.Left.{left-count}
+use Rattle.empty_blocks.proofs.Left.{left_count}
 use Rattle.remove_empty_blocks.proofs.Left.{left_le}
-use Rattle.remove_empty_blocks.proofs.Outcome.{storing_short, storing-done, whole_left}
+use Rattle.remove_empty_blocks.proofs.Outcome.{storing_short, storing_done, whole_left}
 use Rattle.remove_empty_blocks.proofs.store_left.Statement.{statement}
 use Rattle.remove_empty_blocks.proofs.store_left.Tie as tie
 
@@ -27,7 +27,7 @@ returns c =
     let n = c.before.before in
     let ws = n.before.before.before.args.words.now in
     storing_short _ _ _ c.refusal.ensures
-    (omega (arith, whole_left ws, left-count ws, n.count_left.ensures, c.before.if1.true))
+    (omega (arith, whole_left ws, left_count ws, n.count_left.ensures, c.before.if1.true))
 
 write-left-requires : tie.Need-write-left-requires
 write-left-requires c κs = search rules
@@ -50,7 +50,7 @@ returns-2 c =
     let t = c.before.before.before.before.before in
     let ws = t.before.before.before.before.args.words.now in
     let n = t.before.count_left.ensures in
-    storing-done _ _ _ c.accepted.ensures (omega (arith, whole_left ws, left-count ws, n, t.if1.false)) _ (n ∙ sym (left-count ws)) _
+    storing_done _ _ _ c.accepted.ensures (omega (arith, whole_left ws, left_count ws, n, t.if1.false)) _ (n ∙ sym (left_count ws)) _
     c.before.before.before.write-left.ensures
 
 pub store-left-spec : {M : Type 1} → statement M

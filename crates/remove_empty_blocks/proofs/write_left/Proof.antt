@@ -7,10 +7,10 @@ use native.Mathlib.Omega.{arith}
 use lib.ListN.{length, length-replicate}
 use borrow.Author.Rules.{rules}
 use Rattle.lists.specs.Parts.{sum, up_to, overwrite}
-use Rattle.lists.proofs.Overwrite.{overwrite-nil, overwrite_next, room_for-part}
+use Rattle.lists.proofs.Overwrite.{overwrite_nil, overwrite_next, room_for-part}
 use Rattle.formula.specs.Words.{width, node_count}
 use Rattle.empty_blocks.specs.Removal.{left_below, left_of, without_empty_blocks}
-use Rattle.empty_blocks.proofs.Left.{length-left}
+use Rattle.empty_blocks.proofs.Left.{length_left}
 use Rattle.remove_empty_blocks.specs.Steps.{NewIndices}
 use Rattle.remove_empty_blocks.proofs.Left.{left_grows}
 use Rattle.remove_empty_blocks.proofs.write_left.Statement.{statement}
@@ -31,7 +31,7 @@ loop-holds c = (
   refl,
   refl,
   record { long = length-replicate {A = ℕ} 4096 0; index_is = λ j l. absurd (omega arith) },
-  sym (overwrite-nil _ _),
+  sym (overwrite_nil _ _),
 )
 
 slice-aggregate-write-node : tie.Need-slice-aggregate-write-node invariant-loop decreases-loop
@@ -57,10 +57,10 @@ loop-again c =
     let r = c.before.before.before.write-node in
     let ws = s.args.words.now in
     let g = left_of ws in
-    let at : width * l.at ≡ 0 + length (up_to g l.i) = omega (arith, length-left ws l.i, l.invariant.2) in
+    let at : width * l.at ≡ 0 + length (up_to g l.i) = omega (arith, length_left ws l.i, l.invariant.2) in
     let n = node_count ws in
     let more : l.i < n = c.before.before.before.before.before.before.loop-test.true in
-    let room = room_for-part g 0 l.i n (length s.args.nodes.now) more (omega (arith, length-left ws n, s.requires.1)) in (
+    let room = room_for-part g 0 l.i n (length s.args.nodes.now) more (omega (arith, length_left ws n, s.requires.1)) in (
       omega arith,
       r.auto.1.0 ∙ l.invariant.1,
       r.ensures.0,

@@ -7,12 +7,12 @@ use lib.ListN.{get_or, length-set}
 use borrow.Author.Rules.{rules}
 use borrow.Author.Tests.{not-true, not-false}
 use Rattle.lists.specs.Parts.{overwrite}
-use Rattle.lists.proofs.Overwrite.{overwrite-nil}
+use Rattle.lists.proofs.Overwrite.{overwrite_nil}
 use Rattle.formula.specs.Words.{width}
 use Rattle.empty_blocks.specs.Removal.{renumbered}
 use Rattle.empty_blocks.proofs.Left.{gone_of}
 use Rattle.empty_blocks.proofs.Words.{lower_than}
-use Rattle.remove_empty_blocks.proofs.Left.{left_le, next_stays, next_goes, index_within, body_within, indexed_empty, indexed_left, written-left}
+use Rattle.remove_empty_blocks.proofs.Left.{left_le, next_stays, next_goes, index_within, body_within, indexed_empty, indexed_left, written_left}
 use Rattle.remove_empty_blocks.proofs.write_node.Statement.{statement}
 use Rattle.remove_empty_blocks.proofs.write_node.Tie as tie
 
@@ -57,7 +57,7 @@ returns c =
     let n = c.before.before.before.before.Node-at.ensures in
     let goes = sym c.before.before.before.stays.ensures ∙ not-true _ c.before.before.if1.true in
     let indexed = indexed_empty _ _ p.0 a.i p.1.0 p.1.1.0 goes _ (ap (λ w. get_or a.indices.now w.c 0) n) in
-    (next_goes _ _ _ goes p.1.1.1.0, (indexed, rw (gone_of _ _ goes, overwrite-nil)))
+    (next_goes _ _ _ goes p.1.1.1.0, (indexed, rw (gone_of _ _ goes, overwrite_nil)))
 
 mul-indices-2 : tie.Need-overflow-mul-indices-2
 mul-indices-2 c = search rules
@@ -98,7 +98,7 @@ returns-2 c =
     let t = c.before.before.before.before.before.before.before in
     let stay = sym t.stays.ensures ∙ not-false _ c.before.before.before.before.before.before.if1.false in
     let w = c.before.before.before.before.renumber.ensures ∙ ap (renumbered _) t.before.Node-at.ensures in
-    let left = written-left _ _ p.0 a.i p.1.0 p.1.1.0 stay _ p.1.1.1.0 _ w in (
+    let left = written_left _ _ p.0 a.i p.1.0 p.1.1.0 stay _ p.1.1.1.0 _ w in (
       next_stays _ _ _ stay p.1.1.1.0,
       (
         indexed_left _ _ p.0 a.i p.1.0 p.1.1.0 stay _ p.1.1.1.0,

@@ -2,7 +2,7 @@
 -- Assumes nothing.
 use native.Mathlib.Omega.{arith}
 use borrow.Author.Rules.{rules}
-use Rattle.report_text.proofs.Pieces.{line-put}
+use Rattle.report_text.proofs.Pieces.{line_put}
 use Rattle.report_text.proofs.put_line.Statement.{statement}
 use Rattle.report_text.proofs.put_line.Tie as tie
 
@@ -26,7 +26,7 @@ returns c =
     let end = c.before.before.put-word2.ensures in
     let figures = c.before.before.before.before.before.before.before.put-figures.ensures in
     let word = c.before.before.before.before.before.before.before.before.before.before.before.put_word.ensures in
-    (line-put _ _ word figures.0 end, omega (arith, word.counted, figures.1, end.counted))
+    (line_put _ _ word figures.0 end, omega (arith, word.counted, figures.1, end.counted))
 
 pub put-line-spec : {M : Type 1} → statement M
 put-line-spec =

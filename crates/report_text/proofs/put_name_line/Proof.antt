@@ -50,7 +50,7 @@ returns : tie.Need-returns
 unfolding line_figures
 returns c =
     let start = c.before.before.before.before.before.before.before.before.before.before.before.before.before.before.before in
-    let put = c.before.before.put-line.ensures in
+    let put = c.before.before.put_line.ensures in
     (put.0, omega (arith, put.1, start.requires, part_length start.args.names.now start.args.name.from start.args.name.end start.requires.2))
 
 pub put-name-line-spec : {M : Type 1} → statement M

@@ -20,7 +20,7 @@ same_length c = search rules
 
 returns : tie.Need-returns
 unfolding total_figures
-returns c = let put = c.before.before.put-line.ensures in (put.0, omega (arith, put.1))
+returns c = let put = c.before.before.put_line.ensures in (put.0, omega (arith, put.1))
 
 pub put-total-spec : {M : Type 1} → statement M
 put-total-spec =

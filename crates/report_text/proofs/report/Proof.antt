@@ -6,7 +6,7 @@ use native.Mathlib.Omega.{arith}
 use borrow.Author.Rules.{rules}
 use Prim.Native.Nat.{ℕ}
 use Rattle.refusals.specs.Outcome.{AnswerWith}
-use Rattle.report_text.proofs.Reports.{names-refused, names_few, lines_refused, line_each}
+use Rattle.report_text.proofs.Reports.{names_refused, names_few, lines_refused, line_each}
 use Rattle.report_text.proofs.report.Statement.{statement}
 use Rattle.report_text.proofs.report.Tie as tie
 
@@ -21,7 +21,7 @@ returns c =
     let start = c.before.before.before.before.before.before.before.before in
     let found = c.before.before.before.before.check-names.ensures in
     let no = c.refused.ensures in
-    names-refused _ _ start.args.out.now _ _ (ap (λ (a : AnswerWith ℕ). a.verdict) found) c.before.if1.true no.0 no.1 no.2
+    names_refused _ _ start.args.out.now _ _ (ap (λ (a : AnswerWith ℕ). a.verdict) found) c.before.if1.true no.0 no.1 no.2
 
 mul-if2 : tie.Need-overflow-mul-if2
 mul-if2 c = omega (arith, names_few _ c.before.before.before.before.before.before.before.args.lines.now _ _ c.before.before.before.check-names.ensures c.if1.false)

@@ -7,8 +7,8 @@ use borrow.Author.Rules.{rules}
 use Rattle.lists.proofs.Members.{mem_head}
 use Rattle.arrays.proofs.Nodes.{nodes_few}
 use Rattle.scopes.proofs.Nodes.{operand_lt, body_read}
-use Rattle.scopes.proofs.Scopes.{inherited_small, inner_own, root_filled, inner-filled}
-use Rattle.block_counts.proofs.Counting.{root_counted, inner-counted, counted_small}
+use Rattle.scopes.proofs.Scopes.{inherited_small, inner_own, root_filled, inner_filled}
+use Rattle.block_counts.proofs.Counting.{root_counted, inner_counted, counted_small}
 use Rattle.scopes.proofs.fill_block.Statement.{statement}
 use Rattle.scopes.proofs.fill_block.Tie as tie
 
@@ -91,7 +91,7 @@ count-inner-requires c κs =
     let s = c.before.before.before.before.before.before.before.before.before.before.before.before.before.before in
     let r = c.before.before.before.before.before.before.before.before.before.Node-at.ensures in
     let n = c.before.before.before.before.before.before.before.if1.false in
-    counted_small s.args.words.now s.args.list.now s.requires.0 s.args.i s.requires.1.0.0 _ (inner-counted s.args.words.now s.args.list.now s.requires.0 s.args.i s.requires.1.0.0 _ s.requires.1.1.1.1 _ r s.requires.1.0.1 _ n (inner_own s.args.words.now s.args.list.now s.requires.0 s.args.i s.requires.1.0.0 _ _ s.requires.1.1.1.0 s.requires.1.0.1 n))
+    counted_small s.args.words.now s.args.list.now s.requires.0 s.args.i s.requires.1.0.0 _ (inner_counted s.args.words.now s.args.list.now s.requires.0 s.args.i s.requires.1.0.0 _ s.requires.1.1.1.1 _ r s.requires.1.0.1 _ n (inner_own s.args.words.now s.args.list.now s.requires.0 s.args.i s.requires.1.0.0 _ _ s.requires.1.1.1.0 s.requires.1.0.1 n))
 
 same-length-3 : tie.Need-same-length-3
 same-length-3 c = search rules
@@ -106,8 +106,8 @@ returns-2 c =
     let r = c.before.before.before.before.before.before.before.before.before.before.Node-at.ensures in
     let n = c.before.before.before.before.before.before.before.before.if1.false in
     let d = c.before.before.before.before.before.hand-down2.ensures in (
-      inner-filled s.args.words.now s.args.list.now s.requires.0 s.args.i s.requires.1.0.0 _ _ s.requires.1.1.1.0 _ _ _ (body_read s.args.words.now s.args.list.now s.args.i _ r s.requires.1.0.1) s.requires.1.0.1 n s.requires.1.1.0.1 d.0 d.1,
-      rw c.count-inner.ensures (inner-counted s.args.words.now s.args.list.now s.requires.0 s.args.i s.requires.1.0.0 _ s.requires.1.1.1.1 _ r s.requires.1.0.1 _ n (inner_own s.args.words.now s.args.list.now s.requires.0 s.args.i s.requires.1.0.0 _ _ s.requires.1.1.1.0 s.requires.1.0.1 n)),
+      inner_filled s.args.words.now s.args.list.now s.requires.0 s.args.i s.requires.1.0.0 _ _ s.requires.1.1.1.0 _ _ _ (body_read s.args.words.now s.args.list.now s.args.i _ r s.requires.1.0.1) s.requires.1.0.1 n s.requires.1.1.0.1 d.0 d.1,
+      rw c.count-inner.ensures (inner_counted s.args.words.now s.args.list.now s.requires.0 s.args.i s.requires.1.0.0 _ s.requires.1.1.1.1 _ r s.requires.1.0.1 _ n (inner_own s.args.words.now s.args.list.now s.requires.0 s.args.i s.requires.1.0.0 _ _ s.requires.1.1.1.0 s.requires.1.0.1 n)),
     )
 
 pub fill-block-spec : {M : Type 1} → statement M

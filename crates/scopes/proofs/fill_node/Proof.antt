@@ -8,7 +8,7 @@ use Rattle.formula.specs.Words.{is_block_kind}
 use Rattle.arrays.proofs.Nodes.{block_read, nodes_few}
 use Rattle.block_counts.proofs.Counting.{plain_counted}
 use Rattle.scopes.proofs.Nodes.{operand_lt, plain_read, negation_read, operator_read, none_read}
-use Rattle.scopes.proofs.Stores.{stored-none, stored_both}
+use Rattle.scopes.proofs.Stores.{stored_none, stored_both}
 use Rattle.scopes.proofs.Scopes.{plain_filled}
 use Rattle.scopes.proofs.fill_node.Statement.{statement}
 use Rattle.scopes.proofs.fill_node.Tie as tie
@@ -113,7 +113,7 @@ returns-4 c =
     let s = c.before.before.before.before.before.before.before.before.before.before.before.before.before.before.before in
     let r = c.before.before.before.before.before.before.before.before.before.before.Node-at.ensures in
     let p = sym (c.before.is-block-kind.ensures ∙ block_read s.args.words.now s.args.list.now s.args.i _ r) ∙ c.if3.false in (
-      plain_filled s.args.words.now s.args.list.now s.requires.0 s.args.i s.requires.1.0.0 _ _ s.requires.1.1.1.0 _ _ _ (none_read _ _ _ _ r c.before.before.if2.false c.before.before.before.before.if1.false p) p (stored-none _ _) (stored-none _ _),
+      plain_filled s.args.words.now s.args.list.now s.requires.0 s.args.i s.requires.1.0.0 _ _ s.requires.1.1.1.0 _ _ _ (none_read _ _ _ _ r c.before.before.if2.false c.before.before.before.before.if1.false p) p (stored_none _ _) (stored_none _ _),
       (refl, plain_counted s.args.words.now s.args.list.now s.requires.0 s.args.i s.requires.1.0.0 _ s.requires.1.1.1.1 p),
     )
 

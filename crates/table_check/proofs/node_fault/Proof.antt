@@ -6,9 +6,9 @@ use Prim.Native.Nat.{ℕ, ◌+◌}
 use Rattle.lists.specs.Choice.{clash}
 use Rattle.formula.specs.Words.{is_block_kind}
 use Rattle.formula.specs.declared.NodeWords.{NodeWords}
-use Rattle.table_check.proofs.Faults.{fault_words, fault_block, fault_no_kind, words_passed, binds-none}
+use Rattle.table_check.proofs.Faults.{fault_words, fault_block, fault_no_kind, words_passed, binds_none}
 use Rattle.acceptance.proofs.Accepted.{count_block}
-use Rattle.tree_check.proofs.Named.{names-none, counted_room, counted_more, counted_still}
+use Rattle.tree_check.proofs.Named.{names_none, counted_room, counted_more, counted_still}
 use native.Mathlib.Omega.{arith}
 use borrow.Author.Rules.{rules}
 use Rattle.table_check.proofs.node_fault.Statement.{statement}
@@ -34,8 +34,8 @@ returns c =
     let k = sym (ap kind_of e) ∙ c.before.if1.true in
     let r = rw e at (c.variable-fault.ensures a.i) in
     let f = r ∙ sym (fault_words a.words.now a.list.now a.i (rw k refl)) in
-    let bound = sym (binds-none a.words.now a.i a.before.now (rw k refl)) in
-    (f, (λ p. bound, (λ p. u.requires.1.1.0, λ p. counted_still _ _ _ (names-none _ (rw k refl) (rw k refl) (rw k refl)) u.requires.1.1.1)))
+    let bound = sym (binds_none a.words.now a.i a.before.now (rw k refl)) in
+    (f, (λ p. bound, (λ p. u.requires.1.1.0, λ p. counted_still _ _ _ (names_none _ (rw k refl) (rw k refl) (rw k refl)) u.requires.1.1.1)))
 
 operator-fault-requires : tie.Need-operator-fault-requires
 operator-fault-requires c κs =
@@ -56,7 +56,7 @@ returns-2 c =
     let m = c.before.before.operator-fault in
     let r = rw e at m.ensures in
     let f = r.0 ∙ sym (fault_words a.words.now a.list.now a.i (rw k refl)) in
-    let bound = sym (binds-none a.words.now a.i a.before.now (rw k refl)) in
+    let bound = sym (binds_none a.words.now a.i a.before.now (rw k refl)) in
     (f, (λ p. bound, (λ p. u.requires.1.1.0, λ p. counted_more _ _ _ _ m.auto.1.1.0 u.requires.1.1.1 (r.1 (words_passed _ _ _ r.0 p)))))
 
 is-block-kind-requires : tie.Need-is-block-kind-requires
@@ -120,7 +120,7 @@ returns-4 c =
     let m = c.before.before.negation-fault in
     let r = rw e at m.ensures in
     let f = r.0 ∙ sym (fault_words a.words.now a.list.now a.i (rw k refl)) in
-    let bound = sym (binds-none a.words.now a.i a.before.now (rw k refl)) in
+    let bound = sym (binds_none a.words.now a.i a.before.now (rw k refl)) in
     (f, (λ p. bound, (λ p. u.requires.1.1.0, λ p. counted_more _ _ _ _ m.auto.1.1.0 u.requires.1.1.1 (r.1 (words_passed _ _ _ r.0 p)))))
 
 constant-fault-requires : tie.Need-constant-fault-requires
@@ -136,8 +136,8 @@ returns-5 c =
     let k = sym (ap kind_of e) ∙ c.before.if5.true in
     let r = rw e at (c.constant-fault.ensures a.i) in
     let f = r ∙ sym (fault_words a.words.now a.list.now a.i (rw k refl)) in
-    let bound = sym (binds-none a.words.now a.i a.before.now (rw k refl)) in
-    (f, (λ p. bound, (λ p. u.requires.1.1.0, λ p. counted_still _ _ _ (names-none _ (rw k refl) (rw k refl) (rw k refl)) u.requires.1.1.1)))
+    let bound = sym (binds_none a.words.now a.i a.before.now (rw k refl)) in
+    (f, (λ p. bound, (λ p. u.requires.1.1.0, λ p. counted_still _ _ _ (names_none _ (rw k refl) (rw k refl) (rw k refl)) u.requires.1.1.1)))
 
 returns-6 : tie.Need-returns-6
 returns-6 c =

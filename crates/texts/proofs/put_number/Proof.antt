@@ -5,7 +5,7 @@ use Prim.Native.Nat.{◌+◌}
 use native.Mathlib.Omega.{arith}
 use borrow.Author.Rules.{rules}
 use Rattle.texts.proofs.Lengths.{at_most_six}
-use Rattle.texts.proofs.Put.{put-stored, put-counted}
+use Rattle.texts.proofs.Put.{put_stored, put_counted}
 use Rattle.texts.proofs.put_number.Statement.{statement}
 use Rattle.texts.proofs.put_number.Tie as tie
 
@@ -25,7 +25,7 @@ returns : tie.Need-returns
 returns c =
     let at = c.before.before.before.before.before.before.before.args.at in
     let x = c.before.before.before.before.before.before.before.args.x in (
-      put-stored _ _ _ _ _ (ap (λ n. at + n) c.before.before.before.before.before.digit-count.ensures) (omega arith)
+      put_stored _ _ _ _ _ (ap (λ n. at + n) c.before.before.before.before.before.digit-count.ensures) (omega arith)
           c.before.before.store-digits.ensures,
       omega (arith, at_most_six x (omega arith)),
     )
@@ -34,7 +34,7 @@ returns-2 : tie.Need-returns-2
 returns-2 c =
     let at = c.before.before.before.args.at in
     let x = c.before.before.before.args.x in (
-      put-counted _ _ _ _ (ap (λ n. at + n) c.before.digit-count.ensures) (omega arith),
+      put_counted _ _ _ _ (ap (λ n. at + n) c.before.digit-count.ensures) (omega arith),
       omega (arith, at_most_six x (omega arith)),
     )
 

@@ -4,7 +4,7 @@ use mathlib.Core.Path.{ap}
 use Prim.Native.Nat.{◌+◌}
 use native.Mathlib.Omega.{arith}
 use borrow.Author.Rules.{rules}
-use Rattle.texts.proofs.Put.{put-stored, put-counted}
+use Rattle.texts.proofs.Put.{put_stored, put_counted}
 use Rattle.texts.proofs.put_wide_number.Statement.{statement}
 use Rattle.texts.proofs.put_wide_number.Tie as tie
 
@@ -24,7 +24,7 @@ returns : tie.Need-returns
 returns c =
     let at = c.before.before.before.before.before.before.before.args.at in
     let count = c.before.before.before.before.before.wide-digit-count.ensures in (
-      put-stored _ _ _ _ _ (ap (λ n. at + n) count.0) (omega arith) c.before.before.store-wide-digits.ensures,
+      put_stored _ _ _ _ _ (ap (λ n. at + n) count.0) (omega arith) c.before.before.store-wide-digits.ensures,
       omega (arith, count.1),
     )
 
@@ -32,7 +32,7 @@ returns-2 : tie.Need-returns-2
 returns-2 c =
     let at = c.before.before.before.args.at in
     let count = c.before.wide-digit-count.ensures in
-    (put-counted _ _ _ _ (ap (λ n. at + n) count.0) (omega arith), omega (arith, count.1))
+    (put_counted _ _ _ _ (ap (λ n. at + n) count.0) (omega arith), omega (arith, count.1))
 
 pub put-wide-number-spec : {M : Type 1} → statement M
 put-wide-number-spec =

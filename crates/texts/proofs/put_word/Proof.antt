@@ -3,7 +3,7 @@
 use mathlib.Core.Path.{refl}
 use native.Mathlib.Omega.{arith}
 use borrow.Author.Rules.{rules}
-use Rattle.texts.proofs.Put.{put-counted}
+use Rattle.texts.proofs.Put.{put_counted}
 use Rattle.texts.proofs.put_word.Statement.{statement}
 use Rattle.texts.proofs.put_word.Tie as tie
 
@@ -20,7 +20,7 @@ returns : tie.Need-returns
 returns c = search rules
 
 returns-2 : tie.Need-returns-2
-returns-2 c = put-counted _ _ _ _ refl (omega arith)
+returns-2 c = put_counted _ _ _ _ refl (omega arith)
 
 pub put-word-spec : {M : Type 1} → statement M
 put-word-spec = tie.close (tie.spec add-next store-word-requires same_length returns returns-2)

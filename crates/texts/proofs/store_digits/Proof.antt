@@ -3,7 +3,7 @@
 use borrow.Author.Rules.{rules}
 use native.Mathlib.Omega.{arith}
 use lib.ListN.{length-set}
-use Rattle.texts.proofs.Stores.{Back, back_start, back_room, back-length, back_step, back_end}
+use Rattle.texts.proofs.Stores.{Back, back_start, back_room, back_length, back_step, back_end}
 use Rattle.texts.proofs.store_digits.Statement.{statement}
 use Rattle.texts.proofs.store_digits.Tie as tie
 
@@ -28,7 +28,7 @@ slice-write-text : tie.Need-slice-write-text invariant-loop decreases-loop
 slice-write-text c =
     let p = c.before.before.before.before.requires in
     let b = c.before.before.loop.invariant in
-    omega (arith, back_room _ _ _ _ _ _ b p.0 p.1, back-length _ _ _ _ _ _ b p.0 p.1)
+    omega (arith, back_room _ _ _ _ _ _ b p.0 p.1, back_length _ _ _ _ _ _ b p.0 p.1)
 
 loop-less : tie.Need-loop-smaller invariant-loop decreases-loop
 loop-less c = search rules
@@ -50,12 +50,12 @@ slice-write-text-2 : tie.Need-slice-write-text-2 invariant-loop decreases-loop
 slice-write-text-2 c =
     let p = c.before.before.before.before.requires in
     let b = c.before.before.loop.invariant in
-    omega (arith, back_room _ _ _ _ _ _ b p.0 p.1, back-length _ _ _ _ _ _ b p.0 p.1)
+    omega (arith, back_room _ _ _ _ _ _ b p.0 p.1, back_length _ _ _ _ _ _ b p.0 p.1)
 
 same_length : tie.Need-same-length invariant-loop decreases-loop
 same_length c =
     let p = c.before.before.before.before.requires in
-    simp length-set (back-length _ _ _ _ _ _ c.before.before.loop.invariant p.0 p.1)
+    simp length-set (back_length _ _ _ _ _ _ c.before.before.loop.invariant p.0 p.1)
 
 returns : tie.Need-returns invariant-loop decreases-loop
 returns c =

@@ -6,8 +6,8 @@ use borrow.Author.Rules.{rules}
 use native.Mathlib.Omega.{arith}
 use lib.ListN.{length, take, length-set}
 use Rattle.lists.specs.Parts.{overwrite}
-use Rattle.lists.proofs.Overwrite.{overwrite-nil}
-use Rattle.texts.proofs.Stores.{store_next, store-all}
+use Rattle.lists.proofs.Overwrite.{overwrite_nil}
+use Rattle.texts.proofs.Stores.{store_next, store_all}
 use Rattle.texts.proofs.store_word.Statement.{statement}
 use Rattle.texts.proofs.store_word.Tie as tie
 
@@ -18,7 +18,7 @@ abbrev decreases-loop : tie.decreases-loop
 decreases-loop text₀ at word k₀ text k = length word - k
 
 loop-holds : tie.Need-loop-init invariant-loop decreases-loop
-loop-holds c = (search rules, search rules, sym (overwrite-nil _ _))
+loop-holds c = (search rules, search rules, sym (overwrite_nil _ _))
 
 shared-slice-read-text : tie.Need-shared-slice-read-text invariant-loop decreases-loop
 shared-slice-read-text c = search rules
@@ -44,7 +44,7 @@ same_length : tie.Need-same-length invariant-loop decreases-loop
 same_length c = search rules
 
 returns : tie.Need-returns invariant-loop decreases-loop
-returns c = store-all _ _ _ _ c.before.loop.k c.before.loop.invariant.2 (omega arith)
+returns c = store_all _ _ _ _ c.before.loop.k c.before.loop.invariant.2 (omega arith)
 
 pub store-word-spec : {M : Type 1} → statement M
 store-word-spec =

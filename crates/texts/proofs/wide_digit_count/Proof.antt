@@ -7,8 +7,8 @@ use native.Mathlib.Omega.{arith}
 use borrow.Author.Rules.{rules}
 use lib.ListN.{length}
 use Rattle.texts.specs.Numerals.{digits}
-use Rattle.texts.proofs.Numerals.{length_below_ten, length-step}
-use Rattle.texts.proofs.Lengths.{some-digit, at_most_twenty}
+use Rattle.texts.proofs.Numerals.{length_below_ten, length_step}
+use Rattle.texts.proofs.Lengths.{some_digit, at_most_twenty}
 use Rattle.texts.proofs.wide_digit_count.Statement.{statement}
 use Rattle.texts.proofs.wide_digit_count.Tie as tie
 
@@ -30,7 +30,7 @@ loop-less c = search rules
 loop-again : tie.Need-loop-preserved invariant-loop decreases-loop
 loop-again c =
     let turn = c.before.loop in
-    (omega (arith, turn.invariant.0, length-step turn.left (omega arith)), turn.invariant.1)
+    (omega (arith, turn.invariant.0, length_step turn.left (omega arith)), turn.invariant.1)
 
 returns : tie.Need-returns invariant-loop decreases-loop
 returns c =

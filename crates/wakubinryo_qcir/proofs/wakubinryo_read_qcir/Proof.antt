@@ -1,7 +1,7 @@
 -- `wakubinryo_qcir::wakubinryo_read_qcir` meets its contract.
 -- Assumes nothing.
-use Rattle.qcir.proofs.Answers.{reading-plain}
-use Rattle.wakubinryo_qcir.proofs.Answers.{read-said}
+use Rattle.qcir.proofs.Answers.{reading_plain}
+use Rattle.wakubinryo_qcir.proofs.Answers.{read_said}
 use borrow.Author.Rules.{rules}
 use Rattle.wakubinryo_qcir.proofs.wakubinryo_read_qcir.Statement.{statement}
 use Rattle.wakubinryo_qcir.proofs.wakubinryo_read_qcir.Tie as tie
@@ -10,7 +10,7 @@ read-requires : tie.Need-read-requires
 read-requires c κs = search rules
 
 put-answer-requires : tie.Need-put-answer-requires
-put-answer-requires c κs = reading-plain _ _ _ _ c.before.before.before.before.read.ensures.0
+put-answer-requires c κs = reading_plain _ _ _ _ c.before.before.before.before.read.ensures.0
 
 same_length : tie.Need-same-length
 same_length c = search rules
@@ -22,7 +22,7 @@ returns : tie.Need-returns
 returns c =
     let s = c.before.before.before.before.before.before.before.before.before.before.before.before in
     let f = c.before.before.before.before.before.read in
-    read-said s.args.text.now s.args.words.now s.args.list.now _ _ f.result _ c.put-answer.ensures f.ensures
+    read_said s.args.text.now s.args.words.now s.args.list.now _ _ f.result _ c.put-answer.ensures f.ensures
 
 pub wakubinryo-read-qcir-spec : {M : Type 1} → statement M
 wakubinryo-read-qcir-spec =

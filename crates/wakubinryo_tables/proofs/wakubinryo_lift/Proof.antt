@@ -1,7 +1,7 @@
 -- `wakubinryo_tables::wakubinryo_lift` meets its contract.
 -- Assumes nothing.
 use Rattle.prenex.specs.Outcome.{FormWritten}
-use Rattle.wakubinryo_tables.proofs.Answers.{said, promise-said, sizes-said}
+use Rattle.wakubinryo_tables.proofs.Answers.{said, promise_said, sizes_said}
 use borrow.Author.Rules.{rules}
 use Rattle.wakubinryo_tables.proofs.wakubinryo_lift.Statement.{statement}
 use Rattle.wakubinryo_tables.proofs.wakubinryo_lift.Tie as tie
@@ -25,7 +25,7 @@ returns : tie.Need-returns
 returns c =
     let f = c.before.before.before.before.before.before.before.lift.ensures in
     let e = c.put-answer.ensures in
-    (said _ _ _ _ e f.0, (sizes-said _ _ _ e f.1.0, promise-said (FormWritten _) _ _ _ e f.1.1))
+    (said _ _ _ _ e f.0, (sizes_said _ _ _ e f.1.0, promise_said (FormWritten _) _ _ _ e f.1.1))
 
 pub wakubinryo-lift-spec : {M : Type 1} → statement M
 wakubinryo-lift-spec =

@@ -1,7 +1,7 @@
 -- `wakubinryo_tables::wakubinryo_remove_empty_blocks` meets its contract.
 -- Assumes nothing.
 use Rattle.remove_empty_blocks.specs.Outcome.{after, TableLeft}
-use Rattle.wakubinryo_tables.proofs.Answers.{said, promise-said}
+use Rattle.wakubinryo_tables.proofs.Answers.{said, promise_said}
 use borrow.Author.Rules.{rules}
 use Rattle.wakubinryo_tables.proofs.wakubinryo_remove_empty_blocks.Statement.{statement}
 use Rattle.wakubinryo_tables.proofs.wakubinryo_remove_empty_blocks.Tie as tie
@@ -20,7 +20,7 @@ unfolding after
 returns c =
     let r = c.before.before.before.before.remove-empty-blocks.ensures in
     let e = c.put_count.ensures in
-    (said _ _ _ _ e r.0, promise-said (TableLeft _ _) _ _ _ e r.1)
+    (said _ _ _ _ e r.0, promise_said (TableLeft _ _) _ _ _ e r.1)
 
 pub wakubinryo-remove-empty-blocks-spec : {M : Type 1} → statement M
 wakubinryo-remove-empty-blocks-spec =

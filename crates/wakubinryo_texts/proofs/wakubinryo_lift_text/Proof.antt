@@ -3,7 +3,7 @@
 use borrow.Author.Rules.{rules}
 use Rattle.lift_text.specs.Lifting.{LiftsText}
 use Rattle.lift_text.proofs.Plain.{lifting_plain}
-use Rattle.wakubinryo_texts.proofs.Answers.{unknown-plain, in-format, in-none}
+use Rattle.wakubinryo_texts.proofs.Answers.{unknown_plain, in_format, in_none}
 use Rattle.wakubinryo_texts.proofs.wakubinryo_lift_text.Statement.{statement}
 use Rattle.wakubinryo_texts.proofs.wakubinryo_lift_text.Tie as tie
 
@@ -26,7 +26,7 @@ unknown-format-requires : tie.Need-unknown-format-requires
 unknown-format-requires c κs = search rules
 
 put-lift-requires-2 : tie.Need-put-lift-requires-2
-put-lift-requires-2 c κs = unknown-plain _ c.unknown-format.ensures
+put-lift-requires-2 c κs = unknown_plain _ c.unknown-format.ensures
 
 same_length : tie.Need-same-length
 same_length c = search rules
@@ -37,7 +37,7 @@ returns c =
     let k = l.before.before.before in
     let f = k.before.before.before in
     let s = f.before.before.before in
-    in-format s.args.format _ f.format-of.ensures _ l.lift-text.result _ c.put-lift.ensures _ k.before.asked.given.1
+    in_format s.args.format _ f.format-of.ensures _ l.lift-text.result _ c.put-lift.ensures _ k.before.asked.given.1
     (λ f o. LiftsText f s.args.text.now s.args.out.now o) _ l.lift-text.ensures
 
 returns-2 : tie.Need-returns-2
@@ -46,7 +46,7 @@ returns-2 c =
     let k = u.before.before in
     let f = k.before.before in
     let s = f.before.before.before in
-    in-none s.args.format _ f.format-of.ensures s.args.out.now u.unknown-format.result _ c.put-lift2.ensures k.enum_told.given.1 _ u.unknown-format.ensures
+    in_none s.args.format _ f.format-of.ensures s.args.out.now u.unknown-format.result _ c.put-lift2.ensures k.enum_told.given.1 _ u.unknown-format.ensures
 
 pub wakubinryo-lift-text-spec : {M : Type 1} → statement M
 wakubinryo-lift-text-spec =

@@ -1,0 +1,9 @@
+-- `formula::operator_node` meets its contract: the words are the definition's.
+-- Assumes nothing.
+use mathlib.Core.Path.{refl}
+use Rattle.formula.specs.Words.{words_of}
+use Rattle.formula.proofs.operator_node.Goals as goal
+
+pub returns : goal.returns
+unfolding words_of
+returns c = refl

@@ -1,0 +1,9 @@
+-- `formula::variable_node` meets its contract: the words are the definition's.
+-- Assumes nothing.
+use mathlib.Core.Path.{refl}
+use Rattle.formula.specs.Words.{words_of}
+use Rattle.formula.proofs.variable_node.Goals as goal
+
+pub returns : goal.returns
+unfolding words_of
+returns c = refl

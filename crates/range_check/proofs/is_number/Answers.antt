@@ -1,0 +1,9 @@
+-- `range_check::is_number` meets its contract: its test is the definition.
+-- Assumes nothing.
+use mathlib.Core.Path.{refl}
+use Rattle.acceptance.specs.Verdict.{is_number_to}
+use Rattle.range_check.proofs.is_number.Goals as goal
+
+pub returns : goal.returns
+unfolding is_number_to
+returns c = refl
