@@ -84,7 +84,7 @@ pub fn find_binders(
 
 // Where the walk stands: in the scope of a block, or of none at the table's size; and at one more than
 // a variable node or block right in it, or at 0 past the last. And how many steps it has taken.
-#[derive(Drop)]
+#[derive(Clone, Copy)]
 pub struct Place {
     pub scope: usize,
     pub link: u16,

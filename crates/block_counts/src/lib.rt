@@ -12,7 +12,7 @@ const NODES_PER_BLOCK: u32 = 5;
 
 // How many blocks a table has and how many variables they bind, the same of the inner blocks, the
 // nodes that the inner blocks add to the prenex form, and the deepest level.
-#[derive(Drop)]
+#[derive(Clone, Copy)]
 pub struct Counts {
     pub blocks: u32,
     pub bound: u32,

@@ -24,7 +24,7 @@ use formula::VARIABLE;
 
 // What the pass over the members has found of the nodes from `node` up: how many entries stand before
 // theirs, and their highest number.
-#[derive(Drop)]
+#[derive(Clone, Copy)]
 pub struct Passed {
     pub node: usize,
     pub start: usize,

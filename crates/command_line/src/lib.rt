@@ -21,14 +21,14 @@ pub const ROOM: usize = 65537;
 const LINE_END: u8 = b'\n';
 
 // How many bytes were read, and whether that failed.
-#[derive(Drop)]
+#[derive(Clone, Copy)]
 pub struct Input {
     pub length: usize,
     pub failed: bool,
 }
 
 // A place in a text: line and column, both from 1; columns are bytes.
-#[derive(Drop)]
+#[derive(Clone, Copy)]
 struct Place {
     line: usize,
     column: usize,

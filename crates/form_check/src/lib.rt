@@ -39,14 +39,14 @@ pub const PREFIX_WIDTH: usize = 3;
 
 // The number of a refusal (0: accepted), and its node or block. A prefix may have more blocks than 32
 // bits count, if they are empty.
-#[derive(Drop)]
+#[derive(Clone, Copy)]
 pub struct FormVerdict {
     pub number: u32,
     pub position: u64,
 }
 
 // The verdict, and the highest name in the prefix (0 if it has none).
-#[derive(Drop)]
+#[derive(Clone, Copy)]
 pub struct Checked {
     pub verdict: FormVerdict,
     pub highest: u32,
@@ -153,7 +153,7 @@ fn take_block(
 }
 
 // The words of a prefix block.
-#[derive(Drop)]
+#[derive(Clone, Copy)]
 struct BlockWords {
     kind: u32,
     first: u32,

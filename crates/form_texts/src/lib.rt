@@ -6,7 +6,7 @@ ghost use Rattle.form_texts.specs.Writing.{answer_of};
 ghost use Rattle.form_texts.specs.Words.{text_answer};
 
 // The number of a refusal (0: done), its node or block, and the bytes written.
-#[derive(Drop)]
+#[derive(Clone, Copy)]
 pub struct Answer {
     pub number: u32,
     pub position: u64,

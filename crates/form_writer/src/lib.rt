@@ -9,7 +9,7 @@ ghost use Rattle.form_writer.specs.Formats.{text_as};
 use form_texts::Answer;
 
 // The formats of a text.
-#[derive(Drop)]
+#[derive(Clone, Copy)]
 pub enum Format {
     Qcir,
     Qdimacs,

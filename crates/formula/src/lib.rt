@@ -32,7 +32,7 @@ pub fn is_block_kind(kind: u32) -> bool
 }
 
 // A node's words: its kind and what stands in its fields.
-#[derive(Drop)]
+#[derive(Clone, Copy)]
 pub struct NodeWords {
     pub kind: u32,
     pub a: u32,

@@ -24,14 +24,14 @@ const FEW_NUMBERS: usize = 4096;
 const NUMBERS: usize = 65536;
 
 // The verdict, and how many names were written.
-#[derive(Drop)]
+#[derive(Clone, Copy)]
 pub struct Listed {
     pub verdict: Verdict,
     pub count: u32,
 }
 
 // How many flags are set, and a number below which none is.
-#[derive(Drop)]
+#[derive(Clone, Copy)]
 pub struct FlagsSet {
     pub count: usize,
     pub lowest: usize,

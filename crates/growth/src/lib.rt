@@ -35,7 +35,7 @@ const PARTIAL_LINE: u32 = PARTIAL_NODE;
 
 // A line: the number of a refusal or 0, n, b, q and depth of the file's table, and the nodes and variables of its
 // prenex form.
-#[derive(Drop)]
+#[derive(Clone, Copy)]
 pub struct Line {
     pub number: u32,
     pub n: u32,
@@ -47,7 +47,7 @@ pub struct Line {
 }
 
 // Written and input nodes.
-#[derive(Drop)]
+#[derive(Clone, Copy)]
 pub struct Growth {
     pub written: u64,
     pub input: u64,
@@ -55,7 +55,7 @@ pub struct Growth {
 
 // How many files were read and how many refused, the sums of the six figures, and the growth of the file that grew
 // most.
-#[derive(Drop)]
+#[derive(Clone, Copy)]
 pub struct Totals {
     pub read: u64,
     pub refused: u64,
@@ -68,7 +68,7 @@ pub struct Totals {
     pub most: Growth,
 }
 
-#[derive(Drop)]
+#[derive(Clone, Copy)]
 pub struct Answer {
     pub verdict: Verdict,
     pub totals: Totals,

@@ -16,7 +16,7 @@ use name_lines::{Found, Name, State};
 use refusals::{ACCEPTED, UNREADABLE};
 
 // What standard input has told so far, whether there may be more, and whether reading failed.
-#[derive(Drop)]
+#[derive(Clone, Copy)]
 struct Part {
     state: State,
     more: bool,
@@ -24,7 +24,7 @@ struct Part {
 }
 
 // The names, and whether reading failed.
-#[derive(Drop)]
+#[derive(Clone, Copy)]
 struct Given {
     found: Found,
     failed: bool,

@@ -21,7 +21,7 @@ pub const NODES: usize = 40960;
 pub const HIGHEST_NAME: u32 = 77823;
 
 // 14 (0: accepted), and the node that the table checker's verdict is at.
-#[derive(Drop)]
+#[derive(Clone, Copy)]
 pub struct MatrixVerdict {
     pub number: u32,
     pub position: usize,

@@ -27,14 +27,14 @@ const NAME: usize = 255;
 pub const ROOM: usize = 65536;
 
 // Where a name stands: from its first byte to before its end.
-#[derive(Drop)]
+#[derive(Clone, Copy)]
 pub struct Name {
     pub from: usize,
     pub end: usize,
 }
 
 // The verdict on the names, and how many there are if they are taken.
-#[derive(Drop)]
+#[derive(Clone, Copy)]
 pub struct Answer {
     pub verdict: Verdict,
     pub count: usize,
@@ -42,7 +42,7 @@ pub struct Answer {
 
 // What has been read: how many names have begun (257: over 256), how many bytes of the last (256: over 255) unless it has
 // ended, whether one was over 255 bytes, and how many bytes are kept.
-#[derive(Drop)]
+#[derive(Clone, Copy)]
 pub struct State {
     count: usize,
     length: usize,
@@ -51,7 +51,7 @@ pub struct State {
 }
 
 // The verdict on the names, and, if they are taken, how many there are and how many bytes are kept of them.
-#[derive(Drop)]
+#[derive(Clone, Copy)]
 pub struct Found {
     pub verdict: Verdict,
     pub count: usize,

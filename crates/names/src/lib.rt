@@ -4,13 +4,13 @@
 ghost use Rattle.std.specs.Prelude.{◌≡◌, ◌+◌, ◌≤◌, ◌<◌};
 
 // The next free number. Every new name is handed out by it.
-#[derive(Drop)]
+#[derive(Clone, Copy)]
 pub struct NameCounter {
     pub next: u32,
 }
 
 // A name, or the first of several, and the counter after it.
-#[derive(Drop)]
+#[derive(Clone, Copy)]
 pub struct Handed {
     pub name: u32,
     pub counter: NameCounter,

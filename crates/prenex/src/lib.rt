@@ -38,7 +38,7 @@ use prenex_form::Sizes;
 use refusals::{ACCEPTED, BUFFER_TOO_SHORT, Verdict};
 
 // The verdict and the sizes.
-#[derive(Drop)]
+#[derive(Clone, Copy)]
 pub struct Answer {
     pub verdict: Verdict,
     pub sizes: Sizes,

@@ -9,7 +9,7 @@ ghost use Rattle.formula.specs.Form.{quantifier_of, kind_of};
 
 // Document 01's sizes: n nodes, b blocks, q bound variables and the quantifier depth of a table, and
 // the nodes, prefix blocks and list entries of its prenex form.
-#[derive(Drop)]
+#[derive(Clone, Copy)]
 pub struct Sizes {
     pub n: u32,
     pub b: u32,

@@ -43,7 +43,7 @@ const OR: u32 = 14;
 const XOR: u32 = 6;
 
 // How far the writing has come, and the gate line that is being written.
-#[derive(Drop)]
+#[derive(Clone, Copy)]
 pub struct Progress {
     // the index of the next node, and of the next list entry
     pub next: u32,

@@ -30,7 +30,7 @@ use refusals::{
 const BYTES: usize = 65536;
 
 // The verdict (number 0: done), and the words and list entries written.
-#[derive(Drop)]
+#[derive(Clone, Copy)]
 pub struct Answer {
     pub verdict: Verdict,
     pub words: u32,
@@ -41,7 +41,7 @@ pub struct Answer {
 const START: usize = 0;
 
 // A text and a position in it.
-#[derive(Drop)]
+#[derive(Clone, Copy)]
 struct Reader<'a> {
     text: &'a [u8],
     at: usize,

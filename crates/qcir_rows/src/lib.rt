@@ -25,7 +25,7 @@ pub const XOR_ROW: u8 = 4;
 pub const NAME: u8 = 5;
 
 // A row: its kind, and the signs of the left operand, of the right one and of the whole, 1 for a minus.
-#[derive(Drop)]
+#[derive(Clone, Copy)]
 pub struct Row {
     pub kind: u8,
     pub left: u8,
@@ -74,7 +74,7 @@ pub fn row_of(rows: &[[u8; 4]; 16], table: usize) -> Row
 }
 
 // How a node is written: a row and its operands, or a name, which is `left`.
-#[derive(Drop)]
+#[derive(Clone, Copy)]
 pub struct Shape {
     pub row: Row,
     pub left: u32,

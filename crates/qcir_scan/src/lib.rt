@@ -54,7 +54,7 @@ const LF: u8 = 10;
 const SPACE: u8 = 32;
 
 // The bytes so far, the place's number, the pending name, and how many tokens there are.
-#[derive(Drop)]
+#[derive(Clone, Copy)]
 pub struct Progress {
     pub at: usize,
     pub place: usize,
@@ -64,7 +64,7 @@ pub struct Progress {
 }
 
 // Whether the text is a file, how many of its bytes some file begins with, and how many tokens it has.
-#[derive(Drop)]
+#[derive(Clone, Copy)]
 pub struct Scanned {
     pub spelled: bool,
     pub position: u32,

@@ -30,7 +30,7 @@ ghost use Rattle.qcir_table_sizes.specs.Pass.{
 
 // How many nodes and list entries a table has, and its lowest block that brings the sum of counts over the limit, or
 // the number of nodes if there is none.
-#[derive(Drop)]
+#[derive(Clone, Copy)]
 pub struct TableSizes {
     pub nodes: u32,
     pub entries: u32,
@@ -40,7 +40,7 @@ pub struct TableSizes {
 // What a pass over the tokens has counted: nodes, list entries and, once these pass the limit, the first block at which
 // they do; before, the last block. Of the gate line that it stands in: the index of the definition, the variables of
 // its list, and whether no input has come yet.
-#[derive(Drop)]
+#[derive(Clone, Copy)]
 pub struct Pass {
     pub nodes: u32,
     pub entries: u32,

@@ -25,7 +25,7 @@ pub const EXISTS_GATE: u8 = 16;
 pub const EMPTY: u8 = 24;
 
 // Whether there are any, and the lowest of them.
-#[derive(Drop)]
+#[derive(Clone, Copy)]
 pub struct Found {
     pub found: bool,
     pub lowest: u32,

@@ -21,7 +21,7 @@ use qcir_tokens::{Found, NUMBERS, TOKENS};
 
 // The token at which the walk stands, on its way onward or back through a gate line; whether an unbound variable was found,
 // and the lowest.
-#[derive(Drop)]
+#[derive(Clone, Copy)]
 pub struct Walk {
     pub at: usize,
     pub leaving: bool,
@@ -30,7 +30,7 @@ pub struct Walk {
 }
 
 // A token's role and number, and one more than the token that defines the number first: 0 where none does.
-#[derive(Drop)]
+#[derive(Clone, Copy)]
 pub struct Token {
     pub role: u8,
     pub number: u16,

@@ -47,7 +47,7 @@ fn flag_node(nodes: &[u32], names: &mut [u8], i: usize, highest: u32) -> u32
 }
 
 // The number of the next gate, and of the clauses so far.
-#[derive(Drop)]
+#[derive(Clone, Copy)]
 pub struct Numbering {
     pub next: u32,
     pub clauses: u32,

@@ -29,14 +29,14 @@ use formula::EXISTS_BLOCK;
 use name_flags::FREE;
 
 // Where a line goes on, and the kind of its blocks; 0 if no line has begun.
-#[derive(Drop)]
+#[derive(Clone, Copy)]
 pub struct Line {
     pub at: usize,
     pub kind: u32,
 }
 
 // The gate variables: from `first` on, up to `end`.
-#[derive(Drop)]
+#[derive(Clone, Copy)]
 pub struct Gates {
     pub first: u32,
     pub end: u32,

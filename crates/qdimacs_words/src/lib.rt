@@ -22,7 +22,7 @@ const HIGHEST_BYTE: u64 = 72057594037927936;
 pub const STORED: usize = 8;
 
 // The bytes of a literal and the space behind it, and how many they are.
-#[derive(Drop)]
+#[derive(Clone, Copy)]
 pub struct Piece {
     pub bytes: u64,
     pub length: usize,

@@ -44,7 +44,7 @@ pub fn write(nodes: &[u32], prefix: &[u32], variables: &[u32], text: &mut [u8]) 
 
 // What is found of a form before its text is put: the highest free name, the first gate's variable, the number
 // after the last gate's, and how many clauses there are.
-#[derive(Drop)]
+#[derive(Clone, Copy)]
 struct Outline {
     highest: u32,
     first: u32,

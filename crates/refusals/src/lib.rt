@@ -65,7 +65,7 @@ pub const MEMORY_TOO_SHORT: u32 = 24;
 
 // The two lowest nodes that name a node; a node that names it twice stands twice. 0 and 0 where there
 // is nothing to say.
-#[derive(Drop)]
+#[derive(Clone, Copy)]
 pub struct Users {
     pub first: u32,
     pub second: u32,
@@ -73,7 +73,7 @@ pub struct Users {
 
 // The number of a refusal (0: accepted), its position, and the users of the node that refusal 8 speaks
 // of.
-#[derive(Drop)]
+#[derive(Clone, Copy)]
 pub struct Verdict {
     pub number: u32,
     pub position: u32,

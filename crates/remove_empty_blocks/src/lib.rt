@@ -20,7 +20,7 @@ use formula::{NEGATION, NodeWords, OPERATOR, WIDTH};
 use refusals::{ACCEPTED, BUFFER_TOO_SHORT, Verdict};
 
 // The verdict, and how many nodes are left.
-#[derive(Drop)]
+#[derive(Clone, Copy)]
 pub struct Removed {
     pub verdict: Verdict,
     pub nodes: u32,

@@ -16,7 +16,7 @@ use block_counts::Counts;
 use formula::{NEGATION, OPERATOR};
 
 // How many nodes the pass has visited, and the counts.
-#[derive(Drop)]
+#[derive(Clone, Copy)]
 pub struct Pass {
     pub visited: u32,
     pub counts: Counts,

@@ -21,7 +21,7 @@ const QCIR: u32 = 1;
 const QDIMACS: u32 = 2;
 
 // The verdict, the bytes written, and the sizes of the table that was read and of its prenex form.
-#[derive(Drop)]
+#[derive(Clone, Copy)]
 pub struct Answer {
     pub verdict: Verdict,
     pub bytes: usize,
@@ -29,7 +29,7 @@ pub struct Answer {
 }
 
 // The format that a number names.
-#[derive(Drop)]
+#[derive(Clone, Copy)]
 pub enum Asked {
     Known(Format),
     Unknown,

@@ -71,7 +71,7 @@ fn all_once(named: &[u16], last: usize) -> bool
 }
 
 // The first two users of a node, and how many of the two there are; 0 for each that there is not.
-#[derive(Drop)]
+#[derive(Clone, Copy)]
 struct FirstUsers {
     count: u32,
     first: u32,

@@ -33,7 +33,7 @@ pub loop-i-smaller : goal.loop-i-smaller
 loop-i-smaller c = omega (arith, goes_on (goal.at.loop-i-smaller c).In-loop-i)
 
 pub loop-i-preserved : goal.loop-i-preserved
-loop-i-preserved c = (omega (arith, goes_on (goal.at.loop-i-preserved c).In-loop-i), found_next _ _ _ _ _ _ c.before.Node-at.ensures c.loop-i.invariant.1 c.with_node-found.ensures)
+loop-i-preserved c = (omega (arith, goes_on (goal.at.loop-i-preserved c).In-loop-i), found_next _ _ _ _ _ _ c.node_at.ensures c.loop-i.invariant.1 c.with_node-found.ensures)
 
 pub returns : goal.returns
 returns c =

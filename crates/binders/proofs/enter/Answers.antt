@@ -1,0 +1,53 @@
+-- `binders::enter` meets its contract. The loop's invariant: the scope's entries from the block's kth on are chained, and there are as many heads. The measure is k.
+-- Assumes nothing.
+use mathlib.Core.Path.{◌≡◌, refl, sym, ◌∙◌}
+use Prim.Native.Nat.{◌+◌, ◌-◌, ◌≤◌, ◌<◌}
+use native.Mathlib.Omega.{arith}
+use lib.ListN.{length}
+use borrow.Author.Rules.{rules}
+use Rattle.formula.specs.Words.{table_of}
+use Rattle.binders.specs.Scope.{Open}
+use Rattle.binders.proofs.Tables.{node_within}
+use Rattle.binders.proofs.Blocks.{BlockAt, block_at, counted, entry_lt, range_lt, entry_head, entry_put, enter_start, enter_end}
+use Rattle.binders.proofs.enter.Goals.{In-loop-k}
+use Rattle.binders.proofs.enter.Goals as goal
+
+-- a turn's entry is one of the block's
+turn : (c : In-loop-k) → c.loop-k.k - 1 < c.node_at-node.result.b
+turn c = omega arith
+
+pub node_at-node-requires : goal.node_at-node-requires
+node_at-node-requires c = node_within _ _ _ c.requires.list_value c.requires.i_bound.0
+
+pub loop-k-init : goal.loop-k-init
+loop-k-init c =
+    let b = block_at c.requires.list_value c.requires.i_bound c.requires.start_value c.node_at-node.ensures in
+    (b, omega arith, refl, enter_start b c.requires.fact)
+
+pub bounds-list-first : goal.bounds-list-first
+bounds-list-first c = range_lt c.loop-k.invariant.0 _ (turn (goal.at.bounds-list-first c).In-loop-k)
+
+pub overflow_add-start : goal.overflow_add-start
+overflow_add-start c = omega (arith, entry_lt c.loop-k.invariant.0 _ (turn (goal.at.overflow_add-start c).In-loop-k))
+
+pub put_entry-requires : goal.put_entry-requires
+put_entry-requires c =
+    let v = c.loop-k.invariant in
+    let e = entry_lt v.0 _ (turn (goal.at.put_entry-requires c).In-loop-k) in
+    (entry_head v.0 _ (turn (goal.at.put_entry-requires c).In-loop-k) v.3, omega (arith, v.3.nexts_length), e)
+
+pub loop-k-preserved : goal.loop-k-preserved
+loop-k-preserved c =
+    let v = c.loop-k.invariant in
+    let p = c.put_entry in
+    (v.0, omega arith, p.auto.0 ∙ v.2, rw (p.ensures.0, p.ensures.1) (entry_put v.0 _ (turn (goal.at.loop-k-preserved c).In-loop-k) _ (omega arith) v.3))
+
+pub shape_of-heads : goal.shape_of-heads
+shape_of-heads c = c.loop-k.invariant.2
+
+pub returns : goal.returns
+returns c =
+    let v = c.loop-k.invariant in record {
+      fact_2 = enter_end v.0 _ (omega arith) v.3;
+      value = sym (counted v.0);
+    }

@@ -1,0 +1,65 @@
+-- `binders::walk` meets its contract. The loop's invariant: `Walking`, as many heads, and the steps taken and those left are those of the
+-- whole walk. The measure is the steps left.
+-- Assumes nothing.
+use mathlib.Core.Path.{◌≡◌, refl, sym, ◌∙◌}
+use mathlib.Core.Logic.{inl, inr, ⊎_elim}
+use Prim.Native.Nat.{ℕ, ◌+◌, ◌<◌}
+use native.Mathlib.Omega.{arith}
+use lib.ListN.{length}
+use borrow.Author.Tests.{ltb-true, ltb-false}
+use Rattle.formula.specs.Words.{table_of}
+use Rattle.binders.specs.Walk.{Walking, steps_left, walk_steps}
+use Rattle.binders.proofs.Walked.{nodes_few, begun, begun_steps, ended, ended_steps, steps_linear}
+use Rattle.binders.proofs.walk.Goals as goal
+
+pub offset_bounds-firsts-size : goal.offset_bounds-firsts-size
+offset_bounds-firsts-size c = omega (arith, nodes_few c.requires.scopes)
+
+pub bounds-firsts-size : goal.bounds-firsts-size
+bounds-firsts-size c = omega (arith, nodes_few c.requires.scopes, c.requires.scopes.firsts_length)
+
+pub loop-place-init : goal.loop-place-init
+loop-place-init c = (begun c.requires.scopes _ _ c.requires.bindings_len c.requires.fact refl refl, refl, begun_steps c.requires.scopes _ refl refl refl)
+
+-- the loop's test
+goes_on : (link : ℕ) → (link ≡ 0 → ⊥) → 0 < link
+goes_on link n = omega arith
+
+pub step-place-requires : goal.step-place-requires
+step-place-requires c =
+    let go = ⊎_elim (λ a. inr (goes_on _ a.taken)) (λ b. inl (ltb-true _ _ b.2.taken)) c.if-place-ne0.branch in record {
+      scopes = c.requires.scopes;
+      walking = c.loop-place.invariant.0;
+      unfinished = go;
+      place_value = c.loop-place.invariant.2;
+    }
+
+pub loop-place-smaller : goal.loop-place-smaller
+loop-place-smaller c = let d = c.step-place.ensures in omega (arith, d.result_value, d.steps_lt_steps)
+
+pub loop-place-preserved : goal.loop-place-preserved
+loop-place-preserved c =
+    let d = c.step-place in
+    let v = c.loop-place.invariant in
+    (d.ensures.0, d.auto.1.1.1.1.1.1.1.0 ∙ v.1, d.ensures.1.0 ∙ v.2)
+
+pub shape_of-bindings : goal.shape_of-bindings
+shape_of-bindings c = c.loop-place.invariant.0.bindings_length ∙ sym c.requires.bindings_len
+
+pub shape_of-heads : goal.shape_of-heads
+shape_of-heads c = c.loop-place.invariant.1
+
+pub shape_of-entry_nexts : goal.shape_of-entry_nexts
+shape_of-entry_nexts c = c.loop-place.invariant.0.opened.nexts_length ∙ sym c.requires.fact.nexts_length
+
+pub returns : goal.returns
+returns c =
+    let s = c.requires.scopes in
+    let v = c.loop-place.invariant in
+    let z = c.if-place-ne0.false in
+    let h = ltb-false _ _ c.if-place-size.false-raw in
+    let n = ended_steps s v.0 h z v.2 in record {
+      bindings = ended s v.0 h z;
+      steps = n;
+      linear = omega (arith, steps_linear s);
+    }

@@ -1,0 +1,58 @@
+-- `block_check::block_fault` meets its contract: each return is one of the five answers of `blockFault`, and past refusals 4 and 5 the body
+-- is lower and is counted.
+-- Assumes nothing.
+use mathlib.Core.Path.{refl, sym}
+use Rattle.lists.specs.Choice.{clash}
+use Rattle.block_check.proofs.Fault.{block_forward, block_past_end, block_empty, block_too_many, block_within}
+use native.Mathlib.Omega.{arith}
+use borrow.Author.Rules.{rules}
+use Rattle.block_check.proofs.block_fault.Goals as goal
+
+pub returns-then-i-body : goal.returns-then-i-body
+returns-then-i-body c =
+    let a = c.args in record {
+      value = sym (block_forward a.entries _ a.before a.node c.if-i-body.true);
+      x_after = λ p. clash p refl;
+    }
+
+pub returns-then-entries-end : goal.returns-then-entries-end
+returns-then-entries-end c =
+    let a = c.args in record {
+      value = sym (block_past_end _ _ a.before a.node c.if-i-body.false c.if-entries-end.true);
+      x_after = λ p. clash p refl;
+    }
+
+pub count_name-requires : goal.count_name-requires
+count_name-requires c =
+    let room = c.requires.room in
+    (omega (arith, room.wide, c.if-i-body.false), omega (arith, room.room c.args.node.c))
+
+pub shape_of-named-then-binds_none : goal.shape_of-named-then-binds_none
+shape_of-named-then-binds_none c = c.count_name.auto.named
+
+pub returns-then-binds_none : goal.returns-then-binds_none
+returns-then-binds_none c =
+    let a = c.args in record {
+      value = sym (block_empty _ _ a.before a.node c.if-i-body.false c.if-entries-end.false c.if-binds_none.true-raw);
+      x_after = λ p. c.count_name.ensures;
+    }
+
+pub shape_of-named-then-bound-gt-LIMIT : goal.shape_of-named-then-bound-gt-LIMIT
+shape_of-named-then-bound-gt-LIMIT c = c.count_name.auto.named
+
+pub returns-then-bound-gt-LIMIT : goal.returns-then-bound-gt-LIMIT
+returns-then-bound-gt-LIMIT c =
+    let a = c.args in record {
+      value = sym (block_too_many _ _ _ a.node c.if-i-body.false c.if-entries-end.false c.if-binds_none.false-raw c.if-bound-gt-LIMIT.true);
+      x_after = λ p. clash p refl;
+    }
+
+pub shape_of-named : goal.shape_of-named
+shape_of-named c = c.count_name.auto.named
+
+pub returns : goal.returns
+returns c =
+    let a = c.args in let w = (
+      sym (block_within _ _ _ a.node c.if-i-body.false c.if-entries-end.false c.if-binds_none.false-raw c.if-bound-gt-LIMIT.false),
+      λ p. c.count_name.ensures,
+    ) in record { value = w.0; x_after = w.1 }

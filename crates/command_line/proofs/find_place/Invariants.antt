@@ -1,0 +1,18 @@
+-- `command_line::find_place` meets its contract. The loop keeps the place of the byte at `at`.
+-- Assumes nothing.
+use Prim.Native.Nat.{◌≤◌, ◌<◌, ◌-◌, ◌+◌}
+use mathlib.Core.Path.{◌≡◌, refl, sym, ap, ◌∙◌}
+use lib.ListN.{length, take, get_or}
+use lib.Seq.{take_all}
+use borrow.Author.Rules.{rules}
+use native.Mathlib.Omega.{arith}
+use Rattle.command_line.specs.Place.{line, column, next_line, next_column, through}
+use Rattle.command_line.proofs.Places.{through_next, line_bound, column_bound}
+use Rattle.command_line.proofs.find_place.Given as goal
+
+abbrev pub invariant-loop-at : goal.invariant-loop-at
+invariant-loop-at l = (l.here.line ≡ line (take l.at l.text)) × (l.here.column ≡ column (take l.at l.text))
+    × (l.at ≤ length l.text) × (l.at ≤ l.position) × (l.here.line ≤ l.at + 1) × (l.here.column ≤ l.at + 1)
+
+abbrev pub decreases-loop-at : goal.decreases-loop-at
+decreases-loop-at l = length l.text - l.at

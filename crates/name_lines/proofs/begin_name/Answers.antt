@@ -1,0 +1,7 @@
+use native.Mathlib.Omega.{arith}
+use Rattle.name_lines.proofs.Kept.{begins}
+use borrow.Author.Rules.{rules}
+use Rattle.name_lines.proofs.begin_name.Goals as goal
+
+pub returns : goal.returns
+returns c = λ a h. begins a _ _ _ _ _ c.requires.0 c.requires.1 c.requires.2 c.keep.ensures h

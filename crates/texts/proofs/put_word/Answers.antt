@@ -1,0 +1,10 @@
+-- `texts::put_word` meets its contract.
+-- Assumes nothing.
+use mathlib.Core.Path.{refl}
+use native.Mathlib.Omega.{arith}
+use borrow.Author.Rules.{rules}
+use Rattle.texts.proofs.Put.{put_counted}
+use Rattle.texts.proofs.put_word.Goals as goal
+
+pub returns-else-next-text : goal.returns-else-next-text
+returns-else-next-text c = put_counted _ _ _ _ refl (omega arith)

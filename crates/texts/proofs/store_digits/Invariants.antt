@@ -1,0 +1,13 @@
+-- `texts::store_digits` meets its contract. The loop's invariant: the digits after those of `left` are stored.
+-- Assumes nothing.
+use borrow.Author.Rules.{rules}
+use native.Mathlib.Omega.{arith}
+use lib.ListN.{length-set}
+use Rattle.texts.proofs.Stores.{Back, back_start, back_room, back_length, back_step, back_end}
+use Rattle.texts.proofs.store_digits.Given as goal
+
+abbrev pub invariant-loop-left : goal.invariant-loop-left
+invariant-loop-left l = Back l.initial.text l.end l.x l.text l.from l.left
+
+abbrev pub decreases-loop-left : goal.decreases-loop-left
+decreases-loop-left l = l.left
