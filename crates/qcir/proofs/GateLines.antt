@@ -163,9 +163,9 @@ module _ (f : File) (placed : misplaced f ≡ []) where
   after_third = empty_right (early_uses [] f.gates) _ after_second
 
   -- the numbers of the outer names, of the output and of the gate lines
-  all_numbers : all_numbers f ≡ numbers_of (outer_names f) ++ (f.output.name.number ∷ numbers_of (lines_names f.gates))
+  all_numbers_lem : all_numbers f ≡ numbers_of (outer_names f) ++ (f.output.name.number ∷ numbers_of (lines_names f.gates))
   unfolding all_numbers numbers_of
-  all_numbers = numbers_append (outer_names f) (f.output.name ∷ lines_names f.gates)
+  all_numbers_lem = numbers_append (outer_names f) (f.output.name ∷ lines_names f.gates)
 
   once_used : not_used_once f ≡ [] → (x : ℕ) → mem x (numbers_of (gate_names f.gates)) ≡ true
       → times x (input_numbers f.gates ++ (f.output.name.number ∷ [])) ≡ 1
@@ -180,15 +180,15 @@ module _ (f : File) (placed : misplaced f ≡ []) where
       (empty_left _ _ after_second)
       (empty_right (repeated [] (outer_names f)) _ after_third)
       (once_used used)
-      (λ r x m. r.ranged x (rw all_numbers (mem_right x (numbers_of (outer_names f)) _ (mem_tail x f.output.name.number _ m))))
+      (λ r x m. r.ranged x (rw all_numbers_lem (mem_right x (numbers_of (outer_names f)) _ (mem_tail x f.output.name.number _ m))))
 
   pub prefix_proper : Prefix (Ranged f) f.prefix
   unfolding outer_names
   prefix_proper =
       prefix_lines_lem (Ranged f) f.prefix
       (apart_right [] f.free (prefix_variables f.prefix) (empty_left _ _ after_third))
-      (λ r x m. r.ranged x (rw all_numbers (mem_left x (numbers_of (f.free ++ prefix_variables f.prefix)) _
+      (λ r x m. r.ranged x (rw all_numbers_lem (mem_left x (numbers_of (f.free ++ prefix_variables f.prefix)) _
       (rw (numbers_append f.free (prefix_variables f.prefix)) (mem_right x (numbers_of f.free) _ m)))))
 
   pub output_ranged : Ranged f → is_number f.output.name.number ≡ true
-  output_ranged r = r.ranged _ (rw all_numbers (mem_right _ (numbers_of (outer_names f)) _ (mem_head _ _)))
+  output_ranged r = r.ranged _ (rw all_numbers_lem (mem_right _ (numbers_of (outer_names f)) _ (mem_head _ _)))

@@ -98,7 +98,7 @@ whole_gate d (quantified_gate_lem q g x xs l) p = whole_block q (numbers_of (x �
 whole_gates : (d : Draft) (gs : List Gate) → Whole d → Whole (store_gates d gs)
 unfolding store_gates
 whole_gates d [] p = p
-whole_gates d (g ∷ gs) p = whole_gates _ gs (whole_gate d g p)
+whole_gates d (g ∷ gs) p = whole_gates (store_gate d g).draft gs (whole_gate d g p)
 
 whole_prefix : (s : Stored) (ls : List Line) → Whole s.draft → Whole (store_prefix s ls).draft
 unfolding store_prefix

@@ -28,10 +28,10 @@ module _ {A B : Type 0} (f : A → B) (back : B → A) (gives : (a : A) → back
   map_back (x ∷ xs) = let h : back (f x) ≡ x = gives x in let t : map back (map f xs) ≡ xs = map_back xs in rw (h, t)
 
 -- A list without its last element.
-drop_last : {A : Type 0} (xs : List A) (z : A) → drop_last (xs ++ (z ∷ [])) ≡ xs
-drop_last [] z = refl
-drop_last (x ∷ []) z = refl
-drop_last (x ∷ y ∷ xs) z = ap (λ rest. x ∷ rest) (drop_last (y ∷ xs) z)
+drop_last_lem : {A : Type 0} (xs : List A) (z : A) → drop_last (xs ++ (z ∷ [])) ≡ xs
+drop_last_lem [] z = refl
+drop_last_lem (x ∷ []) z = refl
+drop_last_lem (x ∷ y ∷ xs) z = ap (λ rest. x ∷ rest) (drop_last_lem (y ∷ xs) z)
 
 -- The first byte of a number, and of a literal.
 record FirstDigit (w : Word) : Type 0 where

@@ -39,8 +39,7 @@ put_entry-requires c =
 pub loop-k-preserved : goal.loop-k-preserved
 loop-k-preserved c =
     let v = c.loop-k.invariant in
-    let p = c.put_entry in
-    (v.0, omega arith, p.auto.0 ∙ v.2, rw (p.ensures.0, p.ensures.1) (entry_put v.0 _ (turn (goal.at.loop-k-preserved c).In-loop-k) _ (omega arith) v.3))
+    (v.0, omega arith, c.put_entry.auto.heads ∙ v.2, rw (c.put_entry.ensures.heads_after, c.put_entry.ensures.entry_nexts_after) (entry_put v.0 _ (turn (goal.at.loop-k-preserved c).In-loop-k) _ (omega arith) v.3))
 
 pub shape_of-heads : goal.shape_of-heads
 shape_of-heads c = c.loop-k.invariant.2

@@ -12,7 +12,7 @@ use Rattle.binders.proofs.Blocks.{BlockAt, block_at, counted, entry_lt, range_lt
 use Rattle.binders.proofs.enter.Given as goal
 
 abbrev pub invariant-loop-k : goal.invariant-loop-k
-invariant-loop-k l = BlockAt l.words l.list l.i l.start l.first l.count × (l.k ≤ l.count) × (length l.heads ≡ length l.initial.heads) × Open (table_of l.words l.list) l.i (l.start + l.k) l.heads l.entry-nexts
+invariant-loop-k l = BlockAt l.words l.list l.i l.start l.first l.count × (l.k ≤ l.count) × (length l.heads ≡ length l.initial.heads) × Open (table_of l.words l.list) l.i (l.start + l.k) l.heads l.entry_nexts
 
 abbrev pub decreases-loop-k : goal.decreases-loop-k
 decreases-loop-k l = l.k

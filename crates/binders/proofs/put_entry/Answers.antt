@@ -11,5 +11,5 @@ returns c =
     let s = c.args in
     let n = add-one s.e in record {
       heads_after = ap (λ v. set s.heads.now s.x v) n;
-      entry_nexts_after = ap (λ v. set s.entry-nexts.now v (get_or s.heads.now s.x 0)) n;
+      entry_nexts_after = ap (λ v. set s.entry_nexts.now v (get_or s.heads.now s.x 0)) n;
     }

@@ -27,7 +27,7 @@ goes_on link n = omega arith
 
 pub step-place-requires : goal.step-place-requires
 step-place-requires c =
-    let go = ⊎_elim (λ a. inr (goes_on _ a.taken)) (λ b. inl (ltb-true _ _ b.2.taken)) c.if-place-ne0.branch in record {
+    let go = ⊎_elim (λ a. inr (goes_on _ a.true)) (λ b. inl (ltb-true _ _ b.2.true)) c.if-place-ne0.branch in record {
       scopes = c.requires.scopes;
       walking = c.loop-place.invariant.0;
       unfinished = go;
@@ -39,9 +39,8 @@ loop-place-smaller c = let d = c.step-place.ensures in omega (arith, d.result_va
 
 pub loop-place-preserved : goal.loop-place-preserved
 loop-place-preserved c =
-    let d = c.step-place in
     let v = c.loop-place.invariant in
-    (d.ensures.0, d.auto.1.1.1.1.1.1.1.0 ∙ v.1, d.ensures.1.0 ∙ v.2)
+    (c.step-place.ensures.walking_2, c.step-place.auto.heads ∙ v.1, c.step-place.ensures.result_value ∙ v.2)
 
 pub shape_of-bindings : goal.shape_of-bindings
 shape_of-bindings c = c.loop-place.invariant.0.bindings_length ∙ sym c.requires.bindings_len

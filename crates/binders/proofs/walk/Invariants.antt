@@ -13,7 +13,7 @@ use Rattle.binders.proofs.Walked.{nodes_few, begun, begun_steps, ended, ended_st
 use Rattle.binders.proofs.walk.Given as goal
 
 abbrev pub invariant-loop-place : goal.invariant-loop-place
-invariant-loop-place l = Walking l.words l.list l.bindings l.heads l.entry-nexts l.place × (length l.heads ≡ length l.initial.heads)
+invariant-loop-place l = Walking l.words l.list l.bindings l.heads l.entry_nexts l.place × (length l.heads ≡ length l.initial.heads)
     × (l.place.steps + steps_left (table_of l.words l.list) l.place ≡ walk_steps (table_of l.words l.list))
 
 abbrev pub decreases-loop-place : goal.decreases-loop-place

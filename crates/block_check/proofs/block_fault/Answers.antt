@@ -52,7 +52,7 @@ shape_of-named c = c.count_name.auto.named
 
 pub returns : goal.returns
 returns c =
-    let a = c.args in let w = (
-      sym (block_within _ _ _ a.node c.if-i-body.false c.if-entries-end.false c.if-binds_none.false-raw c.if-bound-gt-LIMIT.false),
-      λ p. c.count_name.ensures,
-    ) in record { value = w.0; x_after = w.1 }
+    let a = c.args in record {
+      value = sym (block_within _ _ _ a.node c.if-i-body.false c.if-entries-end.false c.if-binds_none.false-raw c.if-bound-gt-LIMIT.false);
+      x_after = λ p. c.count_name.ensures;
+    }

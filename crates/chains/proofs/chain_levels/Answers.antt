@@ -13,9 +13,9 @@ use Rattle.chains.proofs.Chaining.{levels_none, levels_done}
 use Rattle.chains.proofs.chain_levels.Goals.{Start}
 use Rattle.chains.proofs.chain_levels.Goals as goal
 
-some_node_lem : (s : Start) → 0 < node_count s.args.words.now
+some_node_lem : (c : Start) → 0 < node_count c.args.words.now
 unfolding table_of
-some_node_lem s = (accepted_tree s.args.words.now s.args.list.now s.requires.0).nonempty
+some_node_lem c = (accepted_tree c.args.words.now c.args.list.now c.requires.list_value).nonempty
 
 pub overflow_sub-i : goal.overflow_sub-i
 overflow_sub-i c = omega (arith, some_node_lem (goal.at.overflow_sub-i c).Start)
@@ -45,8 +45,7 @@ loop-i-smaller c = omega arith
 pub loop-i-preserved : goal.loop-i-preserved
 loop-i-preserved c =
     let l = c.loop-i in
-    let k = c.chain_level in
-    (omega (arith, l.invariant.0), k.auto.1.1.1.0 ∙ l.invariant.1, k.auto.1.1.1.1.0 ∙ l.invariant.2, k.ensures)
+    (omega (arith, l.invariant.0), c.chain_level.auto.firsts ∙ l.invariant.1, c.chain_level.auto.nexts ∙ l.invariant.2, c.chain_level.ensures)
 
 pub shape_of-firsts : goal.shape_of-firsts
 shape_of-firsts c = c.loop-i.invariant.1 ∙ sym c.requires.cleared.firsts_length

@@ -14,7 +14,11 @@ use Rattle.matrix_check.proofs.check.Goals.{Else-partial_node-n}
 use Rattle.matrix_check.proofs.check.Goals as goal
 
 pub returns-then-partial_node-n : goal.returns-then-partial_node-n
-returns-then-partial_node-n c = let r = c.malformed.ensures in let w = rw (r.0, r.1) (matrix_length _ (rw c.partial_node.ensures at c.if-partial_node-n.true)) in record { number = w.0; position = w.1 }
+returns-then-partial_node-n c =
+    let r = c.malformed.ensures in record {
+      number = rw (r.0, r.1) (((matrix_length _ (rw c.partial_node.ensures at c.if-partial_node-n.true))).0);
+      position = rw (r.0, r.1) (((matrix_length _ (rw c.partial_node.ensures at c.if-partial_node-n.true))).1);
+    }
 
 -- the length is not at fault
 long : (c : Else-partial_node-n) → (partial_node c.args.nodes.now || ltb 40960 (node_count c.args.nodes.now)) ≡ false
@@ -28,7 +32,11 @@ first_unsound-i-requires c =
     }
 
 pub returns-then-i-n : goal.returns-then-i-n
-returns-then-i-n c = let r = c.malformed-then-i-n.ensures in let w = rw (r.0, r.1) (matrix_node _ (long (goal.at.returns-then-i-n c).Else-partial_node-n) _ c.first_unsound-i.ensures.value c.if-i-n.true) in record { number = w.0; position = w.1 }
+returns-then-i-n c =
+    let r = c.malformed-then-i-n.ensures in record {
+      number = rw (r.0, r.1) (((matrix_node _ (long (goal.at.returns-then-i-n c).Else-partial_node-n) _ c.first_unsound-i.ensures.value c.if-i-n.true)).0);
+      position = rw (r.0, r.1) (((matrix_node _ (long (goal.at.returns-then-i-n c).Else-partial_node-n) _ c.first_unsound-i.ensures.value c.if-i-n.true)).1);
+    }
 
 pub overflow_sub-last : goal.overflow_sub-last
 overflow_sub-last c = omega (arith, some_node_lem _ (long (goal.at.overflow_sub-last c).Else-partial_node-n))
@@ -39,7 +47,10 @@ lowest_not_once-j-requires c = omega (arith, few_nodes _ (long (goal.at.lowest_n
 pub returns-then-j-last : goal.returns-then-j-last
 returns-then-j-last c =
     let r = c.malformed-then-j-last.ensures in
-    let f = c.first_unsound-i.ensures in let w = rw (r.0, r.1) (matrix_tree _ (long (goal.at.returns-then-j-last c).Else-partial_node-n) _ f.value c.if-i-n.false _ f.tallied_2 _ c.lowest_not_once-j.ensures c.if-j-last.true) in record { number = w.0; position = w.1 }
+    let f = c.first_unsound-i.ensures in record {
+      number = rw (r.0, r.1) (((matrix_tree _ (long (goal.at.returns-then-j-last c).Else-partial_node-n) _ f.value c.if-i-n.false _ f.tallied_2 _ c.lowest_not_once-j.ensures c.if-j-last.true)).0);
+      position = rw (r.0, r.1) (((matrix_tree _ (long (goal.at.returns-then-j-last c).Else-partial_node-n) _ f.value c.if-i-n.false _ f.tallied_2 _ c.lowest_not_once-j.ensures c.if-j-last.true)).1);
+    }
 
 pub returns : goal.returns
 returns c = let f = c.first_unsound-i.ensures in let w = matrix_passed _ (long (goal.at.returns c).Else-partial_node-n) _ f.value c.if-i-n.false _ f.tallied_2 _ c.lowest_not_once-j.ensures c.if-j-last.false in record { number = w.0; position = w.1 }

@@ -25,7 +25,7 @@ count_name-requires c =
 
 pub returns : goal.returns
 returns c =
-    let w = (
-      sym (sound_negation _ _ c.requires.kind_value ∙ c.if-not-node-i.false),
-      λ z f t. tally_negation c.count_name.new.1.0 f c.args.node c.requires.kind_value (c.count_name.ensures f t),
-    ) in record { value = w.0; tally = w.1 }
+    record {
+      value = sym (sound_negation _ _ c.requires.kind_value ∙ c.if-not-node-i.false);
+      tally = λ z f t. tally_negation c.count_name.new.named f c.args.node c.requires.kind_value (c.count_name.ensures f t);
+    }

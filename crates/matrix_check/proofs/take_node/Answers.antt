@@ -20,8 +20,8 @@ shape_of-named-then-node-eq-OPERATOR c = c.take_operator.auto.named
 pub returns-then-node-eq-OPERATOR : goal.returns-then-node-eq-OPERATOR
 returns-then-node-eq-OPERATOR c =
     let r = rw c.node_at-node.ensures at c.take_operator.ensures in record {
-      value = r.0 ∙ sym (fault_sound c.args.nodes.now c.args.i);
-      tallied_2 = λ z. tallied_more _ _ _ _ c.take_operator.auto.named c.requires.tallied (r.1 z);
+      value = r.value ∙ sym (fault_sound c.args.nodes.now c.args.i);
+      tallied_2 = λ z. tallied_more _ _ _ _ c.take_operator.auto.named c.requires.tallied (r.tally z);
     }
 
 pub take_negation-requires : goal.take_negation-requires
@@ -37,8 +37,8 @@ shape_of-named-then-node-eq-NEGATION c = c.take_negation.auto.named
 pub returns-then-node-eq-NEGATION : goal.returns-then-node-eq-NEGATION
 returns-then-node-eq-NEGATION c =
     let r = rw c.node_at-node.ensures at c.take_negation.ensures in record {
-      value = r.0 ∙ sym (fault_sound c.args.nodes.now c.args.i);
-      tallied_2 = λ z. tallied_more _ _ _ _ c.take_negation.auto.named c.requires.tallied (r.1 z);
+      value = r.value ∙ sym (fault_sound c.args.nodes.now c.args.i);
+      tallied_2 = λ z. tallied_more _ _ _ _ c.take_negation.auto.named c.requires.tallied (r.tally z);
     }
 
 pub sound_leaf-requires : goal.sound_leaf-requires

@@ -31,7 +31,7 @@ count_name-requires-2 c =
 
 pub returns : goal.returns
 returns c =
-    let w = (
-      sym (sound_operator _ _ c.requires.kind_value ∙ c.if-not-node-i.false),
-      λ z f t. tally_operator c.count_name-2.new.1.0 f c.args.node c.requires.kind_value (c.count_name-2.ensures _ (c.count_name.ensures f t)),
-    ) in record { value = w.0; tally = w.1 }
+    record {
+      value = sym (sound_operator _ _ c.requires.kind_value ∙ c.if-not-node-i.false);
+      tally = λ z f t. tally_operator c.count_name-2.new.named f c.args.node c.requires.kind_value (c.count_name-2.ensures _ (c.count_name.ensures f t));
+    }

@@ -1,0 +1,26 @@
+-- `first_nodes::write_first` meets its contract. The loop's invariant: the first i nodes are written, and the inner blocks among
+-- them have their definition variables.
+-- Assumes nothing.
+use mathlib.Core.Path.{◌≡◌, refl}
+use Prim.Native.Nat.{◌-◌, ◌≤◌}
+use native.Mathlib.Omega.{arith}
+use native.Mathlib.Numerals.{add-one}
+use lib.ListN.{length}
+use borrow.Author.Rules.{rules}
+use Rattle.lists.specs.Parts.{overwrite}
+use Rattle.formula.specs.Words.{table_of}
+use Rattle.prenex_form.specs.Matrix.{kept}
+use Rattle.first_nodes.specs.Given.{Counted, DefinedBelow}
+use Rattle.first_nodes.proofs.Defined.{defined_none, defined_all}
+use Rattle.first_nodes.proofs.Renamed.{first_words, write_none, write_next, write_all}
+use Rattle.first_nodes.proofs.write_first.Given as goal
+
+abbrev pub invariant-loop-i : goal.invariant-loop-i
+invariant-loop-i l = (l.i ≤ l.count)
+    × (length l.nodes ≡ length l.initial.nodes)
+    × (l.nodes ≡ overwrite l.initial.nodes 0 (first_words (table_of l.words l.list) l.i))
+    × Counted l.words l.list l.i l.definitions l.counter
+    × DefinedBelow (table_of l.words l.list) l.i l.definitions
+
+abbrev pub decreases-loop-i : goal.decreases-loop-i
+decreases-loop-i l = l.count - l.i

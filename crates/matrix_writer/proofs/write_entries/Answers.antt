@@ -1,0 +1,26 @@
+-- `matrix_writer::write_entries` meets its contract. The loop's invariant: the first k entries' nodes are written. The measure is how many are left.
+-- Assumes nothing.
+use mathlib.Core.Path.{◌≡◌}
+use Prim.Native.Nat.{◌-◌, ◌≤◌}
+use native.Mathlib.Omega.{arith}
+use lib.ListN.{length}
+use borrow.Author.Rules.{rules}
+use Rattle.matrix_writer.proofs.Entries.{Done, done_none, done_next}
+use Rattle.matrix_writer.proofs.write_entries.Goals.{Start}
+use Rattle.matrix_writer.proofs.write_entries.Goals as goal
+
+pub loop-k-init : goal.loop-k-init
+loop-k-init c = (search rules, done_none _ _ _ _, search rules)
+
+pub loop-k-preserved : goal.loop-k-preserved
+loop-k-preserved c =
+    let i = c.loop-k.invariant in
+    (search rules, done_next _ _ _ _ _ _ _ _ _ i.1 c.write_entry-next.ensures (omega (arith, (goal.at.loop-k-preserved c).Start)), search rules)
+
+pub returns : goal.returns
+returns c =
+    let l = c.loop-k in
+    let e : l.k ≡ c.args.count = omega arith in record {
+      wrote = rw e at l.invariant.1.1;
+      value = omega arith;
+    }

@@ -1,0 +1,34 @@
+-- `matrix_writer::write_next` meets its contract. The constraint, and one operator after it.
+-- Assumes nothing.
+use mathlib.Core.Path.{◌≡◌}
+use mathlib.Core.List.{[], ◌∷◌}
+use Prim.Native.Nat.{◌+◌}
+use native.Mathlib.Omega.{arith}
+use lib.ListN.{length}
+use borrow.Author.Rules.{rules}
+use Rattle.formula.specs.Words.{table_of}
+use Rattle.prenex_form.specs.Matrix.{constraint, further}
+use Rattle.matrix_writer.proofs.Levels.{length_further_one, wrote_further}
+use Rattle.matrix_writer.proofs.write_next.Goals.{Start}
+use Rattle.matrix_writer.proofs.write_next.Goals as goal
+
+-- the nodes of one more block
+longer : (s : Start) → length (further (table_of s.args.words.now s.args.list.now) (s.args.i ∷ []) s.args.at) ≡ length (constraint (table_of s.args.words.now s.args.list.now) s.args.i s.args.at) + 1
+longer s = length_further_one _ _ _
+
+pub write_constraint-end-requires : goal.write_constraint-end-requires
+write_constraint-end-requires c =
+    record {
+      block_arrays = c.requires.block_arrays;
+      inner_block = c.requires.inner_block;
+      room = omega (arith, longer (goal.at.write_constraint-end-requires c).Start);
+    }
+
+pub put_operator-requires : goal.put_operator-requires
+put_operator-requires c = omega (arith, longer (goal.at.put_operator-requires c).Start, c.requires)
+
+pub overflow_add-result : goal.overflow_add-result
+overflow_add-result c = omega (arith, longer (goal.at.overflow_add-result c).Start, c.requires)
+
+pub returns : goal.returns
+returns c = wrote_further _ _ _ _ _ _ _ c.write_constraint-end.ensures c.put_operator.ensures c.requires.room.fits

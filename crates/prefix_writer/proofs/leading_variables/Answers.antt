@@ -1,0 +1,35 @@
+-- `prefix_writer::leading_variables` meets its contract.
+-- Assumes nothing.
+use native.Mathlib.Omega.{arith}
+use borrow.Author.Rules.{rules}
+use Rattle.prefix_writer.proofs.Words.{has_root}
+use Rattle.prefix_writer.proofs.Names.{leading_root, leading_level}
+use Rattle.prefix_writer.proofs.leading_variables.Goals as goal
+
+pub overflow_sub-words : goal.overflow_sub-words
+overflow_sub-words c = has_root _ _ c.requires.started.checked
+
+pub write_entries-requires : goal.write_entries-requires
+write_entries-requires c =
+    let p = c.requires in
+    let h = has_root _ _ p.started.checked in record {
+      started = p.started;
+      i_bound = (omega arith, p.names_le_highest_first.0);
+      i_in_bounds = rw (leading_root _ _ _ _ _ _ c.if-j-eq0.true) at p.j_in_bounds;
+    }
+
+pub returns-then-j-eq0 : goal.returns-then-j-eq0
+returns-then-j-eq0 c = let w = rw (leading_root _ _ _ _ _ _ c.if-j-eq0.true) c.write_entries.ensures in record { out_after = w.0; value = w.1 }
+
+pub level_variables-requires : goal.level_variables-requires
+level_variables-requires c =
+    let p = c.requires in record {
+      started = p.started;
+      chained = p.chained;
+      names_le_highest_first = p.names_le_highest_first;
+      level_bound = p.j_bound;
+      level_in_bounds = rw (leading_level _ _ _ _ _ _ c.if-j-eq0.false) at p.j_in_bounds;
+    }
+
+pub returns : goal.returns
+returns c = let w = rw (leading_level _ _ _ _ _ _ c.if-j-eq0.false) c.level_variables.ensures in record { out_after = w.0; value = w.1 }

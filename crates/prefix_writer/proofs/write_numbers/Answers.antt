@@ -1,0 +1,17 @@
+-- `prefix_writer::write_numbers` meets its contract. The loop's invariant: what is left of the numbers goes in from k on.
+-- Assumes nothing.
+use Prim.Native.Nat.{◌≤◌, ◌-◌}
+use native.Mathlib.Omega.{arith}
+use borrow.Author.Rules.{rules}
+use Rattle.lists.specs.Parts.{numbers}
+use Rattle.prefix_writer.proofs.Writing.{Left, numbers_left, numbers_start, numbers_step, numbers_end}
+use Rattle.prefix_writer.proofs.write_numbers.Goals as goal
+
+pub loop-k-init : goal.loop-k-init
+loop-k-init c = (omega arith, numbers_start _ _ _)
+
+pub loop-k-preserved : goal.loop-k-preserved
+loop-k-preserved c = (search rules, numbers_step _ _ _ _ _ c.loop-k.invariant.1 c.requires.1 c.loop-k-test.true)
+
+pub returns : goal.returns
+returns c = numbers_end _ _ _ _ _ c.loop-k.invariant.1 c.loop-k-test.false
