@@ -125,7 +125,7 @@ meaning_unplaced : (m : Meaning) (gs : List Gate) → meaning m (map unplaced_ga
 unfolding meaning
 meaning_unplaced m [] = refl
 meaning_unplaced m (g ∷ gs) =
-    (λ i. meaning (λ x v. pick (eqb x (number_unplaced g i)) (gate_unplaced m g v i) (m x v)) (map unplaced_gate gs)) ∙ meaning_unplaced (λ x v. pick (eqb x g_number) (gate_value m g v) (m x v)) gs
+    (λ i. meaning (λ x v. pick (eqb x (number_unplaced g i)) (gate_unplaced m g v i) (m x v)) (map unplaced_gate gs)) ∙ meaning_unplaced (λ x v. pick (eqb x (gate_name g).number) (gate_value m g v) (m x v)) gs
 
 prefix_value-unplaced : (ls : List Line) (g : Valuation → Bool) (v : Valuation) → prefix_value (map unplaced_line ls) g v ≡ prefix_value ls g v
 unfolding prefix_value line_variables unplaced_line
@@ -157,7 +157,7 @@ free_gates_unplaced o (g ∷ gs) =
     let bound : numbers_of (gate_variables (unplaced_gate g)) ≡ numbers_of (gate_variables g) = ap numbers_of (variables_unplaced g) ∙ numbers_unplaced _ in
     let used : free_in_inputs o (gate_inputs (unplaced_gate g)) ≡ free_in_inputs o (gate_inputs g) = ap (free_in_inputs o) (inputs_unplaced g) ∙ free_inputs_unplaced o _ in
     (λ i. free_in_gates (λ x. pick (eqb x (number_unplaced g i)) (keep (λ y. not (mem y (bound i))) (used i)) (o x)) (map unplaced_gate gs))
-    ∙ free_gates_unplaced (λ x. X) gs
+    ∙ free_gates_unplaced (λ x. pick (eqb x (gate_name g).number) (keep (λ y. not (mem y (numbers_of (gate_variables g)))) (free_in_inputs o (gate_inputs g))) (o x)) gs
 
 pub unbound_unplaced : UnboundUnplaced
 unfolding unbound unplaced unplaced_literal unplaced_name
@@ -169,7 +169,7 @@ unbound_unplaced f =
 store_inputs-unplaced : (t : ℕ) (s : Stored) (ls : List Literal) → store_inputs t s (map unplaced_literal ls) ≡ store_inputs t s ls
 unfolding store_inputs store_literal unplaced_literal unplaced_name
 store_inputs-unplaced t s [] = refl
-store_inputs-unplaced t s (l ∷ ls) = store_inputs-unplaced t (STEP) ls
+store_inputs-unplaced t s (l ∷ ls) = store_inputs-unplaced t (let r = store_literal s.draft l in store r.draft (words_of (operator t s.node r.node))) ls
 
 store_gate-unplaced : (d : Draft) (g : Gate) → store_gate d (unplaced_gate g) ≡ store_gate d g
 unfolding store_gate store_literal unplaced_gate unplaced_literal unplaced_name

@@ -88,14 +88,14 @@ block_of ws = record { quantifier = quantifier_of (get_or ws 0 []); variables = 
 block_back : (b : Block) → block_of (block_line b) ≡ b
 unfolding block_of block_line
 block_back b =
-    rw (quantifier_back b.quantifier, drop_last (map digits b.variables) zero_word, map_back digits (value_from 0) digits_value b.variables)
+    rw (quantifier_back b.quantifier, drop_last_lem (map digits b.variables) zero_word, map_back digits (value_from 0) digits_value b.variables)
 
 unfoldable clause_of : List Word → Clause
 clause_of ws = map literal_of (drop_last ws)
 
 clause_back : (c : Clause) → clause_of (clause_line c) ≡ c
 unfolding clause_of clause_line
-clause_back c = ap (map literal_of) (drop_last (map literal_word c) zero_word) ∙ map_back literal_word literal_of literal_back c
+clause_back c = ap (map literal_of) (drop_last_lem (map literal_word c) zero_word) ∙ map_back literal_word literal_of literal_back c
 
 -- Which of the two a line is.
 unfoldable is_block_line : List Word → Bool
