@@ -9,7 +9,7 @@ use native.Mathlib.Numerals.{add-one}
 use lib.Dec.{eqb, leb, ltb}
 use lib.ListN.{length, get_or, length-append}
 use borrow.Author.Tests.{ltb-true, ltb-false, le-leb, lt-leb}
-use Rattle.lists.specs.Choice.{pick, pick_yes, pick_no, Is, is_true, is_false, look, clash}
+use Rattle.lists.specs.Choice.{pick, pick_yes, pick_no, Is, is_true, is_false, look}
 use Rattle.lists.specs.Parts.{up_to, overwrite}
 use Rattle.lists.proofs.Parts.{flat_map_append, length_each}
 use Rattle.lists.proofs.Overwrite.{overwrite_nil, overwrite_append}

@@ -2,17 +2,12 @@
 -- them have their definition variables.
 -- Assumes nothing.
 use mathlib.Core.Path.{◌≡◌, refl}
-use Prim.Native.Nat.{◌-◌, ◌≤◌}
 use native.Mathlib.Omega.{arith}
 use native.Mathlib.Numerals.{add-one}
-use lib.ListN.{length}
-use borrow.Author.Rules.{rules}
-use Rattle.lists.specs.Parts.{overwrite}
 use Rattle.formula.specs.Words.{table_of}
 use Rattle.prenex_form.specs.Matrix.{kept}
-use Rattle.first_nodes.specs.Given.{Counted, DefinedBelow}
 use Rattle.first_nodes.proofs.Defined.{defined_none, defined_all}
-use Rattle.first_nodes.proofs.Renamed.{first_words, write_none, write_next, write_all}
+use Rattle.first_nodes.proofs.Renamed.{write_none, write_next, write_all}
 use Rattle.first_nodes.proofs.write_first.Goals as goal
 
 pub loop-i-init : goal.loop-i-init
@@ -25,28 +20,27 @@ write_node-counter-requires c =
       given = p.given;
       counted_1 = inv.3;
       counted_2 = inv.4;
-      i_bound_1 = omega (arith, p.1.1);
-      i_bound_2 = omega (arith, p.1.1);
+      i_bound_1 = omega arith;
+      i_bound_2 = omega arith;
     }
 
 pub loop-i-preserved : goal.loop-i-preserved
 unfolding table_of
 loop-i-preserved c =
     let p = c.requires in
-    let inv = c.loop-i.invariant in
-    let r = c.write_node-counter in (
+    let inv = c.loop-i.invariant in (
       omega arith,
-      omega (arith, r.auto.0, inv.1),
-      write_next _ _ _ _ _ inv.2 r.ensures.0 (omega (arith, p.1.1)),
-      rw add-one r.ensures.1.0,
-      rw add-one r.ensures.1.1,
+      omega (arith, c.write_node-counter.auto.nodes, inv.1),
+      write_next _ _ _ _ _ inv.2 c.write_node-counter.ensures.nodes_after (omega arith),
+      rw add-one c.write_node-counter.ensures.counted_2,
+      rw add-one c.write_node-counter.ensures.defined_below,
     )
 
 pub returns : goal.returns
 returns c =
     let p = c.requires in
     let inv = c.loop-i.invariant in
-    let e : c.loop-i.i ≡ kept (table_of c.args.words.now c.args.list.now) = omega (arith, p.1.1) in record {
+    let e : c.loop-i.i ≡ kept (table_of c.args.words.now c.args.list.now) = omega arith in record {
       nodes_after = write_all _ _ _ _ inv.2 e;
       definitions = defined_all _ (rw e at inv.4);
     }

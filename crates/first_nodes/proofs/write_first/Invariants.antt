@@ -1,18 +1,13 @@
 -- `first_nodes::write_first` meets its contract. The loop's invariant: the first i nodes are written, and the inner blocks among
 -- them have their definition variables.
 -- Assumes nothing.
-use mathlib.Core.Path.{◌≡◌, refl}
+use mathlib.Core.Path.{◌≡◌}
 use Prim.Native.Nat.{◌-◌, ◌≤◌}
-use native.Mathlib.Omega.{arith}
-use native.Mathlib.Numerals.{add-one}
 use lib.ListN.{length}
-use borrow.Author.Rules.{rules}
 use Rattle.lists.specs.Parts.{overwrite}
 use Rattle.formula.specs.Words.{table_of}
-use Rattle.prenex_form.specs.Matrix.{kept}
 use Rattle.first_nodes.specs.Given.{Counted, DefinedBelow}
-use Rattle.first_nodes.proofs.Defined.{defined_none, defined_all}
-use Rattle.first_nodes.proofs.Renamed.{first_words, write_none, write_next, write_all}
+use Rattle.first_nodes.proofs.Renamed.{first_words}
 use Rattle.first_nodes.proofs.write_first.Given as goal
 
 abbrev pub invariant-loop-i : goal.invariant-loop-i
