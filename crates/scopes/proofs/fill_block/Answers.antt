@@ -3,7 +3,6 @@
 -- Assumes nothing.
 use native.Mathlib.Omega.{arith}
 use lib.ListN.{length-set}
-use borrow.Author.Rules.{rules}
 use Rattle.lists.proofs.Members.{mem_head}
 use Rattle.arrays.proofs.Nodes.{nodes_few}
 use Rattle.scopes.proofs.Nodes.{operand_lt, body_read}

@@ -2,7 +2,6 @@
 -- Assumes nothing.
 use mathlib.Core.Path.{refl, sym, ◌∙◌}
 use native.Mathlib.Omega.{arith}
-use borrow.Author.Rules.{rules}
 use Rattle.lists.proofs.Members.{mem_head, mem_tail}
 use Rattle.formula.specs.Words.{is_block_kind}
 use Rattle.arrays.proofs.Nodes.{block_read, nodes_few}
@@ -27,7 +26,7 @@ hand_down-requires c = (operand_lt c.args.words.now c.args.list.now c.requires.l
 pub hand_down-requires-then-node-eq-OPERATOR : goal.hand_down-requires-then-node-eq-OPERATOR
 hand_down-requires-then-node-eq-OPERATOR c =
     let d = c.hand_down in
-    (operand_lt c.args.words.now c.args.list.now c.requires.list_value c.args.i _ _ c.requires.i_bound.0 (operator_read _ _ _ _ c.node_at-node.ensures c.if-node-eq-OPERATOR.true) (mem_tail _ _ _ (mem_head _ _)), d.auto.0 ∙ c.requires.parents_len.0, d.auto.1.0 ∙ c.requires.parents_len.1)
+    (operand_lt c.args.words.now c.args.list.now c.requires.list_value c.args.i _ _ c.requires.i_bound.0 (operator_read _ _ _ _ c.node_at-node.ensures c.if-node-eq-OPERATOR.true) (mem_tail _ _ _ (mem_head _ _)), d.auto.parents ∙ c.requires.parents_len.0, d.auto.levels ∙ c.requires.parents_len.1)
 
 pub returns-then-node-eq-OPERATOR : goal.returns-then-node-eq-OPERATOR
 unfolding is_block_kind
@@ -58,7 +57,7 @@ returns-then-node-eq-NEGATION c =
     }
 
 pub fill_block-counts-requires : goal.fill_block-counts-requires
-fill_block-counts-requires c = let e = sym (c.is_block_kind.ensures ∙ block_read c.args.words.now c.args.list.now c.args.i _ c.node_at-node.ensures) ∙ c.if-is_block_kind.true in let w = c.before.before.before.before.before.before.before.before.before.before.before.before.before.before.before.before.before.requires.1.1 in record { list_value = c.requires.list_value; i_bound = (c.requires.i_bound.0, e); parents_len = w.0; scopes_from = w.1.0; counts_from = w.1.1 }
+fill_block-counts-requires c = let e = sym (c.is_block_kind.ensures ∙ block_read c.args.words.now c.args.list.now c.args.i _ c.node_at-node.ensures) ∙ c.if-is_block_kind.true in record { list_value = c.requires.list_value; i_bound = (c.requires.i_bound.0, e); parents_len = c.requires.parents_len; scopes_from = c.requires.scopes_from; counts_from = c.requires.counts_from }
 
 pub returns-then-is_block_kind : goal.returns-then-is_block_kind
 returns-then-is_block_kind c =

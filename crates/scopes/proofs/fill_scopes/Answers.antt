@@ -4,8 +4,7 @@
 use mathlib.Core.Path.{◌≡◌, sym, ◌∙◌, subst}
 use Prim.Native.Nat.{ℕ, ◌+◌, ◌-◌, ◌≤◌, ◌<◌}
 use native.Mathlib.Omega.{arith}
-use lib.ListN.{length, length-set}
-use borrow.Author.Rules.{rules}
+use lib.ListN.{length-set}
 use Rattle.formula.specs.Words.{node_count, table_of}
 use Rattle.acceptance.specs.Limits.{limit}
 use Rattle.block_counts.specs.Counting.{CountsFrom}
@@ -91,7 +90,7 @@ loop-i-preserved c =
     let l = c.loop-i in
     let h : 0 < l.i = omega (arith, c.loop-i-test.true) in
     let f = c.fill_node-pass in
-    (rw f.ensures.1.0 (one_more _ l.i _ h l.invariant.0), f.auto.1.1.0 ∙ l.invariant.1, f.auto.1.1.1.0 ∙ l.invariant.2, f.ensures.0, f.ensures.1.1)
+    (rw f.ensures.visited_value (one_more _ l.i _ h l.invariant.0), f.auto.parents ∙ l.invariant.1, f.auto.levels ∙ l.invariant.2, f.ensures.scopes_from_2, f.ensures.counts_from_2)
 
 pub shape_of-parents : goal.shape_of-parents
 shape_of-parents c = c.loop-i.invariant.1 ∙ sym c.requires.parents_len.0

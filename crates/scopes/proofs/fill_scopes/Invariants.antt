@@ -1,19 +1,13 @@
 -- `scopes::fill_scopes` meets its contract. The loop's invariant: the pass has visited the nodes from i up, one by one, and counted their
 -- blocks. The measure is i.
 -- Assumes nothing.
-use mathlib.Core.Path.{◌≡◌, sym, ◌∙◌, subst}
-use Prim.Native.Nat.{ℕ, ◌+◌, ◌-◌, ◌≤◌, ◌<◌}
-use native.Mathlib.Omega.{arith}
-use lib.ListN.{length, length-set}
-use borrow.Author.Rules.{rules}
+use mathlib.Core.Path.{◌≡◌}
+use Prim.Native.Nat.{◌+◌}
+use lib.ListN.{length}
 use Rattle.formula.specs.Words.{node_count, table_of}
 use Rattle.acceptance.specs.Limits.{limit}
 use Rattle.block_counts.specs.Counting.{CountsFrom}
 use Rattle.scopes.specs.Passes.{ScopesFrom}
-use Rattle.arrays.proofs.Nodes.{accepted_tree, nodes_few}
-use Rattle.scopes.proofs.Nodes.{nodes_some}
-use Rattle.scopes.proofs.Scopes.{scopes_begun, scopes_end}
-use Rattle.block_counts.proofs.Counting.{counts_none, counts_end}
 use Rattle.scopes.proofs.fill_scopes.Given as goal
 
 abbrev pub invariant-loop-i : goal.invariant-loop-i
