@@ -6,7 +6,6 @@ use Prim.Native.Nat.{ℕ}
 use native.Mathlib.Omega.{arith}
 use lib.Dec.{ltb}
 use lib.ListN.{length-replicate}
-use borrow.Author.Rules.{rules}
 use Rattle.formula.specs.Words.{node_count}
 use Rattle.acceptance.specs.Verdict.{partial_node}
 use Rattle.matrix_check.proofs.Nodes.{tallied_new, matrix_length, some_node_lem, few_nodes, matrix_node, matrix_tree, matrix_passed}
@@ -15,9 +14,10 @@ use Rattle.matrix_check.proofs.check.Goals as goal
 
 pub returns-then-partial_node-n : goal.returns-then-partial_node-n
 returns-then-partial_node-n c =
-    let r = c.malformed.ensures in record {
-      number = rw (r.0, r.1) (((matrix_length _ (rw c.partial_node.ensures at c.if-partial_node-n.true))).0);
-      position = rw (r.0, r.1) (((matrix_length _ (rw c.partial_node.ensures at c.if-partial_node-n.true))).1);
+    let r = c.malformed.ensures in
+    let w = matrix_length _ (rw c.partial_node.ensures at c.if-partial_node-n.true) in record {
+      number = r.0 ∙ w.0;
+      position = r.1 ∙ w.1;
     }
 
 -- the length is not at fault
@@ -33,9 +33,10 @@ first_unsound-i-requires c =
 
 pub returns-then-i-n : goal.returns-then-i-n
 returns-then-i-n c =
-    let r = c.malformed-then-i-n.ensures in record {
-      number = rw (r.0, r.1) (((matrix_node _ (long (goal.at.returns-then-i-n c).Else-partial_node-n) _ c.first_unsound-i.ensures.value c.if-i-n.true)).0);
-      position = rw (r.0, r.1) (((matrix_node _ (long (goal.at.returns-then-i-n c).Else-partial_node-n) _ c.first_unsound-i.ensures.value c.if-i-n.true)).1);
+    let r = c.malformed-then-i-n.ensures in
+    let w = matrix_node _ (long (goal.at.returns-then-i-n c).Else-partial_node-n) _ c.first_unsound-i.ensures.value c.if-i-n.true in record {
+      number = r.0 ∙ w.0;
+      position = r.1 ∙ w.1;
     }
 
 pub overflow_sub-last : goal.overflow_sub-last
@@ -47,9 +48,10 @@ lowest_not_once-j-requires c = omega (arith, few_nodes _ (long (goal.at.lowest_n
 pub returns-then-j-last : goal.returns-then-j-last
 returns-then-j-last c =
     let r = c.malformed-then-j-last.ensures in
-    let f = c.first_unsound-i.ensures in record {
-      number = rw (r.0, r.1) (((matrix_tree _ (long (goal.at.returns-then-j-last c).Else-partial_node-n) _ f.value c.if-i-n.false _ f.tallied_2 _ c.lowest_not_once-j.ensures c.if-j-last.true)).0);
-      position = rw (r.0, r.1) (((matrix_tree _ (long (goal.at.returns-then-j-last c).Else-partial_node-n) _ f.value c.if-i-n.false _ f.tallied_2 _ c.lowest_not_once-j.ensures c.if-j-last.true)).1);
+    let f = c.first_unsound-i.ensures in
+    let w = matrix_tree _ (long (goal.at.returns-then-j-last c).Else-partial_node-n) _ f.value c.if-i-n.false _ f.tallied_2 _ c.lowest_not_once-j.ensures c.if-j-last.true in record {
+      number = r.0 ∙ w.0;
+      position = r.1 ∙ w.1;
     }
 
 pub returns : goal.returns

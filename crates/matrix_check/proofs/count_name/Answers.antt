@@ -1,6 +1,5 @@
 -- `matrix_check::count_name` meets its contract: one store counts one name.
 -- Assumes nothing.
-use borrow.Author.Rules.{rules}
 use Rattle.matrix_check.proofs.Nodes.{tally_one}
 use Rattle.matrix_check.proofs.count_name.Goals as goal
 

@@ -1,19 +1,11 @@
 -- `matrix_check::first_unsound` meets its contract: the loop's invariant: no refusal applies to the nodes passed, and the nodes that they name are counted. The measure is what is left of the nodes.
 -- Assumes nothing.
-use mathlib.Core.Bool.{true, not}
-use mathlib.Core.List.{[]}
+use mathlib.Core.Bool.{not}
 use mathlib.Core.Path.{◌≡◌, sym, ◌∙◌, ap}
-use Prim.Native.Nat.{ℕ, ◌-◌, ◌≤◌, ◌<◌}
 use native.Mathlib.Omega.{arith}
-use lib.Dec.{eqb}
 use borrow.Author.Count.{below_more}
-use borrow.Author.Rules.{rules}
-use borrow.Author.Tests.{not-false}
 use Rattle.lists.proofs.Search.{lowest_is, lowest_none}
 use Rattle.formula.specs.Words.{node_count}
-use Rattle.acceptance.specs.Verdict.{node_fault}
-use Rattle.matrix_check.specs.Steps.{node_limits}
-use Rattle.matrix_check.specs.Steps.{Tallied}
 use Rattle.matrix_check.proofs.first_unsound.Goals as goal
 
 pub loop-i-init : goal.loop-i-init

@@ -1,7 +1,6 @@
 -- `matrix_check::sound_leaf` meets its contract: at a variable and at a constant, refusal 3 is the only one of the two, and its test is this one.
 -- Assumes nothing.
 use mathlib.Core.Path.{sym}
-use borrow.Author.Rules.{rules}
 use Rattle.matrix_check.proofs.Nodes.{sound_variable, sound_other}
 use Rattle.matrix_check.proofs.sound_leaf.Goals as goal
 

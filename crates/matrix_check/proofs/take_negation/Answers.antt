@@ -4,8 +4,7 @@ use mathlib.Core.Bool.{true≢false, ◌&&◌}
 use mathlib.Core.Path.{sym, ◌∙◌}
 use native.Mathlib.Omega.{arith}
 use lib.Dec.{eqb}
-use borrow.Author.Rules.{rules}
-use borrow.Author.Tests.{leb-false, not-true, not-false}
+use borrow.Author.Tests.{leb-false, not-true}
 use Rattle.lists.specs.Choice.{and_right}
 use Rattle.matrix_check.proofs.Nodes.{sound_negation, tally_negation}
 use Rattle.matrix_check.proofs.take_negation.Goals as goal

@@ -2,7 +2,6 @@
 -- Assumes nothing.
 use mathlib.Core.Path.{sym, ◌∙◌}
 use native.Mathlib.Omega.{arith}
-use borrow.Author.Rules.{rules}
 use borrow.Author.Tests.{ne_eqb}
 use Rattle.matrix_check.proofs.Nodes.{fault_sound, tallied_more, leaf_counted}
 use Rattle.matrix_check.proofs.take_node.Goals as goal

@@ -4,8 +4,7 @@ use mathlib.Core.Bool.{true≢false}
 use mathlib.Core.Path.{sym, ◌∙◌}
 use native.Mathlib.Omega.{arith}
 use lib.Dec.{leb}
-use borrow.Author.Rules.{rules}
-use borrow.Author.Tests.{leb-false, not-true, not-false}
+use borrow.Author.Tests.{leb-false, not-true}
 use Rattle.lists.specs.Choice.{and_right, or_neither_left, or_neither_right}
 use Rattle.matrix_check.proofs.Nodes.{sound_operator, tally_operator}
 use Rattle.matrix_check.proofs.take_operator.Goals as goal
