@@ -9,7 +9,7 @@ use lib.Dec.{leb}
 use borrow.Author.Tests.{leb-true, le-leb}
 use Rattle.lists.specs.Choice.{and_left, and_right, and_both}
 use Rattle.qcir.specs.File.{File}
-use Rattle.qcir.specs.Spelling.{Sign, value_from, Spelled, end, space, a_word, a_name, line_end_lem, blank_line, comment_line, Spells, file_signs}
+use Rattle.qcir.specs.Spelling.{Sign, value_from, Spelled, end, space, a_word, a_name, at_line_end, blank_line, comment_line, Spells, file_signs}
 use Rattle.qcir.specs.Unbounded.{names_up_to}
 use Rattle.qcir.specs.Laws.{SpellsMore, SpellsWithin}
 
@@ -20,7 +20,7 @@ spelled_within (space h d) k = space h (spelled_within d k)
 spelled_within (a_word w d) k = a_word w (spelled_within d k)
 spelled_within {b = b} (a_name ds h m d) k =
     a_name ds h (leb-true _ b (and_left _ _ k)) (spelled_within d (and_right (leb (value_from 0 ds) b) _ k))
-spelled_within (line_end_lem d) k = line_end_lem (spelled_within d k)
+spelled_within (at_line_end d) k = at_line_end (spelled_within d k)
 spelled_within (blank_line d) k = blank_line (spelled_within d k)
 spelled_within (comment_line gap note g h d) k = comment_line gap note g h (spelled_within d k)
 
@@ -30,7 +30,7 @@ spelled_names l end = refl
 spelled_names l (space h d) = spelled_names l d
 spelled_names l (a_word w d) = spelled_names l d
 spelled_names {b = b} l (a_name ds h m d) = and_both _ _ (le-leb (value_from 0 ds) b (omega arith)) (spelled_names l d)
-spelled_names l (line_end_lem d) = spelled_names l d
+spelled_names l (at_line_end d) = spelled_names l d
 spelled_names l (blank_line d) = spelled_names l d
 spelled_names l (comment_line gap note g h d) = spelled_names l d
 

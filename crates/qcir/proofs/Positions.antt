@@ -6,8 +6,8 @@ use Prim.Native.Nat.{ℕ, suc, ◌+◌, ◌≤◌}
 use lib.ListN.{length}
 use Rattle.qcir.specs.File.{File}
 use Rattle.qcir.specs.Spelling.{Sign, word, newline, file_signs, value_from, header, Spelled, Spells}
-use Rattle.qcir.specs.Spelling.{end as end_at, space as space_at, a_word as word_at, a_name as name_at, line_end_lem as line_end_at, blank_line as blank_line_at, comment_line as comment_line_at}
-use Rattle.qcir.specs.Positions.{unplaced_name, unplaced, Says, SpelledUnplaced, end, space, a_word, a_name, line_end_lem, blank_line, comment_line, SpellsUnplaced, SpellsSays, SaysSpells}
+use Rattle.qcir.specs.Spelling.{end as end_at, space as space_at, a_word as word_at, a_name as name_at, at_line_end as line_end_at, blank_line as blank_line_at, comment_line as comment_line_at}
+use Rattle.qcir.specs.Positions.{unplaced_name, unplaced, Says, SpelledUnplaced, end, space, a_word, a_name, at_line_end, blank_line, comment_line, SpellsUnplaced, SpellsSays, SaysSpells}
 use Rattle.qcir.proofs.PositionsSigns.{unplaced_sign, Alike, no_sign, same_word, same_name, same_line, file_signs_lem, placed_file}
 
 -- The text, whose first byte has position p, spells signs that are ss but for positions.
@@ -32,7 +32,7 @@ at_places {most} (a_name x ds n e l d) p =
     let r = at_places d (p + length ds) in
     let m : value_from 0 ds ≤ most = rw e l in
     record { signs = _; spelled = name_at ds n m r.spelled; alike = same_name e r.alike }
-at_places (line_end_lem d) p = let r = at_places d (suc p) in record { signs = newline ∷ r.signs; spelled = line_end_at r.spelled; alike = same_line r.alike }
+at_places (at_line_end d) p = let r = at_places d (suc p) in record { signs = newline ∷ r.signs; spelled = line_end_at r.spelled; alike = same_line r.alike }
 at_places (blank_line d) p = let r = at_places d (suc p) in skip (λ us. blank_line_at) r.spelled r.alike
 at_places (comment_line gap note g n d) p =
     let r = at_places d (suc p + (length gap + suc (length note))) in
@@ -45,7 +45,7 @@ no_places end_at = end
 no_places (space_at h d) = space h (no_places d)
 no_places (word_at w d) = a_word w (no_places d)
 no_places (name_at ds n l d) = a_name _ ds n refl l (no_places d)
-no_places (line_end_at d) = line_end_lem (no_places d)
+no_places (line_end_at d) = at_line_end (no_places d)
 no_places (blank_line_at d) = blank_line (no_places d)
 no_places (comment_line_at gap note g n d) = comment_line gap note g n (no_places d)
 

@@ -6,7 +6,7 @@ use mathlib.Core.Bool.{Bool, true, false}
 use mathlib.Core.List.{List, [], ◌∷◌, ◌++◌, map, map-append, append_assoc, append-nil}
 use Prim.Native.Nat.{ℕ}
 use Rattle.lists.specs.Choice.{pick}
-use Rattle.qcir.specs.File.{Name, Literal, Gate, junction_gate, xor_gate, quantified_gate_lem, Line, File}
+use Rattle.qcir.specs.File.{Name, Literal, Gate, junction_gate, xor_gate, quantifier_gate, Line, File}
 use Rattle.qcir.specs.Spelling.{Sign, word, name, newline, comma, closing, opening, minus_sign, semicolon, equals, output_word, free_word, xor_word, quantifier_word, junction_word, literal_signs, names_signs, inputs_signs, any_inputs_signs, list_signs, free_signs, prefix_signs, output_signs, gate_signs, gates_signs, file_signs}
 use Rattle.qcir.specs.Positions.{unplaced_name, unplaced_literal, unplaced_gate, unplaced_line, unplaced}
 
@@ -95,9 +95,9 @@ a_word w = record { placed = go; unplaced_signs = refl }
     go : (ss rr : List Sign) → Alike (word w ∷ ss) rr → Begins {A = Unit} (λ u. word w ∷ []) (λ u. u) tt ss rr
     go ss _ (same_word _ {rr = rr} h) = record { part = tt; rest = rr; starts = refl; same = refl; more = h }
 
-line_end_lem : Part {A = Unit} (λ u. word closing ∷ newline ∷ []) (λ u. u) tt
+at_line_end : Part {A = Unit} (λ u. word closing ∷ newline ∷ []) (λ u. u) tt
 unfolding unplaced_sign
-line_end_lem = record { placed = go; unplaced_signs = refl }
+at_line_end = record { placed = go; unplaced_signs = refl }
   where
     go : (ss rr : List Sign) → Alike (word closing ∷ newline ∷ ss) rr → Begins {A = Unit} (λ u. word closing ∷ newline ∷ []) (λ u. u) tt ss rr
     go ss _ (same_word _ (same_line {rr = rr} h)) = record { part = tt; rest = rr; starts = refl; same = refl; more = h }
@@ -113,7 +113,7 @@ after_word_lem : {A : Type 0} {s : A → List Sign} {p : A → A} {x : A} (w : L
 after_word_lem w a = seen_as _ _ (λ c. c.1) (λ c. refl) (λ c. refl) (then (a_word w) a)
 
 ended : {A : Type 0} {s : A → List Sign} {p : A → A} {x : A} → Part s p x → Part (λ a. s a ++ (word closing ∷ newline ∷ [])) p x
-ended a = seen_as _ _ (λ c. c.0) (λ c. refl) (λ c. refl) (then a line_end_lem)
+ended a = seen_as _ _ (λ c. c.0) (λ c. refl) (λ c. refl) (then a at_line_end)
 
 -- Names with commas between them.
 names_part : (x : Name) (xs : List Name)
@@ -178,8 +178,8 @@ gate_part (junction_gate j g ls) =
 gate_part (xor_gate g l r) =
     seen_as _ _ (λ c. xor_gate c.0 c.1.0 c.1.1) (λ c. refl) (λ c. refl)
     (defines g xor_word (then (literal_part l) (after_word_lem comma (ended (literal_part r)))))
-gate_part (quantified_gate_lem q g x xs l) =
-    seen_as _ _ (λ c. quantified_gate_lem q c.0 c.1.0.0 c.1.0.1 c.1.1) (λ c. refl) (λ c. refl)
+gate_part (quantifier_gate q g x xs l) =
+    seen_as _ _ (λ c. quantifier_gate q c.0 c.1.0.0 c.1.0.1 c.1.1) (λ c. refl) (λ c. refl)
     (defines g (quantifier_word q) (then (names_part x xs) (after_word_lem semicolon (ended (literal_part l)))))
 
 -- Files.

@@ -3,7 +3,7 @@
 use mathlib.Core.Path.{◌≡◌, refl, sym, ap, subst}
 use mathlib.Core.Bool.{Bool, true, false}
 use mathlib.Core.List.{List, [], ◌∷◌, ◌++◌}
-use Prim.Native.Nat.{ℕ, ◌+◌, ◌*◌}
+use Prim.Native.Nat.{ℕ, suc, ◌+◌, ◌*◌}
 use native.Mathlib.Omega.{arith}
 use lib.Dec.{eqb}
 use lib.ListN.{length, length-append}
@@ -16,7 +16,7 @@ use Rattle.formula.specs.Form.{kind_of}
 use Rattle.formula.specs.declared.NodeWords.{NodeWords}
 use Rattle.formula.proofs.Nodes.{words_plain, block_kind_of}
 use Rattle.acceptance.specs.Verdict.{count_at}
-use Rattle.qcir.specs.File.{Literal, Gate, junction_gate, xor_gate, quantified_gate_lem, Line, line_variables, File, numbers_of}
+use Rattle.qcir.specs.File.{Literal, Gate, junction_gate, xor_gate, quantifier_gate, gate_name, Line, line_variables, File, numbers_of}
 use Rattle.qcir.specs.Table.{Draft, Stored, store, store_name, store_literal, store_inputs, store_block, junction_table, empty_value, store_gate, store_gates, store_prefix, empty_draft, store_file, store_matrix, table_words, table_list}
 use Rattle.qcir.proofs.StoredWords.{with_node, count_with, whole_with, words_kept, words_new}
 
@@ -93,12 +93,12 @@ unfolding store_gate
 whole_gate d (junction_gate j g []) p = whole_store d (constant (empty_value j)) p
 whole_gate d (junction_gate j g (l ∷ ls)) p = whole_inputs (junction_table j) (store_literal d l) ls (whole_literal d l p)
 whole_gate d (xor_gate g l r) p = whole_inputs 6 (store_literal d l) (r ∷ []) (whole_literal d l p)
-whole_gate d (quantified_gate_lem q g x xs l) p = whole_block q (numbers_of (x ∷ xs)) (store_literal d l) (whole_literal d l p)
+whole_gate d (quantifier_gate q g x xs l) p = whole_block q (numbers_of (x ∷ xs)) (store_literal d l) (whole_literal d l p)
 
 whole_gates : (d : Draft) (gs : List Gate) → Whole d → Whole (store_gates d gs)
 unfolding store_gates
 whole_gates d [] p = p
-whole_gates d (g ∷ gs) p = whole_gates (store_gate d g).draft gs (whole_gate d g p)
+whole_gates d (g ∷ gs) p = whole_gates (record { words = (store_gate d g).draft.words; entries = (store_gate d g).draft.entries; gate = λ x. pick (eqb x (gate_name g).number) (suc (store_gate d g).node) ((store_gate d g).draft.gate x) }) gs (whole_gate d g p)
 
 whole_prefix : (s : Stored) (ls : List Line) → Whole s.draft → Whole (store_prefix s ls).draft
 unfolding store_prefix

@@ -18,7 +18,7 @@ use Rattle.formula.specs.Truth.{operator_value}
 use Rattle.formula.specs.Tree.{times_named}
 use Rattle.formula.proofs.Meaning.{operator_names}
 use Rattle.acceptance.specs.Verdict.{is_number}
-use Rattle.qcir.specs.File.{Name, Literal, Junction, conjunction, disjunction, Gate, junction_gate, xor_gate, quantified_gate_lem, gate_name, gate_variables, gate_inputs, Line, line_variables, numbers_of, names_of}
+use Rattle.qcir.specs.File.{Name, Literal, Junction, conjunction, disjunction, Gate, junction_gate, xor_gate, quantifier_gate, gate_name, gate_variables, gate_inputs, Line, line_variables, numbers_of, names_of}
 use Rattle.qcir.specs.Meaning.{Meaning, literal_value, junction_value, gate_value, meaning, prefix_value}
 use Rattle.qcir.specs.Refusals.{input_numbers}
 use Rattle.qcir.specs.Table.{Draft, Stored, store, store_name, store_literal, store_inputs, junction_table, empty_value, store_gate, store_gates, store_prefix, empty_draft}
@@ -263,7 +263,7 @@ module _ (R : Type 0) where
       stores_as (junction_folded m j l ls) (gate_inputs_lem (junction_table j) (table_small j) d hand uses m l ls r p)
   gate_stores d hand uses m (xor_gate g l k) r u n p =
       stores_as (λ v. operator_names.xor_6 (literal_value m l v) (literal_value m k v)) (gate_inputs_lem 6 (omega arith) d hand uses m l (k ∷ []) r p)
-  gate_stores d hand uses m (quantified_gate_lem q g x xs l) r u n p =
+  gate_stores d hand uses m (quantifier_gate q g x xs l) r u n p =
       let e = store_literal d l in
       let a = literal_stores d hand uses m l (λ h. r h _ (mem_head _ _)) p in
       stores_after a.kept a.gate (new_block R e.draft hand uses m q (numbers_of (x ∷ xs)) e.node (literal_value m l) (omega arith) u n a.holds a.stands)

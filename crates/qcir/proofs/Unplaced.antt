@@ -11,10 +11,12 @@ use Rattle.lists.specs.Choice.{pick}
 use Rattle.lists.specs.Members.{mem, times}
 use Rattle.lists.proofs.Passing.{chosen_length}
 use Rattle.formula.specs.Valuation.{Valuation, quant}
-use Rattle.qcir.specs.File.{Name, Literal, Junction, conjunction, disjunction, Gate, junction_gate, xor_gate, quantified_gate_lem, gate_name, gate_variables, gate_inputs, Line, line_variables, prefix_variables, File, numbers_of, names_of}
+use Rattle.qcir.specs.File.{Name, Literal, Junction, conjunction, disjunction, Gate, junction_gate, xor_gate, quantifier_gate, gate_name, gate_variables, gate_inputs, Line, line_variables, prefix_variables, File, numbers_of, names_of}
+use Rattle.formula.specs.Node.{operator}
+use Rattle.formula.specs.Words.{words_of}
 use Rattle.qcir.specs.Meaning.{Meaning, literal_value, junction_value, gate_value, meaning, prefix_value, file_truth}
 use Rattle.qcir.specs.Refusals.{keep, gate_names, outer_names, quantified_names, repeated, repeated_in_gates, later_places, gates_listed, naming_gates, without, early_uses, misplaced, input_numbers, used_numbers, not_used_once, FreeIn, free_in_inputs, free_in_gates, unbound}
-use Rattle.qcir.specs.Table.{Draft, Stored, store_literal, store_inputs, store_block, store_gate, store_gates, store_prefix, empty_draft, store_matrix, store_file, line_block, file_prefix, table_words, table_list, junction_table}
+use Rattle.qcir.specs.Table.{Draft, Stored, store, store_literal, store_inputs, store_block, store_gate, store_gates, store_prefix, empty_draft, store_matrix, store_file, line_block, file_prefix, table_words, table_list, junction_table}
 use Rattle.qcir.specs.Positions.{unplaced_name, unplaced_literal, unplaced_gate, unplaced_line, unplaced, UnplacedAgain, TruthUnplaced, NotUsedOnceUnplaced, UnboundUnplaced, WordsUnplaced, ListUnplaced, MatrixUnplaced, PrefixUnplaced, MisplacedUnplaced}
 
 -- Files without positions.
@@ -37,7 +39,7 @@ gate_again : (g : Gate) → unplaced_gate (unplaced_gate g) ≡ unplaced_gate g
 unfolding unplaced_gate unplaced_literal unplaced_name
 gate_again (junction_gate j g ls) = ap (junction_gate j (unplaced_name g)) (literals_again ls)
 gate_again (xor_gate g l r) = refl
-gate_again (quantified_gate_lem q g x xs l) = ap (λ ys. quantified_gate_lem q (unplaced_name g) (unplaced_name x) ys (unplaced_literal l)) (names_again xs)
+gate_again (quantifier_gate q g x xs l) = ap (λ ys. quantifier_gate q (unplaced_name g) (unplaced_name x) ys (unplaced_literal l)) (names_again xs)
 
 pub unplaced_again : UnplacedAgain
 unfolding unplaced unplaced_literal unplaced_name
@@ -62,7 +64,7 @@ name_unplaced : (g : Gate) → gate_name (unplaced_gate g) ≡ unplaced_name (ga
 unfolding gate_name unplaced_gate
 name_unplaced (junction_gate j g ls) = refl
 name_unplaced (xor_gate g l r) = refl
-name_unplaced (quantified_gate_lem q g x xs l) = refl
+name_unplaced (quantifier_gate q g x xs l) = refl
 
 number_unplaced : (g : Gate) → (gate_name (unplaced_gate g)).number ≡ (gate_name g).number
 unfolding unplaced_name
@@ -72,13 +74,13 @@ variables_unplaced : (g : Gate) → gate_variables (unplaced_gate g) ≡ map unp
 unfolding gate_variables unplaced_gate
 variables_unplaced (junction_gate j g ls) = refl
 variables_unplaced (xor_gate g l r) = refl
-variables_unplaced (quantified_gate_lem q g x xs l) = refl
+variables_unplaced (quantifier_gate q g x xs l) = refl
 
 inputs_unplaced : (g : Gate) → gate_inputs (unplaced_gate g) ≡ map unplaced_literal (gate_inputs g)
 unfolding gate_inputs unplaced_gate
 inputs_unplaced (junction_gate j g ls) = refl
 inputs_unplaced (xor_gate g l r) = refl
-inputs_unplaced (quantified_gate_lem q g x xs l) = refl
+inputs_unplaced (quantifier_gate q g x xs l) = refl
 
 gate_names-unplaced : (gs : List Gate) → gate_names (map unplaced_gate gs) ≡ map unplaced_name (gate_names gs)
 unfolding gate_names
@@ -119,7 +121,7 @@ gate_unplaced : (m : Meaning) (g : Gate) (v : Valuation) → gate_value m (unpla
 unfolding gate_value literal_value unplaced_gate unplaced_literal unplaced_name
 gate_unplaced m (junction_gate j g ls) v = junction_unplaced m j ls v
 gate_unplaced m (xor_gate g l r) v = refl
-gate_unplaced m (quantified_gate_lem q g x xs l) v = ap (λ ns. quant q ns (literal_value m l) v) (numbers_unplaced (x ∷ xs))
+gate_unplaced m (quantifier_gate q g x xs l) v = ap (λ ns. quant q ns (literal_value m l) v) (numbers_unplaced (x ∷ xs))
 
 meaning_unplaced : (m : Meaning) (gs : List Gate) → meaning m (map unplaced_gate gs) ≡ meaning m gs
 unfolding meaning
@@ -176,7 +178,7 @@ unfolding store_gate store_literal unplaced_gate unplaced_literal unplaced_name
 store_gate-unplaced d (junction_gate j g []) = refl
 store_gate-unplaced d (junction_gate j g (l ∷ ls)) = store_inputs-unplaced (junction_table j) (store_literal d l) ls
 store_gate-unplaced d (xor_gate g l r) = store_inputs-unplaced 6 (store_literal d l) (r ∷ [])
-store_gate-unplaced d (quantified_gate_lem q g x xs l) = ap (λ ns. store_block q ns (store_literal d l)) (numbers_unplaced (x ∷ xs))
+store_gate-unplaced d (quantifier_gate q g x xs l) = ap (λ ns. store_block q ns (store_literal d l)) (numbers_unplaced (x ∷ xs))
 
 store_gates-unplaced : (d : Draft) (gs : List Gate) → store_gates d (map unplaced_gate gs) ≡ store_gates d gs
 unfolding store_gates
@@ -186,7 +188,7 @@ store_gates-unplaced d (g ∷ gs) =
     let s = store_gate-unplaced d g i in
     let e = s.draft in
     store_gates (record { words = e.words; entries = e.entries; gate = λ x. pick (eqb x (number_unplaced g i)) (suc s.node) (e.gate x) }) (map unplaced_gate gs))
-    ∙ store_gates-unplaced _ gs
+    ∙ store_gates-unplaced (record { words = (store_gate d g).draft.words; entries = (store_gate d g).draft.entries; gate = λ x. pick (eqb x (gate_name g).number) (suc (store_gate d g).node) ((store_gate d g).draft.gate x) }) gs
 
 store_prefix-unplaced : (s : Stored) (ls : List Line) → store_prefix s (map unplaced_line ls) ≡ store_prefix s ls
 unfolding store_prefix line_variables unplaced_line

@@ -22,7 +22,7 @@ pub data Gate : Type 0 where
   -- g = xor(..): with two
   xor_gate : Name → Literal → Literal → Gate
   -- g = exists(..; ..), g = forall(..; ..): with at least one variable, and one input
-  quantified_gate_lem : Quantifier → Name → Name → List Name → Literal → Gate
+  quantifier_gate : Quantifier → Name → Name → List Name → Literal → Gate
 
 -- A prefix line, exists(..) or forall(..): its list has at least one name.
 pub record Line : Type 0 where
@@ -41,18 +41,18 @@ pub record File : Type 0 where
 unfoldable pub gate_name : Gate → Name
 gate_name (junction_gate j g ls) = g
 gate_name (xor_gate g l r) = g
-gate_name (quantified_gate_lem q g x xs l) = g
+gate_name (quantifier_gate q g x xs l) = g
 
 -- The variables that a gate quantifies; none if it is not quantified.
 unfoldable pub gate_variables : Gate → List Name
 gate_variables (junction_gate j g ls) = []
 gate_variables (xor_gate g l r) = []
-gate_variables (quantified_gate_lem q g x xs l) = x ∷ xs
+gate_variables (quantifier_gate q g x xs l) = x ∷ xs
 
 unfoldable pub gate_inputs : Gate → List Literal
 gate_inputs (junction_gate j g ls) = ls
 gate_inputs (xor_gate g l r) = l ∷ r ∷ []
-gate_inputs (quantified_gate_lem q g x xs l) = l ∷ []
+gate_inputs (quantifier_gate q g x xs l) = l ∷ []
 
 unfoldable pub line_variables : Line → List Name
 line_variables l = l.first ∷ l.others

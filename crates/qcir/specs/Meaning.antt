@@ -4,7 +4,7 @@ use Rattle.std.specs.Prelude.{Bool, true, false, not, ◌&&◌, ◌||◌, List, 
 use Rattle.std.specs.Bool.{xor}
 use Rattle.lists.specs.Choice.{pick}
 use Rattle.formula.specs.Valuation.{Valuation, quant}
-use Rattle.qcir.specs.File.{Literal, Junction, conjunction, disjunction, Gate, junction_gate, xor_gate, quantified_gate_lem, gate_name, Line, line_variables, File, numbers_of}
+use Rattle.qcir.specs.File.{Literal, Junction, conjunction, disjunction, Gate, junction_gate, xor_gate, quantifier_gate, gate_name, Line, line_variables, File, numbers_of}
 
 -- The value of each name under each valuation.
 abbrev pub Meaning : Type 0
@@ -26,7 +26,7 @@ junction_value m disjunction (l ∷ ls) v = literal_value m l v || junction_valu
 unfoldable pub gate_value : Meaning → Gate → Valuation → Bool
 gate_value m (junction_gate j g ls) v = junction_value m j ls v
 gate_value m (xor_gate g l r) v = xor (literal_value m l v) (literal_value m r v)
-gate_value m (quantified_gate_lem q g x xs l) v = quant q (numbers_of (x ∷ xs)) (literal_value m l) v
+gate_value m (quantifier_gate q g x xs l) v = quant q (numbers_of (x ∷ xs)) (literal_value m l) v
 
 -- The values of all names, given those before the gate lines: a gate line gives its name the gate's value.
 unfoldable pub meaning : Meaning → List Gate → Meaning

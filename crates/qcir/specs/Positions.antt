@@ -3,7 +3,7 @@
 use Rattle.std.specs.Prelude.{List, [], ◌∷◌, ◌++◌, map, ◌↔◌, ◌≡◌, true, false, ℕ, ◌≤◌}
 use Rattle.lists.specs.Members.{mem, all}
 use Rattle.formula.specs.Valuation.{Valuation}
-use Rattle.qcir.specs.File.{Name, Literal, Gate, junction_gate, xor_gate, quantified_gate_lem, Line, File}
+use Rattle.qcir.specs.File.{Name, Literal, Gate, junction_gate, xor_gate, quantifier_gate, Line, File}
 use Rattle.qcir.specs.Spelling.{Sign, word, name, newline, file_signs, is_space, is_numeral, value_from, header, is_count, Spells}
 use Rattle.qcir.specs.Meaning.{file_truth}
 use Rattle.qcir.specs.Refusals.{misplaced, not_used_once, unbound}
@@ -21,7 +21,7 @@ unplaced_literal l = record { minus = l.minus; name = unplaced_name l.name }
 unfoldable pub unplaced_gate : Gate → Gate
 unplaced_gate (junction_gate j g ls) = junction_gate j (unplaced_name g) (map unplaced_literal ls)
 unplaced_gate (xor_gate g l r) = xor_gate (unplaced_name g) (unplaced_literal l) (unplaced_literal r)
-unplaced_gate (quantified_gate_lem q g x xs l) = quantified_gate_lem q (unplaced_name g) (unplaced_name x) (map unplaced_name xs) (unplaced_literal l)
+unplaced_gate (quantifier_gate q g x xs l) = quantifier_gate q (unplaced_name g) (unplaced_name x) (map unplaced_name xs) (unplaced_literal l)
 
 -- The prefix line, its names at position 0.
 unfoldable pub unplaced_line : Line → Line
@@ -49,7 +49,7 @@ pub data SpelledUnplaced (most : ℕ) : List Sign → List ℕ → Type 0 where
   space : {b : ℕ} {ss : List Sign} {t : List ℕ} → is_space b ≡ true → SpelledUnplaced most ss t → SpelledUnplaced most ss (b ∷ t)
   a_word : (w : List ℕ) {ss : List Sign} {t : List ℕ} → SpelledUnplaced most ss t → SpelledUnplaced most (word w ∷ ss) (w ++ t)
   a_name : (x : Name) (ds : List ℕ) {ss : List Sign} {t : List ℕ} → is_numeral ds ≡ true → value_from 0 ds ≡ x.number → x.number ≤ most → SpelledUnplaced most ss t → SpelledUnplaced most (name x ∷ ss) (ds ++ t)
-  line_end_lem : {ss : List Sign} {t : List ℕ} → SpelledUnplaced most ss t → SpelledUnplaced most (newline ∷ ss) (10 ∷ t)
+  at_line_end : {ss : List Sign} {t : List ℕ} → SpelledUnplaced most ss t → SpelledUnplaced most (newline ∷ ss) (10 ∷ t)
   blank_line : {ss : List Sign} {t : List ℕ} → SpelledUnplaced most (newline ∷ ss) t → SpelledUnplaced most (newline ∷ ss) (10 ∷ t)
   comment_line : (gap note : List ℕ) {ss : List Sign} {t : List ℕ} → all is_space gap ≡ true → mem 10 note ≡ false → SpelledUnplaced most (newline ∷ ss) t → SpelledUnplaced most (newline ∷ ss) (10 ∷ (gap ++ (35 ∷ (note ++ t))))
 

@@ -5,7 +5,7 @@ use Rattle.lists.specs.Choice.{pick}
 use Rattle.lists.specs.Members.{mem, all}
 use Rattle.formula.specs.Node.{Quantifier, exists, for_all}
 unfoldable pub use Rattle.texts.specs.Numerals.{is_space, is_digit, is_numeral, value_from}
-use Rattle.qcir.specs.File.{Name, Literal, Junction, conjunction, disjunction, Gate, junction_gate, xor_gate, quantified_gate_lem, Line, File}
+use Rattle.qcir.specs.File.{Name, Literal, Junction, conjunction, disjunction, Gate, junction_gate, xor_gate, quantifier_gate, Line, File}
 
 -- A keyword or a sign such as a comma, by its bytes; a name; the end of a line.
 pub data Sign : Type 0 where
@@ -106,7 +106,7 @@ gate_signs (junction_gate j g ls) =
 gate_signs (xor_gate g l r) =
     name g ∷ word equals ∷ word xor_word ∷ word opening
     ∷ (literal_signs l ++ (word comma ∷ (literal_signs r ++ (word closing ∷ newline ∷ []))))
-gate_signs (quantified_gate_lem q g x xs l) =
+gate_signs (quantifier_gate q g x xs l) =
     name g ∷ word equals ∷ word (quantifier_word q) ∷ word opening
     ∷ (names_signs x xs ++ (word semicolon ∷ (literal_signs l ++ (word closing ∷ newline ∷ []))))
 
@@ -126,7 +126,7 @@ pub data Spelled (most : ℕ) : ℕ → List Sign → List ℕ → Type 0 where
   a_word : {p : ℕ} (w : List ℕ) {ss : List Sign} {t : List ℕ} → Spelled most (p + length w) ss t → Spelled most p (word w ∷ ss) (w ++ t)
   a_name : {p : ℕ} (ds : List ℕ) {ss : List Sign} {t : List ℕ} → is_numeral ds ≡ true → value_from 0 ds ≤ most → Spelled most (p + length ds) ss t → Spelled most p (name (record { number = value_from 0 ds; position = p }) ∷ ss) (ds ++ t)
   -- "A line ends at LF .."
-  line_end_lem : {p : ℕ} {ss : List Sign} {t : List ℕ} → Spelled most (suc p) ss t → Spelled most p (newline ∷ ss) (10 ∷ t)
+  at_line_end : {p : ℕ} {ss : List Sign} {t : List ℕ} → Spelled most (suc p) ss t → Spelled most p (newline ∷ ss) (10 ∷ t)
   -- "blank lines .. are skipped"
   blank_line : {p : ℕ} {ss : List Sign} {t : List ℕ} → Spelled most (suc p) (newline ∷ ss) t → Spelled most p (newline ∷ ss) (10 ∷ t)
   -- "later lines whose first sign is `#` are skipped": spaces, the sign and any bytes up to LF

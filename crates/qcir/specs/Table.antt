@@ -9,7 +9,7 @@ use Rattle.formula.specs.Node.{Quantifier, constant, variable, negation, operato
 use Rattle.formula.specs.Words.{node_count, words_of, block_words, word_list}
 use Rattle.formula.specs.Form.{Block, kind_of, prefix_words}
 use Rattle.formula.specs.declared.NodeWords.{NodeWords}
-use Rattle.qcir.specs.File.{Literal, Junction, conjunction, disjunction, Gate, junction_gate, xor_gate, quantified_gate_lem, gate_name, Line, line_variables, File, numbers_of}
+use Rattle.qcir.specs.File.{Literal, Junction, conjunction, disjunction, Gate, junction_gate, xor_gate, quantifier_gate, gate_name, Line, line_variables, File, numbers_of}
 
 -- The nodes and list entries stored so far, and the gates' nodes: one more than the node that stands for a gate, 0 for a name that
 -- is no gate's.
@@ -70,7 +70,7 @@ unfoldable pub store_gate : Draft → Gate → Stored
 store_gate d (junction_gate j g []) = store d (words_of (constant (empty_value j)))
 store_gate d (junction_gate j g (l ∷ ls)) = store_inputs (junction_table j) (store_literal d l) ls
 store_gate d (xor_gate g l r) = store_inputs 6 (store_literal d l) (r ∷ [])
-store_gate d (quantified_gate_lem q g x xs l) = store_block q (numbers_of (x ∷ xs)) (store_literal d l)
+store_gate d (quantifier_gate q g x xs l) = store_block q (numbers_of (x ∷ xs)) (store_literal d l)
 
 -- "gate line by gate line": from then on the gate's name stands for its node.
 unfoldable pub store_gates : Draft → List Gate → Draft

@@ -10,7 +10,7 @@ use lib.ListN.{length}
 use Rattle.lists.specs.Choice.{pick_yes, pick_no, Is, is_true, is_false, look, and_left, and_right, and_both}
 use Rattle.lists.specs.Members.{mem}
 use Rattle.lists.proofs.Members.{mem_left, mem_right, mem_head, mem_tail}
-use Rattle.qcir.specs.File.{Name, Literal, Gate, junction_gate, xor_gate, quantified_gate_lem, gate_name, gate_variables, gate_inputs, Line, line_variables, prefix_variables, File, numbers_of, names_of}
+use Rattle.qcir.specs.File.{Name, Literal, Gate, junction_gate, xor_gate, quantifier_gate, gate_name, gate_variables, gate_inputs, Line, line_variables, prefix_variables, File, numbers_of, names_of}
 use Rattle.qcir.specs.Spelling.{Sign, word, name, newline, literal_signs, names_signs, inputs_signs, any_inputs_signs, list_signs, free_signs, quantifier_word, prefix_signs, output_signs, gate_signs, gates_signs, file_signs, free_word}
 use Rattle.qcir.specs.Unbounded.{names_up_to}
 use Rattle.qcir.specs.Refusals.{outer_names}
@@ -113,7 +113,7 @@ module _ (p : ℕ → Bool) where
       and_both (p g.number) _ n
       (pass_append (literal_signs l) _ (pass_literal l (h a (mem_head a (b ∷ []))))
       (pass_append (literal_signs r) _ (pass_literal r (h b (mem_tail b a (b ∷ []) (mem_head b [])))) refl))
-  pass_gate (quantified_gate_lem q g x xs l) v n h = absurd (omega (arith, ap length v))
+  pass_gate (quantifier_gate q g x xs l) v n h = absurd (omega (arith, ap length v))
 
   module _ (outer : List ℕ) (first end : ℕ) (known : Each outer) (gates : (x : ℕ) → first ≤ x → x < end → p x ≡ true) where
     pass_usable : (s x : ℕ) → s ≤ end → Usable outer first s x → p x ≡ true

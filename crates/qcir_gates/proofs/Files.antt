@@ -11,7 +11,7 @@ use Rattle.lists.specs.Choice.{pick, pick_yes, pick_no, same_test, and_off_left}
 use Rattle.lists.specs.Members.{times}
 use Rattle.lists.proofs.Members.{times_append, eqb_swap}
 use Rattle.formula.specs.Node.{Quantifier}
-use Rattle.qcir.specs.File.{Name, Literal, Junction, Gate, junction_gate, xor_gate, quantified_gate_lem, gate_name, gate_inputs, File, numbers_of, names_of}
+use Rattle.qcir.specs.File.{Name, Literal, Junction, Gate, junction_gate, xor_gate, quantifier_gate, gate_name, gate_inputs, File, numbers_of, names_of}
 use Rattle.qcir.specs.Refusals.{keep, gate_names, input_numbers, used_numbers, not_used_once}
 use Rattle.qcir.proofs.Keep.{keep_cong}
 use Rattle.qcir_tokens.specs.Tokens.{Token, token, output_role, junction_role, xor_role, quantifier_role, bound_role, input_role, is_output, is_definition, is_input, is_use, list_tokens, free_tokens, prefix_tokens, output_token, inputs_tokens, any_inputs_tokens, gate_tokens, gates_tokens, file_tokens}
@@ -94,7 +94,7 @@ uses_gate : (g : Gate) (us : List Token) (x : ℕ) → uses_in (gate_tokens g ++
 unfolding gate_tokens gate_inputs
 uses_gate (junction_gate j g ls) us x = not_used (junction_role j) g (any_inputs_tokens g ls ++ us) x (junction_no_use j) ∙ uses_any g ls us x
 uses_gate (xor_gate g l r) us x = not_used xor_role g (inputs_tokens l (r ∷ []) ++ us) x xor_no_use ∙ uses_inputs l (r ∷ []) us x
-uses_gate (quantified_gate_lem q g x' xs l) us x =
+uses_gate (quantifier_gate q g x' xs l) us x =
     not_used (quantifier_role q) g ((list_tokens bound_role bound_role x' xs ++ inputs_tokens l []) ++ us) x (quantifier_no_use q)
     ∙ ap (λ (ts : List Token). uses_in ts x) (append_assoc (list_tokens bound_role bound_role x' xs) (inputs_tokens l []) us)
     ∙ uses_quiet (inputs_tokens l [] ++ us) x (quiet_list is_use bound_role bound_role x' xs bound_no_use bound_no_use)

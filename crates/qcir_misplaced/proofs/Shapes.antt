@@ -6,7 +6,7 @@ use mathlib.Core.List.{List, [], ◌∷◌, ◌++◌, append_assoc}
 use Prim.Native.Nat.{ℕ}
 use lib.Dec.{eqb}
 use Rattle.formula.specs.Node.{Quantifier, exists, for_all}
-use Rattle.qcir.specs.File.{Name, Literal, conjunction, disjunction, Gate, junction_gate, xor_gate, quantified_gate_lem, gate_name, gate_variables, gate_inputs, Line, line_variables, prefix_variables, File, names_of}
+use Rattle.qcir.specs.File.{Name, Literal, conjunction, disjunction, Gate, junction_gate, xor_gate, quantifier_gate, gate_name, gate_variables, gate_inputs, Line, line_variables, prefix_variables, File, names_of}
 use Rattle.qcir.specs.Refusals.{outer_names}
 use Rattle.qcir_tokens.specs.Tokens.{Token, token, free_role, line_role, later_role, junction_role, quantifier_role, bound_role, input_role, empty_role, is_outer, is_bound, is_definition, is_input, list_tokens, free_tokens, prefix_tokens, inputs_tokens, any_inputs_tokens, gate_tokens, gates_tokens}
 use Rattle.qcir_misplaced.specs.Faults.{is_entry}
@@ -98,9 +98,9 @@ gate_shape (junction_gate disjunction g ls) =
     record { role = 14; bound = []; inputs = any_inputs_tokens g ls; no_entry = refl; definition = refl; no_empty = refl; shape = refl; variables = nothing; uses = any_inputs_entries g ls }
 gate_shape (xor_gate g l r) =
     record { role = 15; bound = []; inputs = inputs_tokens l (r ∷ []); no_entry = refl; definition = refl; no_empty = refl; shape = refl; variables = nothing; uses = inputs_entries l (r ∷ []) }
-gate_shape (quantified_gate_lem exists g x xs l) =
+gate_shape (quantifier_gate exists g x xs l) =
     record { role = 16; bound = list_tokens bound_role bound_role x xs; inputs = inputs_tokens l []; no_entry = refl; definition = refl; no_empty = refl; shape = refl; variables = list_entries bound_role bound_role bound_role_lem bound_role_lem x xs; uses = inputs_entries l [] }
-gate_shape (quantified_gate_lem for_all g x xs l) =
+gate_shape (quantifier_gate for_all g x xs l) =
     record { role = 17; bound = list_tokens bound_role bound_role x xs; inputs = inputs_tokens l []; no_entry = refl; definition = refl; no_empty = refl; shape = refl; variables = list_entries bound_role bound_role bound_role_lem bound_role_lem x xs; uses = inputs_entries l [] }
 
 -- The definition of a gate line.

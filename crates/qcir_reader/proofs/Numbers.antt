@@ -9,7 +9,7 @@ use Rattle.lists.specs.Choice.{and_left, and_right, and_both, or_cases}
 use Rattle.lists.specs.Members.{mem, all}
 use Rattle.lists.proofs.Members.{mem_left, mem_right, mem_append, all_mem}
 use Rattle.acceptance.specs.Verdict.{is_number, is_number_to}
-use Rattle.qcir.specs.File.{Name, Literal, Gate, junction_gate, xor_gate, quantified_gate_lem, gate_name, gate_variables, gate_inputs, Line, line_variables, prefix_variables, File, numbers_of, names_of}
+use Rattle.qcir.specs.File.{Name, Literal, Gate, junction_gate, xor_gate, quantifier_gate, gate_name, gate_variables, gate_inputs, Line, line_variables, prefix_variables, File, numbers_of, names_of}
 use Rattle.qcir.specs.Refusals.{outer_names}
 use Rattle.qcir.proofs.Numbers.{line_names, lines_names, all_numbers, Ranged}
 use Rattle.qcir.proofs.GateLines.{numbers_append}
@@ -52,7 +52,7 @@ unfolding line_names gate_name gate_variables gate_inputs names_of numbers_of to
 gate_names_lem x (junction_gate j g []) h = mem_left x (g.number ∷ []) (g.number ∷ []) h
 gate_names_lem x (junction_gate j g (l ∷ ls)) h = subst (λ z. mem x (numbers_of (g ∷ z)) ≡ true) (sym (input_names l ls)) h
 gate_names_lem x (xor_gate g l r) h = subst (λ z. mem x (numbers_of (g ∷ z)) ≡ true) (sym (input_names l (r ∷ []))) h
-gate_names_lem x (quantified_gate_lem q g y ys l) h =
+gate_names_lem x (quantifier_gate q g y ys l) h =
     subst (λ z. mem x (numbers_of (g ∷ z)) ≡ true) (sym (names_append (list_tokens bound_role bound_role y ys) (inputs_tokens l [])
     ∙ (ap (λ z. z ++ token_names (inputs_tokens l [])) (list_names bound_role bound_role y ys) ∙ ap (λ z. (y ∷ ys) ++ z) (input_names l [])))) h
 

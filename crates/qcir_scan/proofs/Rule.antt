@@ -271,9 +271,9 @@ module _ (i : ℕ) (low : i < 115) where
         (λ t. eqb-true _ _ t)
 
   -- LF belongs to no name
-  pub line_end_lem : entry_at i 10 / 256 ≤ 24
+  pub at_line_end : entry_at i 10 / 256 ≤ 24
   unfolding e is_digit
-  line_end_lem = go (look (leb (entry_at i 10 / 256) 24))
+  at_line_end = go (look (leb (entry_at i 10 / 256) 24))
     where
       go : Is (leb (entry_at i 10 / 256) 24) → entry_at i 10 / 256 ≤ 24
       go (is_true t) = leb-true _ _ t

@@ -18,7 +18,7 @@ use Rattle.qcir_scan.specs.Places.{places, place_of, spare_of, spare}
 use Rattle.qcir_scan.specs.Tables.{entry_at}
 use Rattle.qcir_scan.specs.Held.{highest, state_of, Wide, Lives, Holds, Answers}
 use Rattle.qcir_scan.proofs.Effects.{apply, step_effect}
-use Rattle.qcir_scan.proofs.Rule.{effect_of, entry_effect, next_low, line_end_lem, done_number}
+use Rattle.qcir_scan.proofs.Rule.{effect_of, entry_effect, next_low, at_line_end, done_number}
 use Rattle.qcir_scan.proofs.Runs.{dead_refused, alive_dead, alive_next, alive_end}
 use Rattle.qcir_scan.proofs.Headers.{at_header, header_within, header_run, header_alive, short_position, short_spelled}
 use Rattle.qcir_scan.proofs.Steps.{place_dead, lives_here}
@@ -73,7 +73,7 @@ module _ (text rs ns ps : List ℕ) (q : Progress) (h : Holds text rs ns ps q) (
     last_step : (step highest (state_of q rs ns ps) 10).place ≡ place_of (entry_at q.place 10 % 256)
     unfolding step state_of apply effect_of emit
     last_step =
-        let low : entry_at q.place 10 / 256 ≤ 24 = line_end_lem q.place h.place_low in
+        let low : entry_at q.place 10 / 256 ≤ 24 = at_line_end q.place h.place_low in
         ap (λ s. s.place)
         (step_effect highest (state_of q rs ns ps) 10 (place_of q.place)
         ∙ ap (apply highest (state_of q rs ns ps) 10) (entry_effect q.place h.place_low 10 (omega arith))

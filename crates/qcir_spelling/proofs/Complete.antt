@@ -11,7 +11,7 @@ use borrow.Author.Tests.{eqb-true, eqb-false, eq-eqb, ne_eqb, leb-true, le-leb, 
 use Rattle.lists.specs.Choice.{pick, pick_yes, pick_no, and_left, and_right, and_both, or_cases, or_neither, or_neither_left, or_neither_right, and_off_left, clash, Is, is_true, is_false, look}
 use Rattle.lists.specs.Members.{mem, all}
 use Rattle.qcir.specs.File.{Name, File}
-use Rattle.qcir.specs.Spelling.{Sign, word, name, newline, is_space, is_digit, is_numeral, value_from, Spelled, end, space, a_word, a_name, line_end_lem, blank_line, comment_line, header, is_padded, is_count, Spells, file_signs}
+use Rattle.qcir.specs.Spelling.{Sign, word, name, newline, is_space, is_digit, is_numeral, value_from, Spelled, end, space, a_word, a_name, at_line_end, blank_line, comment_line, header, is_padded, is_count, Spells, file_signs}
 use Rattle.qcir_tokens.specs.Tokens.{Token, token, file_tokens}
 use Rattle.qcir_spelling.specs.Machine.{Place, headed, padded, counted, ready, digits, comment, State, start, run, step, step_at, between, read_digit, end_line, move, move_name, emit, is_done, accepts, tokens_of, point, points, row_at, row, arrow_of}
 use Rattle.qcir_spelling.proofs.Points.{start_ends, end_starts, name_once, word_within, starts_24}
@@ -255,7 +255,7 @@ reach {most} {p} (a_name ds {ss} {t} h m d) c x ts place o n =
     let e : run most (st place p x ts) (ds ++ t) ≡ run most (st (digits (point c).named) (p + length ds) y ts) t =
     run_append most (st place p x ts) ds t ∙ ap (λ z. run most z t) (name_open most c p x ts y ds ss place o k h m) in
     carry e refl (reach d (point c).named y ts (digits (point c).named) (o_digits (name_once c k).0) n)
-reach {most} {p} (line_end_lem {ss = ss} {t = t} d) c x ts place o n =
+reach {most} {p} (at_line_end {ss = ss} {t = t} d) c x ts place o n =
     carry (ap (λ z. run most z t) (line_step most c p x ts ss place o (after_from (line_end c) ss n))) refl
     (reach d (line_end c) x ts (ready (line_end c)) o_ready n)
 reach {most} {p} (blank_line {ss = ss} {t = t} d) c x ts place o n =

@@ -6,7 +6,7 @@ use mathlib.Core.List.{List, [], ◌∷◌, ◌++◌, append_assoc}
 use Prim.Native.Nat.{ℕ}
 use Rattle.lists.specs.Choice.{pick}
 use Rattle.formula.specs.Node.{Quantifier, exists, for_all}
-use Rattle.qcir.specs.File.{Name, Literal, Junction, conjunction, disjunction, Gate, junction_gate, xor_gate, quantified_gate_lem, Line, File}
+use Rattle.qcir.specs.File.{Name, Literal, Junction, conjunction, disjunction, Gate, junction_gate, xor_gate, quantifier_gate, Line, File}
 use Rattle.qcir.specs.Spelling.{Sign, output_word, free_word, word, name, newline, comma, closing, opening, minus_sign, semicolon, equals, literal_signs, names_signs, inputs_signs, any_inputs_signs, list_signs, free_signs, prefix_signs, output_signs, gate_signs, gates_signs, file_signs, quantifier_word, junction_word, xor_word}
 use Rattle.qcir_tokens.specs.Tokens.{Token, token, xor_role, free_role, line_role, later_role, output_role, junction_role, quantifier_role, bound_role, input_role, list_tokens, free_tokens, prefix_tokens, output_token, inputs_tokens, any_inputs_tokens, gate_tokens, gates_tokens, file_tokens}
 use Rattle.qcir_spelling.specs.Machine.{row, row_at, arrow, arrow_of, same, points}
@@ -166,7 +166,7 @@ gate_takes (junction_gate j g ls) p ss ts h =
 gate_takes (xor_gate g l r) p ss ts h =
     rw (append_assoc (literal_signs l) (word comma ∷ (literal_signs r ++ (word closing ∷ newline ∷ []))) ss, append_assoc (literal_signs r) (word closing ∷ newline ∷ []) ss)
     (xor_takes g p _ _ (left_input l g _ _ (right_input r l.name _ _ (line_end_takes ss ts h r.name))))
-gate_takes (quantified_gate_lem q g x xs l) p ss ts h =
+gate_takes (quantifier_gate q g x xs l) p ss ts h =
     rw (append_assoc (names_signs x xs) (word semicolon ∷ (literal_signs l ++ (word closing ∷ newline ∷ []))) ss, append_assoc (literal_signs l) (word closing ∷ newline ∷ []) ss, append_assoc (list_tokens bound_role bound_role x xs) (inputs_tokens l []) ts)
     (quantified_takes q g p _ _ (bound_takes x xs g _ _ (λ y. right_input l y _ _ (line_end_takes ss ts h l.name))))
 

@@ -7,7 +7,7 @@ use Prim.Native.Nat.{ℕ, zero, suc, ◌+◌}
 use native.Mathlib.Omega.{arith}
 use Rattle.lists.specs.Choice.{pick}
 use Rattle.formula.specs.Node.{Quantifier, exists, for_all}
-use Rattle.qcir.specs.File.{Name, Literal, Junction, conjunction, disjunction, Gate, junction_gate, xor_gate, quantified_gate_lem, Line, File}
+use Rattle.qcir.specs.File.{Name, Literal, Junction, conjunction, disjunction, Gate, junction_gate, xor_gate, quantifier_gate, Line, File}
 use Rattle.qcir.specs.Spelling.{Sign, word, name, newline, comma, closing, opening, minus_sign, semicolon, equals, output_word, free_word, xor_word, and_word, or_word, exists_word, forall_word, literal_signs, names_signs, inputs_signs, any_inputs_signs, list_signs, free_signs, prefix_signs, output_signs, gate_signs, gates_signs, file_signs, quantifier_word, junction_word}
 use Rattle.qcir_spelling.specs.Machine.{Arrow, Row, row, row_at, arrow, arrow_of, same, point, points}
 use Rattle.qcir_spelling.proofs.Rows.{choose, same_equal}
@@ -229,8 +229,8 @@ module _ (ss : List Sign) where
   last_closing : LineEnd ss → LastEnd (word closing ∷ ss)
   last_closing h = (h.0, ap (λ rest. word closing ∷ rest) h.1)
 
-  line_end_lem : Gates ss → LineEnd (newline ∷ ss)
-  line_end_lem h = (h.0, ap (λ rest. newline ∷ rest) h.1)
+  at_line_end : Gates ss → LineEnd (newline ∷ ss)
+  at_line_end h = (h.0, ap (λ rest. newline ∷ rest) h.1)
 
   gate_name_lem : (g : Name) → GateName ss → Gates (name g ∷ ss)
   unfolding gates_signs
@@ -278,7 +278,7 @@ module _ (ss : List Sign) where
       let xs = h.1 in
       let l = h.2 in
       let gs = h.3 in (
-        (λ g. quantified_gate_lem q g x xs l),
+        (λ g. quantifier_gate q g x xs l),
         gs,
         λ g. ap (λ rest. name g ∷ word equals ∷ word (quantifier_word q) ∷ rest) h.4
             ∙ ap (λ rest. name g ∷ word equals ∷ word (quantifier_word q) ∷ word opening ∷ rest)
@@ -456,7 +456,7 @@ laws =
     then by_name no_words last_name_lem
     then by_words (last_closing or no_words)
     then by_words (last_closing or no_words)
-    then by_end line_end_lem
+    then by_end at_line_end
     then by_name no_words gate_name_lem
     -- 25: a gate line
     then by_words (gate_equals or no_words)

@@ -11,7 +11,7 @@ use borrow.Author.Tests.{eqb-true, eq-eqb}
 use Rattle.lists.specs.Choice.{pick, pick_yes, and_left, and_right, or_cases, clash, Is, is_true, is_false, look}
 use Rattle.lists.specs.Members.{all}
 use Rattle.qcir.specs.File.{Name}
-use Rattle.qcir.specs.Spelling.{Sign, word, name, newline, is_space, is_digit, is_numeral, value_from, Spelled, end, a_word, a_name, line_end_lem, Viable, SpellingFault, at_byte, at_end}
+use Rattle.qcir.specs.Spelling.{Sign, word, name, newline, is_space, is_digit, is_numeral, value_from, Spelled, end, a_word, a_name, at_line_end, Viable, SpellingFault, at_byte, at_end}
 use Rattle.qcir_tokens.specs.Tokens.{Token}
 use Rattle.qcir_spelling.specs.Machine.{Arrow, Row, row, row_at, arrow, arrow_of, same, begins, some_begins, point, points, Place, dead, heading, headed, padded, counted, ready, inside, digits, comment, State, start, run, step, step_at, between, end_line, move, move_name, emit, is_done, is_dead, alive, accepts}
 use Rattle.qcir_spelling.proofs.Rows.{choose, every, passes, every_arrow, arrow_passes, same_self}
@@ -102,7 +102,7 @@ unfolding placed bytes value_from is_numeral all
 spell most p [] l = end
 spell most p (word w ∷ ss) l = a_word w (spell most (p + length w) ss l)
 spell most p (name x ∷ ss) l = a_name (49 ∷ []) refl l (spell most (p + 1) ss l)
-spell most p (newline ∷ ss) l = line_end_lem (spell most (suc p) ss l)
+spell most p (newline ∷ ss) l = at_line_end (spell most (suc p) ss l)
 
 -- Some bytes lead to the end of a file.
 record Finishes (most : ℕ) (s : State) : Type 0 where

@@ -10,7 +10,7 @@ use lib.ListN.{length, get_or}
 use borrow.Author.Tests.{eqb-true, le-leb, not-true}
 use Rattle.lists.specs.Choice.{pick, pick_yes, pick_no, and_left, and_right, and_both, or_cases, clash, Is, is_true, is_false, look}
 use Rattle.qcir.specs.File.{Name, File}
-use Rattle.qcir.specs.Spelling.{Sign, word, name, newline, is_numeral, value_from, Spelled, end, space, a_word, a_name, line_end_lem, blank_line, comment_line, Spells, file_signs}
+use Rattle.qcir.specs.Spelling.{Sign, word, name, newline, is_numeral, value_from, Spelled, end, space, a_word, a_name, at_line_end, blank_line, comment_line, Spells, file_signs}
 use Rattle.qcir_tokens.specs.Tokens.{Token, token, empty_role, file_tokens, ascending, numbered}
 use Rattle.qcir_spelling.specs.Machine.{Arrow, Row, row, arrow, arrow_of, point, points}
 use Rattle.qcir_spelling.proofs.Rows.{choose, every, passes, every_arrow, arrow_passes}
@@ -41,7 +41,7 @@ spelled_orderly (a_word w d) q l = after_word_lem w (spelled_orderly d q (omega 
 spelled_orderly {p = p} (a_name ds h m d) q l =
     let g = numeral_long ds h in
     after_name (record { number = value_from 0 ds; position = p }) l (numeral_value ds h, m) (spelled_orderly d (suc p) (omega arith))
-spelled_orderly (line_end_lem d) q l = after_line (spelled_orderly d q (omega arith))
+spelled_orderly (at_line_end d) q l = after_line (spelled_orderly d q (omega arith))
 spelled_orderly (blank_line d) q l = spelled_orderly d q (omega arith)
 spelled_orderly (comment_line gap note g h d) q l = spelled_orderly d q (omega arith)
 

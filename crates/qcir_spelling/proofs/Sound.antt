@@ -12,7 +12,7 @@ use Rattle.lists.specs.Choice.{and_left, and_right, and_both, or_left, or_right,
 use Rattle.lists.proofs.Members.{all_append}
 use Rattle.lists.specs.Members.{mem, all}
 use Rattle.qcir.specs.File.{Name, File}
-use Rattle.qcir.specs.Spelling.{Sign, word, name, newline, is_space, is_digit, is_numeral, value_from, Spelled, end, space, a_word, a_name, line_end_lem, blank_line, comment_line, header, is_padded, is_count, Spells, file_signs}
+use Rattle.qcir.specs.Spelling.{Sign, word, name, newline, is_space, is_digit, is_numeral, value_from, Spelled, end, space, a_word, a_name, at_line_end, blank_line, comment_line, header, is_padded, is_count, Spells, file_signs}
 use Rattle.qcir_spelling.specs.Machine.{Place, dead, heading, headed, padded, counted, ready, inside, digits, comment, State, start, run, step, move, move_name, emit, is_done, accepts, point, arrow_of}
 use Rattle.qcir_spelling.proofs.Points.{start_ends, end_starts, name_once, word_within, within_1, starts_24}
 use Rattle.qcir_spelling.proofs.Turns.{Read, whole, part, no_word, within_most, too_high, Ended, line, blank, no_end, Between, by_space, by_end, by_sharp, by_digit, by_word, Turn, from_dead, no_header, in_header, end_header, no_count, first_space, end_headed, no_padding, next_space, first_count, end_padded, next_count, after_count, at_point, in_word, next_digit, after_name, in_comment, end_comment, turn}
@@ -105,7 +105,7 @@ spelt_at most c p t (is_true e) r =
     (record {
       signs = r.signs;
       rest = r.rest;
-      spelled = λ gap q h k. line_end_lem (spaces (suc q) gap h (subst (λ i. Spelled most i r.signs t) (sym k) r.spelled));
+      spelled = λ gap q h k. at_line_end (spaces (suc q) gap h (subst (λ i. Spelled most i r.signs t) (sym k) r.spelled));
     })
 
 at_spelt : {most c p : ℕ} {t : List ℕ} → (point c).starts ≡ false → At most c p t → Spelt most c p t
@@ -332,7 +332,7 @@ turn_back {most} {b} t {s} (end_comment {c} e) r = λ h. subst (λ i. InComment 
 at_end : (most p : ℕ) → At most 24 p []
 at_end most p =
     starting starts_24
-    (record { signs = []; rest = rest_done; spelled = λ gap q h k. line_end_lem (spaces (suc q) gap h end) })
+    (record { signs = []; rest = rest_done; spelled = λ gap q h k. at_line_end (spaces (suc q) gap h end) })
 
 done_claim : (most : ℕ) (place : Place) (p n : ℕ) → is_done place ≡ true → Claim most place p n []
 unfolding Claim is_done

@@ -11,7 +11,7 @@ use Rattle.lists.specs.Choice.{pick, pick_yes, pick_no}
 use Rattle.formula.specs.Node.{Quantifier, exists, for_all, constant, variable, negation}
 use Rattle.formula.specs.Words.{words_of, block_words}
 use Rattle.formula.specs.Form.{kind_of}
-use Rattle.qcir.specs.File.{Name, Literal, Junction, conjunction, disjunction, Gate, junction_gate, xor_gate, quantified_gate_lem, gate_name, numbers_of}
+use Rattle.qcir.specs.File.{Name, Literal, Junction, conjunction, disjunction, Gate, junction_gate, xor_gate, quantifier_gate, gate_name, numbers_of}
 use Rattle.qcir.specs.Table.{Draft, Stored, store, store_literal, store_inputs, store_block, junction_table, empty_value, store_gate, store_gates}
 use Rattle.qcir_tokens.specs.Tokens.{
   Token,
@@ -382,7 +382,7 @@ gate_law (junction_gate j g (l ∷ ls)) w k =
 gate_law (xor_gate g l r) w k =
     ap (λ z. (write_tokens z (inputs_tokens l (r ∷ []))).draft) (definition_token w xor_role g.number xor_defines)
     ∙ joined_law xor_role 6 g l (r ∷ []) w k xor_defines refl xor_table
-gate_law (quantified_gate_lem q g x xs l) w k =
+gate_law (quantifier_gate q g x xs l) w k =
     let c = quantifier_kind q in
     ap (λ z. (write_tokens z (list_tokens bound_role bound_role x xs ++ inputs_tokens l [])).draft) (definition_token w (quantifier_role q) g.number c.0)
     ∙ quantified_law q g x xs l w k

@@ -18,7 +18,7 @@ use Rattle.formula.specs.Form.{kind_of}
 use Rattle.formula.proofs.Nodes.{words_plain, block_kind_of}
 use Rattle.acceptance.specs.Limits.{limit}
 use Rattle.acceptance.specs.Verdict.{too_many_variables}
-use Rattle.qcir.specs.File.{Name, Literal, Junction, Gate, junction_gate, xor_gate, quantified_gate_lem, gate_name, Line, line_variables, File, numbers_of}
+use Rattle.qcir.specs.File.{Name, Literal, Junction, Gate, junction_gate, xor_gate, quantifier_gate, gate_name, Line, line_variables, File, numbers_of}
 use Rattle.qcir.specs.Table.{Draft, Stored, store, store_name, store_literal, store_inputs, store_block, junction_table, empty_value, store_gate, store_gates, store_prefix, empty_draft, store_matrix, store_file, table_words, table_list}
 use Rattle.qcir_tokens.specs.Tokens.{Token, token, line_role, later_role, output_role, junction_role, xor_role, quantifier_role, bound_role, input_role, empty_role, is_outer, is_free, is_definition, is_bound, is_input, is_minus, list_tokens, free_tokens, prefix_tokens, output_token, inputs_tokens, any_inputs_tokens, gate_tokens, gates_tokens, file_tokens, definition_from}
 use Rattle.qcir_tokens.specs.Held.{Definitions}
@@ -265,7 +265,7 @@ module _ (gates : List ℕ) (gate : ℕ → ℕ) where
       (all_inputs (junction_table j) l ls (suc i) (line_begun i s) d m refl refl known)
   gate_counts (xor_gate x l r) i s d m known =
       after_definition xor_role x (inputs_tokens l (r ∷ [])) i s _ xor_defines (all_inputs 6 l (r ∷ []) (suc i) (line_begun i s) d m refl refl known)
-  gate_counts (quantified_gate_lem q x y ys l) i s d m known =
+  gate_counts (quantifier_gate q x y ys l) i s d m known =
       after_definition (quantifier_role q) x (list_tokens bound_role bound_role y ys ++ inputs_tokens l []) i s _ (quantifier_defines q)
       (quantified_counts q y ys l i s d m known)
 

@@ -7,11 +7,11 @@ use Prim.Native.Nat.{ℕ}
 use lib.Dec.{leb}
 use borrow.Author.Tests.{eqb-true, leb-true}
 use Rattle.lists.specs.Choice.{pick_yes, pick_no, Is, is_true, is_false, look, clash, and_left, and_right}
-use Rattle.qcir.specs.File.{Gate, junction_gate, xor_gate, quantified_gate_lem, File}
+use Rattle.qcir.specs.File.{Gate, junction_gate, xor_gate, quantifier_gate, File}
 use Rattle.qcir.specs.Spelling.{Sign, word, name, newline, header, closing, comma, semicolon, names_signs, literal_signs, any_inputs_signs, output_signs, gate_signs, gates_signs, free_signs, prefix_signs, file_signs, is_space, is_count}
 use Rattle.qcir.specs.Unbounded.{names_up_to}
 use Rattle.texts.specs.Numerals.{digits}
-use Rattle.qcir.specs.Positions.{SpelledUnplaced, end, space, a_word, a_name, line_end_lem, blank_line, SpellsUnplaced}
+use Rattle.qcir.specs.Positions.{SpelledUnplaced, end, space, a_word, a_name, at_line_end, blank_line, SpellsUnplaced}
 use Rattle.texts.proofs.Numerals.{digits_numeral, digits_value}
 use Rattle.qcir.proofs.Positions.{spells_says}
 use Rattle.qcir_text.specs.Text.{is_byte, word_text, sign_text, signs_text, file_text}
@@ -34,7 +34,7 @@ unfolding gate_signs
 gate_ends (junction_gate j g ls) = before _ (before _ (before _ (before _ (closing_ends (any_inputs_signs ls)))))
 gate_ends (xor_gate g l r) =
     before _ (before _ (before _ (before _ (ends_append (literal_signs l) _ (before (word comma) (closing_ends (literal_signs r)))))))
-gate_ends (quantified_gate_lem q g x xs l) =
+gate_ends (quantifier_gate q g x xs l) =
     before _ (before _ (before _ (before _ (ends_append (names_signs x xs) _ (before (word semicolon) (closing_ends (literal_signs l)))))))
 
 gates_end : (ss : List Sign) (gs : List Gate) → Ends ss → Ends (ss ++ gates_signs gs)
@@ -70,7 +70,7 @@ spelled_word most w ss t d = go (look (is_byte 44 w)) (look (is_byte 61 w))
 spelled_signs : (most : ℕ) (ss : List Sign) → Ends ss → names_from_one ss ≡ true → names_up_to most ss ≡ true
     → SpelledUnplaced most ss (signs_text ss ++ (10 ∷ []))
 unfolding signs_text sign_text names_from_one names_up_to
-spelled_signs most (newline ∷ []) last f u = blank_line (line_end_lem end)
+spelled_signs most (newline ∷ []) last f u = blank_line (at_line_end end)
 spelled_signs most (word w ∷ ss) (before _ e) f u =
     rw (append_assoc (word_text w) (signs_text ss) (10 ∷ [])) (spelled_word most w ss _ (spelled_signs most ss e f u))
 spelled_signs most (name x ∷ ss) (before _ e) f u =
@@ -78,7 +78,7 @@ spelled_signs most (name x ∷ ss) (before _ e) f u =
     (a_name x (digits x.number) (digits_numeral x.number (leb-true 1 x.number (and_left _ _ f))) (digits_value x.number)
     (leb-true x.number most (and_left _ _ u))
     (spelled_signs most ss e (and_right (leb 1 x.number) _ f) (and_right (leb x.number most) _ u)))
-spelled_signs most (newline ∷ ss) (before _ e) f u = line_end_lem (spelled_signs most ss e f u)
+spelled_signs most (newline ∷ ss) (before _ e) f u = at_line_end (spelled_signs most ss e f u)
 
 spelled_file : (most : ℕ) (f : File) → names_from_one (file_signs f) ≡ true → names_up_to most (file_signs f) ≡ true → SpellsUnplaced most (file_text f) f
 unfolding file_text is_count names_from_one names_up_to

@@ -5,7 +5,7 @@ use mathlib.Core.Bool.{Bool, true, false}
 use mathlib.Core.List.{List, [], ◌∷◌, ◌++◌, append_assoc}
 use Prim.Native.Nat.{ℕ, zero, suc}
 use Rattle.formula.specs.Node.{Quantifier, exists, for_all}
-use Rattle.qcir.specs.File.{Name, Literal, conjunction, disjunction, Gate, junction_gate, xor_gate, quantified_gate_lem, Line, File}
+use Rattle.qcir.specs.File.{Name, Literal, conjunction, disjunction, Gate, junction_gate, xor_gate, quantifier_gate, Line, File}
 use Rattle.qcir_tokens.specs.Tokens.{Token, token, free_role, line_role, later_role, output_role, junction_role, quantifier_role, bound_role, input_role, list_tokens, free_tokens, prefix_tokens, output_token, inputs_tokens, any_inputs_tokens, gate_tokens, gates_tokens, file_tokens}
 use Rattle.qcir_tokens.specs.Held.{HoldsFile}
 
@@ -61,7 +61,7 @@ unfoldable with_inputs : List Literal → Draft → Draft
 with_inputs ls d = record { file = d.file; names = d.names; inputs = ls }
 
 unfoldable quantified_gate : Quantifier → Name → Draft → Gate
-quantified_gate q g d = quantified_gate_lem q g (first_name d.names) (other_names d.names) (first_input d.inputs)
+quantified_gate q g d = quantifier_gate q g (first_name d.names) (other_names d.names) (first_input d.inputs)
 
 -- what a token adds, by its role
 unfoldable additions : List (Name → Draft → Draft)
@@ -153,8 +153,8 @@ unfolding draft gate_tokens token additions addition_at change with_names with_i
 gate_file (junction_gate conjunction g ls) ts = ap (λ d. (addition_at additions 13 g d).file) (any_draft g ls ts)
 gate_file (junction_gate disjunction g ls) ts = ap (λ d. (addition_at additions 14 g d).file) (any_draft g ls ts)
 gate_file (xor_gate g l r) ts = ap (λ d. (addition_at additions 15 g d).file) (inputs_draft l (r ∷ []) ts)
-gate_file (quantified_gate_lem exists g x xs l) ts = ap (λ d. (addition_at additions 16 g d).file) (quantified_draft x xs l ts)
-gate_file (quantified_gate_lem for_all g x xs l) ts = ap (λ d. (addition_at additions 17 g d).file) (quantified_draft x xs l ts)
+gate_file (quantifier_gate exists g x xs l) ts = ap (λ d. (addition_at additions 16 g d).file) (quantified_draft x xs l ts)
+gate_file (quantifier_gate for_all g x xs l) ts = ap (λ d. (addition_at additions 17 g d).file) (quantified_draft x xs l ts)
 
 gates_file : (gs : List Gate) → (draft (gates_tokens gs)).file ≡ record { free = []; prefix = []; output = empty.file.output; gates = gs }
 unfolding draft gates_tokens with_gate empty

@@ -5,7 +5,7 @@ use mathlib.Core.List.{List, [], ◌∷◌, ◌++◌}
 use mathlib.Core.Path.{◌≡◌, refl}
 use Prim.Native.Nat.{ℕ}
 use Rattle.formula.specs.Node.{Quantifier, exists, for_all}
-use Rattle.qcir.specs.File.{Name, Literal, Junction, conjunction, disjunction, Gate, junction_gate, xor_gate, quantified_gate_lem, gate_name, Line, File}
+use Rattle.qcir.specs.File.{Name, Literal, Junction, conjunction, disjunction, Gate, junction_gate, xor_gate, quantifier_gate, gate_name, Line, File}
 use Rattle.qcir_tokens.specs.Tokens.{Token, token, free_role, line_role, later_role, output_role, junction_role, xor_role, quantifier_role, bound_role, input_role, is_definition, is_minus, list_tokens, free_tokens, prefix_tokens, inputs_tokens, any_inputs_tokens, gate_tokens}
 
 -- What holds of each number of a kind of role holds of the role.
@@ -154,7 +154,7 @@ gate_tokens_lem (junction_gate j g ls) =
     record { role = junction_role j; others = any_inputs_tokens g ls; defines = junction_defines j; quiet = any_no_definition g ls; are = refl }
 gate_tokens_lem (xor_gate g l r) =
     record { role = xor_role; others = inputs_tokens l (r ∷ []); defines = xor_defines; quiet = inputs_no_definition l (r ∷ []); are = refl }
-gate_tokens_lem (quantified_gate_lem q g x xs l) =
+gate_tokens_lem (quantifier_gate q g x xs l) =
     record {
       role = quantifier_role q;
       others = list_tokens bound_role bound_role x xs ++ inputs_tokens l [];

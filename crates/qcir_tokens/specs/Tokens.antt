@@ -3,7 +3,7 @@
 use Rattle.std.specs.Prelude.{Bool, true, false, ◌&&◌, ◌||◌, List, [], ◌∷◌, ◌++◌, ℕ, suc, eqb, leb}
 use Rattle.lists.specs.Choice.{pick}
 use Rattle.formula.specs.Node.{Quantifier, exists, for_all}
-use Rattle.qcir.specs.File.{Name, Literal, Junction, conjunction, disjunction, Gate, junction_gate, xor_gate, quantified_gate_lem, Line, File}
+use Rattle.qcir.specs.File.{Name, Literal, Junction, conjunction, disjunction, Gate, junction_gate, xor_gate, quantifier_gate, Line, File}
 
 pub record Token : Type 0 where
   pub role : ℕ
@@ -123,7 +123,7 @@ any_inputs_tokens g (l ∷ ls) = inputs_tokens l ls
 unfoldable pub gate_tokens : Gate → List Token
 gate_tokens (junction_gate j g ls) = token (junction_role j) g ∷ any_inputs_tokens g ls
 gate_tokens (xor_gate g l r) = token xor_role g ∷ inputs_tokens l (r ∷ [])
-gate_tokens (quantified_gate_lem q g x xs l) = token (quantifier_role q) g ∷ (list_tokens bound_role bound_role x xs ++ inputs_tokens l [])
+gate_tokens (quantifier_gate q g x xs l) = token (quantifier_role q) g ∷ (list_tokens bound_role bound_role x xs ++ inputs_tokens l [])
 
 unfoldable pub gates_tokens : List Gate → List Token
 gates_tokens [] = []

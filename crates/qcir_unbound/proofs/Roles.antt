@@ -7,7 +7,7 @@ use Prim.Native.Nat.{ℕ, suc, ◌+◌}
 use native.Mathlib.Omega.{arith}
 use lib.ListN.{length}
 use Rattle.formula.specs.Node.{Quantifier, exists, for_all}
-use Rattle.qcir.specs.File.{Name, Literal, conjunction, disjunction, Gate, junction_gate, xor_gate, quantified_gate_lem, gate_name, gate_variables, gate_inputs, Line, numbers_of, prefix_variables, line_variables}
+use Rattle.qcir.specs.File.{Name, Literal, conjunction, disjunction, Gate, junction_gate, xor_gate, quantifier_gate, gate_name, gate_variables, gate_inputs, Line, numbers_of, prefix_variables, line_variables}
 use Rattle.qcir_tokens.specs.Tokens.{Token, token, free_role, line_role, later_role, output_role, junction_role, xor_role, quantifier_role, bound_role, input_role, empty_role, is_outer, is_output, is_definition, is_bound, is_input, is_use, is_last, list_tokens, free_tokens, prefix_tokens, inputs_tokens, any_inputs_tokens, gate_tokens}
 use Rattle.qcir_unbound.specs.Steps.{Tokens, is_end, is_above}
 
@@ -23,15 +23,15 @@ pub record Tests (r : ℕ) (uses outer end above definition bound : Bool) : Type
 unfoldable pub definition_role : Gate → ℕ
 definition_role (junction_gate j g ls) = junction_role j
 definition_role (xor_gate g l r) = xor_role
-definition_role (quantified_gate_lem q g x xs l) = quantifier_role q
+definition_role (quantifier_gate q g x xs l) = quantifier_role q
 
 pub definition_tests : (g : Gate) → Tests (definition_role g) false false false false true false
 unfolding definition_role junction_role quantifier_role is_use is_input is_output is_outer is_bound is_end is_last is_above is_definition
 definition_tests (junction_gate conjunction g ls) = record { use_is = refl; outer_is = refl; end_is = refl; above_is = refl; definition_is = refl; bound_is = refl }
 definition_tests (junction_gate disjunction g ls) = record { use_is = refl; outer_is = refl; end_is = refl; above_is = refl; definition_is = refl; bound_is = refl }
 definition_tests (xor_gate g l r) = record { use_is = refl; outer_is = refl; end_is = refl; above_is = refl; definition_is = refl; bound_is = refl }
-definition_tests (quantified_gate_lem exists g x xs l) = record { use_is = refl; outer_is = refl; end_is = refl; above_is = refl; definition_is = refl; bound_is = refl }
-definition_tests (quantified_gate_lem for_all g x xs l) = record { use_is = refl; outer_is = refl; end_is = refl; above_is = refl; definition_is = refl; bound_is = refl }
+definition_tests (quantifier_gate exists g x xs l) = record { use_is = refl; outer_is = refl; end_is = refl; above_is = refl; definition_is = refl; bound_is = refl }
+definition_tests (quantifier_gate for_all g x xs l) = record { use_is = refl; outer_is = refl; end_is = refl; above_is = refl; definition_is = refl; bound_is = refl }
 
 bound_tests : (last : Bool) → Tests (bound_role last) false false false false false true
 unfolding bound_role is_use is_input is_output is_outer is_bound is_end is_last is_above is_definition
@@ -146,7 +146,7 @@ pub gate_line : (g : Gate) → gate_tokens g ≡ token (definition_role g) (gate
 unfolding gate_tokens definition_role gate_name gate_variables gate_inputs bound_tokens any_inputs_tokens
 gate_line (junction_gate j g ls) = refl
 gate_line (xor_gate g l r) = refl
-gate_line (quantified_gate_lem q g x xs l) = refl
+gate_line (quantifier_gate q g x xs l) = refl
 
 -- The numbers of tokens.
 unfoldable pub token_numbers : List Token → List ℕ

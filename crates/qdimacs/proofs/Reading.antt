@@ -12,7 +12,7 @@ use Rattle.lists.specs.Choice.{pick, pick_yes, pick_no, and_left, and_right, or_
 use Rattle.lists.specs.Members.{mem, all}
 use Rattle.texts.specs.Numerals.{is_space}
 use Rattle.qdimacs.specs.Problem.{Problem}
-use Rattle.qdimacs.specs.Spelling.{Word, problem_lines, is_gap, is_word, starts_with_gap, Spelled, end, space, a_word, line_end_lem, Says, comment_line, problem}
+use Rattle.qdimacs.specs.Spelling.{Word, problem_lines, is_gap, is_word, starts_with_gap, Spelled, end, space, a_word, at_line_end, Says, comment_line, problem}
 
 -- A word of one byte before the words of the first line,
 unfoldable new_word : ℕ → List (List Word) → List (List Word)
@@ -68,7 +68,7 @@ spelled_lines end = refl
 spelled_lines (space {b} h d) =
     pick_no _ _ _ (space_other b 10 h (λ e. omega arith) (λ e. omega arith)) ∙ pick_yes _ _ _ h ∙ spelled_lines d
 spelled_lines (a_word w {ws} {ls} {t} h g d) = begins_with_word ws ls t g (spelled_lines d) w h
-spelled_lines (line_end_lem d) = pick_yes _ _ _ refl ∙ ap (λ ls. [] ∷ ls) (spelled_lines d)
+spelled_lines (at_line_end d) = pick_yes _ _ _ refl ∙ ap (λ ls. [] ∷ ls) (spelled_lines d)
 
 -- A text after its comment lines, or from within a comment line.
 unfoldable after_comments : List ℕ → Bool → List ℕ
@@ -94,7 +94,7 @@ no_comment n end = refl
 no_comment n (space {b} h d) = pick_no _ _ _ (space_other b 99 h (λ e. omega arith) (λ e. omega arith))
 no_comment n (a_word [] h g d) = clash h refl
 no_comment n (a_word (b ∷ bs) h g d) = pick_no _ _ _ n
-no_comment n (line_end_lem d) = pick_no _ _ _ refl
+no_comment n (at_line_end d) = pick_no _ _ _ refl
 
 -- The lines of a problem that a text says are the text's after its comment lines,
 lines_said : {t : List ℕ} {p : Problem} → Says t p → lines_of (after_comments t false) ≡ problem_lines p

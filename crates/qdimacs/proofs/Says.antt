@@ -15,7 +15,7 @@ use Rattle.texts.specs.Numerals.{is_space, is_digit, digits}
 use Rattle.texts.proofs.Numerals.{every_digit}
 use Rattle.texts.proofs.Lengths.{some_digit}
 use Rattle.qdimacs.specs.Problem.{Literal, Clause, Problem, every}
-use Rattle.qdimacs.specs.Spelling.{Word, zero_word, quantifier_word, literal_word, block_line, clause_line, problem_lines, is_gap, is_word, starts_with_gap, Spelled, end, space, a_word, line_end_lem, problem}
+use Rattle.qdimacs.specs.Spelling.{Word, zero_word, quantifier_word, literal_word, block_line, clause_line, problem_lines, is_gap, is_word, starts_with_gap, Spelled, end, space, a_word, at_line_end, problem}
 use Rattle.qdimacs.specs.Text.{line_text, problem_text}
 use Rattle.qdimacs.specs.Laws.{TextSays}
 
@@ -91,8 +91,8 @@ problem_words p =
 -- The text of a line of words spells it, whatever follows,
 line_spelled : (ws : List Word) {ls : List (List Word)} {t : List ℕ} → are_words ws ≡ true → Spelled ls t → Spelled (ws ∷ ls) (line_text ws ++ t)
 unfolding line_text every starts_with_gap is_gap is_space
-line_spelled [] h d = line_end_lem d
-line_spelled (w ∷ []) {t = t} h d = rw (append_assoc w (10 ∷ []) t) (a_word w (and_left _ _ h) refl (line_end_lem d))
+line_spelled [] h d = at_line_end d
+line_spelled (w ∷ []) {t = t} h d = rw (append_assoc w (10 ∷ []) t) (a_word w (and_left _ _ h) refl (at_line_end d))
 line_spelled (w ∷ u ∷ ws) {t = t} h d =
     rw (append_assoc w (32 ∷ line_text (u ∷ ws)) t) (a_word w (and_left _ _ h) refl (space refl (line_spelled (u ∷ ws) (and_right (is_word w) _ h) d)))
 

@@ -65,7 +65,7 @@ pub data Spelled : List (List Word) → List ℕ → Type 0 where
   space : {b : ℕ} {ls : List (List Word)} {t : List ℕ} → is_space b ≡ true → Spelled ls t → Spelled ls (b ∷ t)
   a_word : (w : Word) {ws : List Word} {ls : List (List Word)} {t : List ℕ} → is_word w ≡ true → starts_with_gap t ≡ true
       → Spelled (ws ∷ ls) t → Spelled ((w ∷ ws) ∷ ls) (w ++ t)
-  line_end_lem : {ls : List (List Word)} {t : List ℕ} → Spelled ls t → Spelled ([] ∷ ls) (10 ∷ t)
+  at_line_end : {ls : List (List Word)} {t : List ℕ} → Spelled ls t → Spelled ([] ∷ ls) (10 ∷ t)
 
 -- The variables of a block or a clause: at least one, from 1 up.
 unfoldable pub is_variables : List ℕ → Bool

@@ -50,7 +50,7 @@ loop-again c =
     let r = rw e at v.invariant in
     let f : Fits a.roles.now a.numbers.now a.start a.outer a.words.now a.list.now = record { words_fit = s.requires.1.0.0; few_words = s.requires.1.0.1; list_fits = s.requires.1.1.0; few_entries = s.requires.1.1.1 } in
     let w = c.before.before.before.before.before.write-outer in
-    reached_outer _ _ _ _ _ _ _ _ _ _ _ r s.requires.0.1 f _ _ _ _ w.ensures.0 w.ensures.1 c.line_end_lem.ensures w.auto.0 w.auto.1.0
+    reached_outer _ _ _ _ _ _ _ _ _ _ _ r s.requires.0.1 f _ _ _ _ w.ensures.0 w.ensures.1 c.at_line_end.ensures w.auto.0 w.auto.1.0
 
 same_length : tie.Need-same-length invariant-loop decreases-loop
 same_length c = c.before.loop.invariant.words_kept
