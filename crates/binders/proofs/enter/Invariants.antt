@@ -1,14 +1,11 @@
 -- `binders::enter` meets its contract. The loop's invariant: the scope's entries from the block's kth on are chained, and there are as many heads. The measure is k.
 -- Assumes nothing.
-use mathlib.Core.Path.{◌≡◌, refl, sym, ◌∙◌}
-use Prim.Native.Nat.{◌+◌, ◌-◌, ◌≤◌, ◌<◌}
-use native.Mathlib.Omega.{arith}
+use mathlib.Core.Path.{◌≡◌}
+use Prim.Native.Nat.{◌+◌, ◌≤◌}
 use lib.ListN.{length}
-use borrow.Author.Rules.{rules}
 use Rattle.formula.specs.Words.{table_of}
 use Rattle.binders.specs.Scope.{Open}
-use Rattle.binders.proofs.Tables.{node_within}
-use Rattle.binders.proofs.Blocks.{BlockAt, block_at, counted, entry_lt, range_lt, entry_head, entry_put, enter_start, enter_end}
+use Rattle.binders.proofs.Blocks.{BlockAt}
 use Rattle.binders.proofs.enter.Given as goal
 
 abbrev pub invariant-loop-k : goal.invariant-loop-k

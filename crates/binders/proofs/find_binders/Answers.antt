@@ -1,7 +1,6 @@
 -- `binders::find_binders` meets its contract: it walks with empty chains, of which each number has one.
 -- Assumes nothing.
 use native.Mathlib.Omega.{arith}
-use borrow.Author.Rules.{rules}
 use Rattle.formula.specs.Words.{table_of}
 use Rattle.acceptance.proofs.Accepted.{accepted_holds}
 use Rattle.prenex_form.proofs.Limits.{highest_limit}

@@ -1,15 +1,11 @@
 -- `binders::leave` meets its contract. The loop's invariant: the scope's entries from the block's kth on are chained, and there are as many heads. The measure is what is left of the block.
 -- Assumes nothing.
-use mathlib.Core.Path.{◌≡◌, refl, sym, ◌∙◌}
-use Prim.Native.Nat.{◌+◌, ◌-◌, ◌≤◌, ◌<◌}
-use native.Mathlib.Omega.{arith}
-use lib.ListN.{length, length-set}
-use borrow.Author.Rules.{rules}
+use mathlib.Core.Path.{◌≡◌}
+use Prim.Native.Nat.{◌+◌, ◌-◌, ◌≤◌}
+use lib.ListN.{length}
 use Rattle.formula.specs.Words.{table_of}
-use Rattle.acceptance.specs.Limits.{limit}
 use Rattle.binders.specs.Scope.{Open}
-use Rattle.binders.proofs.Tables.{node_within}
-use Rattle.binders.proofs.Blocks.{BlockAt, block_at, counted, entry_lt, range_lt, entry_head, entry_taken, leave_start, leave_end}
+use Rattle.binders.proofs.Blocks.{BlockAt}
 use Rattle.binders.proofs.leave.Given as goal
 
 abbrev pub invariant-loop-k : goal.invariant-loop-k

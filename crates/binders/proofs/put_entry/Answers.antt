@@ -3,7 +3,6 @@
 use mathlib.Core.Path.{ap}
 use native.Mathlib.Numerals.{add-one}
 use lib.ListN.{get_or, set}
-use borrow.Author.Rules.{rules}
 use Rattle.binders.proofs.put_entry.Goals as goal
 
 pub returns : goal.returns

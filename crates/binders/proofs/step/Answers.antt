@@ -5,7 +5,6 @@ use mathlib.Core.Bool.{true}
 use Prim.Native.Nat.{ℕ, suc, ◌*◌, ◌-◌, ◌≤◌}
 use native.Mathlib.Omega.{arith}
 use lib.ListN.{get_or}
-use borrow.Author.Rules.{rules}
 use Rattle.formula.specs.Node.{is_block}
 use Rattle.formula.specs.Words.{field, table_of}
 use Rattle.formula.specs.declared.NodeWords.{NodeWords}
@@ -20,22 +19,18 @@ use Rattle.binders.proofs.step.Goals as goal
 few : (c : Start) → c.args.place.steps ≤ 4 * limit
 few c = omega (arith, c.requires.place_value, steps_few c.requires.scopes)
 
--- what the arrays have a place for
-abbrev Known : tie.Start → ℕ → Type 0
-Known s i = Indexed s.args.words.now s.args.parents.now s.args.firsts.now s.args.nexts.now s.args.starts.now i
-
 -- the block that it leaves
-left : (c : Then-place-eq0) → Known c.before c.args.place.scope
+left : (c : Then-place-eq0) → Indexed c.args.words.now c.args.parents.now c.args.firsts.now c.args.nexts.now c.args.starts.now c.args.place.scope
 left c =
     indexed c.requires.scopes _ (block_left c.requires.walking c.requires.unfinished c.if-place-eq0.true)
 
 -- the node that it comes by
-at-node : (c : Else-place-eq0) → c.args.place.link ≡ suc (c.args.place.link - 1)
-at-node c = let n = c.if-place-eq0.false in omega arith
+at_node : (link : ℕ) → (link ≡ 0 → ⊥) → link ≡ suc (link - 1)
+at_node link n = omega arith
 
-come-by : (c : Else-place-eq0) → Known c.before (c.args.place.link - 1)
+come-by : (c : Else-place-eq0) → Indexed c.args.words.now c.args.parents.now c.args.firsts.now c.args.nexts.now c.args.starts.now (c.args.place.link - 1)
 come-by c =
-    indexed c.requires.scopes _ (link_lt c.requires.walking (at-node c))
+    indexed c.requires.scopes _ (link_lt c.requires.walking (at_node c.args.place.link c.if-place-eq0.false))
 
 -- it is a variable node
 variable_here : (c : Then-node-eq-VARIABLE) → field c.args.words.now (c.args.place.link - 1) 0 ≡ 2
@@ -45,7 +40,7 @@ variable_here c = sym (ap (λ (w : NodeWords). w.kind) c.node_at-node.ensures) �
 block_here : (c : Else-node-eq-VARIABLE) → is_block ((table_of c.args.words.now c.args.list.now).node (c.args.place.link - 1)) ≡ true
 unfolding table_of
 block_here c =
-    kind_block _ _ _ (λ k. c.if-node-eq-VARIABLE.false (ap (λ (w : NodeWords). w.kind) c.node_at-node.ensures ∙ k)) (link-is_member c.requires.walking (at-node c.before.before.before.before))
+    kind_block _ _ _ (λ k. c.if-node-eq-VARIABLE.false (ap (λ (w : NodeWords). w.kind) c.node_at-node.ensures ∙ k)) (link-is_member c.requires.walking (at_node c.args.place.link c.if-place-eq0.false))
 
 pub bounds-starts-block : goal.bounds-starts-block
 bounds-starts-block c = omega (arith, left (goal.at.bounds-starts-block c).Then-place-eq0)
@@ -87,7 +82,7 @@ node_at-node-requires c = (come-by (goal.at.node_at-node-requires c).Else-place-
 
 pub bounds-heads-node : goal.bounds-heads-node
 bounds-heads-node c =
-    let h = variable_head _ _ _ _ _ c.requires.scopes.accepts (come-by (goal.at.bounds-heads-node c).Else-place-eq0).below (variable_here (goal.at.bounds-heads-node c).Then-node-eq-VARIABLE) (link_open c.requires.walking (at-node (goal.at.bounds-heads-node c).Else-place-eq0)) in
+    let h = variable_head _ _ _ _ _ c.requires.scopes.accepts (come-by (goal.at.bounds-heads-node c).Else-place-eq0).below (variable_here (goal.at.bounds-heads-node c).Then-node-eq-VARIABLE) (link_open c.requires.walking (at_node c.args.place.link c.if-place-eq0.false)) in
     omega (arith, ap (λ (w : NodeWords). w.a) c.node_at-node.ensures)
 
 pub bounds-bindings-i : goal.bounds-bindings-i
@@ -101,7 +96,7 @@ overflow_add-result-then-node-eq-VARIABLE c = omega (arith, few (goal.at.overflo
 
 pub returns-then-node-eq-VARIABLE : goal.returns-then-node-eq-VARIABLE
 returns-then-node-eq-VARIABLE c =
-    let o = link_open c.requires.walking (at-node (goal.at.returns-then-node-eq-VARIABLE c).Else-place-eq0) in let w = passes c.requires.scopes c.requires.walking _ (at-node (goal.at.returns-then-node-eq-VARIABLE c).Else-place-eq0) _ (variable_here (goal.at.returns-then-node-eq-VARIABLE c).Then-node-eq-VARIABLE)
+    let o = link_open c.requires.walking (at_node c.args.place.link c.if-place-eq0.false) in let w = passes c.requires.scopes c.requires.walking _ (at_node c.args.place.link c.if-place-eq0.false) _ (variable_here (goal.at.returns-then-node-eq-VARIABLE c).Then-node-eq-VARIABLE)
     (λ x v.
     ap (λ n. get_or c.args.heads.now n 0) (ap (λ (w : NodeWords). w.a) c.node_at-node.ensures)
     ∙ head_binds _ _ _ _ _ c.requires.scopes.accepts (come-by (goal.at.returns-then-node-eq-VARIABLE c).Else-place-eq0).below (variable_here (goal.at.returns-then-node-eq-VARIABLE c).Then-node-eq-VARIABLE) o x v)
@@ -121,7 +116,7 @@ enter-put-requires c =
       list_value = c.requires.scopes.accepts;
       i_bound = (k, b);
       start_value = start_at c.requires.scopes _ k b;
-      fact = link_open c.requires.walking (at-node (goal.at.enter-put-requires c).Else-place-eq0);
+      fact = link_open c.requires.walking (at_node c.args.place.link c.if-place-eq0.false);
     }
 
 pub bounds-firsts-i : goal.bounds-firsts-i
@@ -134,4 +129,4 @@ pub overflow_add-result-3 : goal.overflow_add-result-3
 overflow_add-result-3 c = omega (arith, few (goal.at.overflow_add-result-3 c).Start, c.enter-put.ensures.value, count_few c.requires.scopes _ (come-by (goal.at.overflow_add-result-3 c).Else-place-eq0).below)
 
 pub returns : goal.returns
-returns c = let p = c.enter-put.ensures in let w = enters c.requires.scopes c.requires.walking _ (at-node (goal.at.returns c).Else-place-eq0) _ (block_here (goal.at.returns c).Else-node-eq-VARIABLE) refl refl refl p.value p.fact_2 in record { walking_2 = w.0; result_value = w.1.0; steps_lt_steps = w.1.1 }
+returns c = let p = c.enter-put.ensures in let w = enters c.requires.scopes c.requires.walking _ (at_node c.args.place.link c.if-place-eq0.false) _ (block_here (goal.at.returns c).Else-node-eq-VARIABLE) refl refl refl p.value p.fact_2 in record { walking_2 = w.0; result_value = w.1.0; steps_lt_steps = w.1.1 }

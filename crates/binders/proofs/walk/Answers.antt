@@ -2,14 +2,12 @@
 -- whole walk. The measure is the steps left.
 -- Assumes nothing.
 use mathlib.Core.Path.{◌≡◌, refl, sym, ◌∙◌}
-use mathlib.Core.Logic.{inl, inr, ⊎_elim}
-use Prim.Native.Nat.{ℕ, ◌+◌, ◌<◌}
+use mathlib.Core.Logic.{inl, inr}
+use Prim.Native.Nat.{ℕ, ◌<◌}
 use native.Mathlib.Omega.{arith}
-use lib.ListN.{length}
-use borrow.Author.Tests.{ltb-true, ltb-false}
-use Rattle.formula.specs.Words.{table_of}
-use Rattle.binders.specs.Walk.{Walking, steps_left, walk_steps}
+use Rattle.binders.specs.Walk.{Unfinished}
 use Rattle.binders.proofs.Walked.{nodes_few, begun, begun_steps, ended, ended_steps, steps_linear}
+use Rattle.binders.proofs.walk.Goals.{then-place-ne0, else-place-ne0+then-place-size}
 use Rattle.binders.proofs.walk.Goals as goal
 
 pub offset_bounds-firsts-size : goal.offset_bounds-firsts-size
@@ -27,7 +25,7 @@ goes_on link n = omega arith
 
 pub step-place-requires : goal.step-place-requires
 step-place-requires c =
-    let go = ⊎_elim (λ a. inr (goes_on _ a.true)) (λ b. inl (ltb-true _ _ b.2.true)) c.if-place-ne0.branch in record {
+    let go : Unfinished c.args.words.now c.args.list.now c.loop-place.place = elim c.if-place-ne0.branch [ then-place-ne0 w ↦ inr (goes_on _ w.if-place-ne0.true) | else-place-ne0+then-place-size w ↦ inl (omega (arith, w.if-place-size.true)) ] in record {
       scopes = c.requires.scopes;
       walking = c.loop-place.invariant.0;
       unfinished = go;
@@ -56,7 +54,7 @@ returns c =
     let s = c.requires.scopes in
     let v = c.loop-place.invariant in
     let z = c.if-place-ne0.false in
-    let h = ltb-false _ _ c.if-place-size.false-raw in
+    let h = c.if-place-size.false in
     let n = ended_steps s v.0 h z v.2 in record {
       bindings = ended s v.0 h z;
       steps = n;

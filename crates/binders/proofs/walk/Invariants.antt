@@ -1,15 +1,11 @@
 -- `binders::walk` meets its contract. The loop's invariant: `Walking`, as many heads, and the steps taken and those left are those of the
 -- whole walk. The measure is the steps left.
 -- Assumes nothing.
-use mathlib.Core.Path.{◌≡◌, refl, sym, ◌∙◌}
-use mathlib.Core.Logic.{inl, inr, ⊎_elim}
-use Prim.Native.Nat.{ℕ, ◌+◌, ◌<◌}
-use native.Mathlib.Omega.{arith}
+use mathlib.Core.Path.{◌≡◌}
+use Prim.Native.Nat.{◌+◌}
 use lib.ListN.{length}
-use borrow.Author.Tests.{ltb-true, ltb-false}
 use Rattle.formula.specs.Words.{table_of}
 use Rattle.binders.specs.Walk.{Walking, steps_left, walk_steps}
-use Rattle.binders.proofs.Walked.{nodes_few, begun, begun_steps, ended, ended_steps, steps_linear}
 use Rattle.binders.proofs.walk.Given as goal
 
 abbrev pub invariant-loop-place : goal.invariant-loop-place
