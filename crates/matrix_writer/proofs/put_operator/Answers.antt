@@ -1,6 +1,5 @@
 -- `matrix_writer::put_operator` meets its contract. An operator node's words are those that `put_node` writes.
 -- Assumes nothing.
-use borrow.Author.Rules.{rules}
 use Rattle.matrix_writer.proofs.Buffer.{with_one}
 use Rattle.matrix_writer.proofs.put_operator.Goals as goal
 

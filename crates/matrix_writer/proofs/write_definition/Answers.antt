@@ -1,7 +1,6 @@
 -- `matrix_writer::write_definition` meets its contract. Two nodes one after the other.
 -- Assumes nothing.
 use native.Mathlib.Omega.{arith}
-use borrow.Author.Rules.{rules}
 use Rattle.matrix_writer.proofs.Buffer.{with_two}
 use Rattle.matrix_writer.proofs.write_definition.Goals as goal
 

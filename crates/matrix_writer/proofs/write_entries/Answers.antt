@@ -1,11 +1,9 @@
 -- `matrix_writer::write_entries` meets its contract. The loop's invariant: the first k entries' nodes are written. The measure is how many are left.
 -- Assumes nothing.
 use mathlib.Core.Path.{◌≡◌}
-use Prim.Native.Nat.{◌-◌, ◌≤◌}
 use native.Mathlib.Omega.{arith}
-use lib.ListN.{length}
 use borrow.Author.Rules.{rules}
-use Rattle.matrix_writer.proofs.Entries.{Done, done_none, done_next}
+use Rattle.matrix_writer.proofs.Entries.{done_none, done_next}
 use Rattle.matrix_writer.proofs.write_entries.Goals.{Start}
 use Rattle.matrix_writer.proofs.write_entries.Goals as goal
 

@@ -2,10 +2,8 @@
 -- Assumes nothing.
 use mathlib.Core.Path.{◌≡◌}
 use Prim.Native.Nat.{◌-◌, ◌≤◌}
-use native.Mathlib.Omega.{arith}
 use lib.ListN.{length}
-use borrow.Author.Rules.{rules}
-use Rattle.matrix_writer.proofs.Entries.{Done, done_none, done_next}
+use Rattle.matrix_writer.proofs.Entries.{Done}
 use Rattle.matrix_writer.proofs.write_entries.Given as goal
 
 abbrev pub invariant-loop-k : goal.invariant-loop-k

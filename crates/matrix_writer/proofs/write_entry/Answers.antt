@@ -2,7 +2,6 @@
 -- Assumes nothing.
 use mathlib.Core.Path.{refl}
 use native.Mathlib.Omega.{arith}
-use borrow.Author.Rules.{rules}
 use Rattle.matrix_writer.proofs.Buffer.{with_three, with_four, wrote}
 use Rattle.matrix_writer.proofs.Entries.{entry_first, entry_later}
 use Rattle.matrix_writer.proofs.write_entry.Goals as goal

@@ -1,17 +1,12 @@
 -- `matrix_writer::write_further` meets its contract. The loop's invariant, `Rest`: what is left to write along the chain. The measure is how many blocks that is.
 -- Assumes nothing.
-use mathlib.Core.Path.{◌≡◌, refl}
-use Prim.Native.Nat.{suc, ◌-◌}
-use native.Mathlib.Omega.{arith}
+use Prim.Native.Nat.{suc}
 use lib.ListN.{length}
-use borrow.Author.Rules.{rules}
 use Rattle.formula.specs.Words.{table_of}
 use Rattle.prenex_form.specs.Scope.{level}
 use Rattle.arrays.specs.Chains.{blocks_from}
 use Rattle.arrays.proofs.Chains.{linked}
-use Rattle.matrix_writer.proofs.Chain.{BlockOf, next_link}
-use Rattle.matrix_writer.proofs.Blocks.{table_few}
-use Rattle.matrix_writer.proofs.Levels.{Rest, rest_all, rest_none, rest_next, rest_shorter, rest_room}
+use Rattle.matrix_writer.proofs.Levels.{Rest}
 use Rattle.matrix_writer.proofs.write_further.Given as goal
 
 abbrev pub invariant-loop-link : goal.invariant-loop-link

@@ -1,7 +1,6 @@
 -- `matrix_writer::write_guard` meets its contract. Three nodes one after the other.
 -- Assumes nothing.
 use native.Mathlib.Omega.{arith}
-use borrow.Author.Rules.{rules}
 use Rattle.matrix_writer.proofs.Buffer.{with_three}
 use Rattle.matrix_writer.proofs.write_guard.Goals as goal
 

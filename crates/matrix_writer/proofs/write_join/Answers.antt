@@ -1,6 +1,5 @@
 -- `matrix_writer::write_join` meets its contract. The kind says which operator it is.
 -- Assumes nothing.
-use borrow.Author.Rules.{rules}
 use Rattle.matrix_writer.proofs.Levels.{join_exists, join_for_all}
 use Rattle.matrix_writer.proofs.write_join.Goals as goal
 

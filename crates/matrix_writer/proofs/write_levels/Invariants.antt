@@ -1,11 +1,8 @@
 -- `matrix_writer::write_levels` meets its contract. The loop's invariant, `Levelled`: the first j levels are written. The measure is how many are left.
 -- Assumes nothing.
 use Prim.Native.Nat.{◌-◌, ◌≤◌}
-use native.Mathlib.Omega.{arith}
-use borrow.Author.Rules.{rules}
 use Rattle.formula.specs.Words.{table_of}
-use Rattle.matrix_writer.proofs.Blocks.{table_whole, kept_positive_of}
-use Rattle.matrix_writer.proofs.Levels.{Levelled, levelled_none, level_room, levelled_next, levelled_all, root_quantifier}
+use Rattle.matrix_writer.proofs.Levels.{Levelled}
 use Rattle.matrix_writer.proofs.write_levels.Given as goal
 
 abbrev pub invariant-loop-j : goal.invariant-loop-j

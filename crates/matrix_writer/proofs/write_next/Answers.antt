@@ -5,7 +5,6 @@ use mathlib.Core.List.{[], ◌∷◌}
 use Prim.Native.Nat.{◌+◌}
 use native.Mathlib.Omega.{arith}
 use lib.ListN.{length}
-use borrow.Author.Rules.{rules}
 use Rattle.formula.specs.Words.{table_of}
 use Rattle.prenex_form.specs.Matrix.{constraint, further}
 use Rattle.matrix_writer.proofs.Levels.{length_further_one, wrote_further}
@@ -13,8 +12,8 @@ use Rattle.matrix_writer.proofs.write_next.Goals.{Start}
 use Rattle.matrix_writer.proofs.write_next.Goals as goal
 
 -- the nodes of one more block
-longer : (s : Start) → length (further (table_of s.args.words.now s.args.list.now) (s.args.i ∷ []) s.args.at) ≡ length (constraint (table_of s.args.words.now s.args.list.now) s.args.i s.args.at) + 1
-longer s = length_further_one _ _ _
+longer : (c : Start) → length (further (table_of c.args.words.now c.args.list.now) (c.args.i ∷ []) c.args.at) ≡ length (constraint (table_of c.args.words.now c.args.list.now) c.args.i c.args.at) + 1
+longer c = length_further_one _ _ _
 
 pub write_constraint-end-requires : goal.write_constraint-end-requires
 write_constraint-end-requires c =
