@@ -6,7 +6,7 @@ use mathlib.Core.List.{List, [], ◌∷◌}
 use Prim.Native.Nat.{ℕ}
 use lib.Dec.{eqb}
 use borrow.Author.Tests.{ne_eqb, eq-eqb}
-use Rattle.lists.specs.Choice.{pick, pick_yes, pick_no}
+use Rattle.lists.specs.Choice.{pick_yes, pick_no}
 use Rattle.qdimacs.specs.Problem.{Literal, Clause}
 use Rattle.qdimacs_form.specs.Clauses.{false_at, has_value, no_operand, one_operand, two_operands, same_literal, opposite, without, once, holds_opposite, is_tautology, written_clauses}
 
