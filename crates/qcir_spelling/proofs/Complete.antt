@@ -323,7 +323,7 @@ count_run most p x ts ss (b ∷ bs) h =
     counted_at (ap (λ s. run most s bs) (pick_yes _ _ _ (and_left _ _ h))) k (padded_run most (suc p) x ts ss bs (and_right (is_space b) _ h))
 
 -- The byte that leads to the start of a line ends no token.
-read_kept : {s z : State} {c : ℕ} {w : List ℕ} → Read s c w z → is_done z.place ≡ true → z.tokens ≡ s.tokens
+read_kept : {s : State} {c : ℕ} {w : List ℕ} {z : State} → Read s c w z → is_done z.place ≡ true → z.tokens ≡ s.tokens
 unfolding move emit is_done
 read_kept {c = c} {w = w} (whole n) d =
     clash starts_24 (subst (λ k. (point k).starts ≡ false) (eqb-true _ 24 d) (word_within c w n))
@@ -335,7 +335,7 @@ unfolding move move_name
 number_kept (within_most l) = refl
 number_kept too_high = refl
 
-ended_kept : {s z : State} {c : ℕ} → Ended s c z → z.tokens ≡ s.tokens
+ended_kept : {s : State} {c : ℕ} {z : State} → Ended s c z → z.tokens ≡ s.tokens
 unfolding move
 ended_kept (line n) = refl
 ended_kept (blank e) = refl

@@ -82,9 +82,9 @@ unfolding pick
 emit_paid true ts t = omega arith
 emit_paid false ts t = simp length-append (omega arith)
 
-read_paid : {s z : State} {c : ℕ} {w : List ℕ} → Read s c w z → 2 * length s.tokens + (spare c + length w) ≤ suc s.taken → Paid z
+read_paid : {s : State} {c : ℕ} {w : List ℕ} {z : State} → Read s c w z → 2 * length s.tokens + (spare c + length w) ≤ suc s.taken → Paid z
 unfolding move emit spare_at price
-read_paid {s} {z} {c} {w} (whole n) h =
+read_paid {s = s} {c = c} {w = w} (whole n) h =
     omega (arith, word_paid c w n, emit_paid (eqb (arrow_of w (point c).words).role 0) s.tokens (token (arrow_of w (point c).words).role s.pending))
 read_paid (part e q) h = omega arith
 read_paid no_word h = omega arith
@@ -94,9 +94,9 @@ unfolding move move_name spare_at
 number_paid (within_most l) h = omega arith
 number_paid too_high h = omega arith
 
-ended_paid : {s z : State} {c : ℕ} → Ended s c z → Before s c → Paid z
+ended_paid : {s : State} {c : ℕ} {z : State} → Ended s c z → Before s c → Paid z
 unfolding move spare_at
-ended_paid {s} {z} {c} (line n) h = omega (arith, end_paid c n)
+ended_paid {c = c} (line n) h = omega (arith, end_paid c n)
 ended_paid (blank e) h = omega arith
 ended_paid no_end h = omega arith
 

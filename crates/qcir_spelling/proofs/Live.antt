@@ -217,7 +217,7 @@ finish_good most p x ts (comment c) l g = first (10 ∷ []) refl (finish_ready m
 abbrev Kept : State → Type 0
 Kept z = is_dead z.place ≡ false → Good z.place
 
-read_good : {s z : State} {c : ℕ} {w : List ℕ} → Read s c w z → Kept z
+read_good : {s : State} {c : ℕ} {w : List ℕ} {z : State} → Read s c w z → Kept z
 unfolding Good is_dead move emit
 read_good {c = c} {w = w} (whole n) d = live_word c w n
 read_good (part e h) d = (h, e)
@@ -228,7 +228,7 @@ unfolding Good is_dead move move_name
 number_good l e (within_most h) d = (l, e)
 number_good l e too_high d = clash refl d
 
-ended_good : {s z : State} {c : ℕ} → live c ≡ true → Ended s c z → Kept z
+ended_good : {s : State} {c : ℕ} {z : State} → live c ≡ true → Ended s c z → Kept z
 unfolding Good is_dead move
 ended_good {c = c} l (line n) d = live_end c n
 ended_good l (blank h) d = l

@@ -120,7 +120,7 @@ unfolding step
 turn most s b = turn_at most s s.place b
 
 -- Each takes one byte.
-read_taken : {s z : State} {c : ℕ} {w : List ℕ} → Read s c w z → z.taken ≡ suc s.taken
+read_taken : {s : State} {c : ℕ} {w : List ℕ} {z : State} → Read s c w z → z.taken ≡ suc s.taken
 unfolding move emit
 read_taken (whole n) = refl
 read_taken (part e h) = refl
@@ -131,7 +131,7 @@ unfolding move move_name
 number_taken (within_most l) = refl
 number_taken too_high = refl
 
-ended_taken : {s z : State} {c : ℕ} → Ended s c z → z.taken ≡ suc s.taken
+ended_taken : {s : State} {c : ℕ} {z : State} → Ended s c z → z.taken ≡ suc s.taken
 unfolding move
 ended_taken (line n) = refl
 ended_taken (blank h) = refl
