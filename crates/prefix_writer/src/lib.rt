@@ -39,19 +39,19 @@ pub fn write_prefix(
     definitions: &[u32],
     firsts: &[u16],
     nexts: &[u16],
-    block_count: usize,
+    blocks: usize,
     level_count: usize,
 )
     requires started { Started words.now list.now starts.now }
     requires named { Named words.now list.now names copies definitions.now }
     requires chained { Chained words.now list.now firsts.now nexts.now }
-    requires block_count_value { (block_count ≡ block_count (table_of words.now list.now)) × (level_count ≡ levels (table_of words.now list.now)) }
+    requires block_count_value { (blocks ≡ block_count (table_of words.now list.now)) × (level_count ≡ levels (table_of words.now list.now)) }
     requires list_in_bounds { length (written_prefix (table_of words.now list.now)) ≤ length prefix.old }
     requires list_in_bounds_2 { length (written_variables (table_of words.now list.now)) ≤ length variables.old }
     ensures prefix_after { prefix.new ≡ overwrite prefix.old 0 (written_prefix (table_of words.now list.now)) }
     ensures variables_after { variables.new ≡ overwrite variables.old 0 (written_variables (table_of words.now list.now)) }
 {
-    if block_count == 0 {
+    if blocks == 0 {
         return;
     }
     let mut kind = first_kind(words, list);

@@ -1,7 +1,6 @@
 -- `prefix_writer::count_at` meets its contract.
 -- Assumes nothing.
 use mathlib.Core.Path.{◌∙◌, sym, ap}
-use borrow.Author.Rules.{rules}
 use Rattle.formula.specs.Words.{is_block_kind}
 use Rattle.formula.specs.declared.NodeWords.{NodeWords}
 use Rattle.acceptance.proofs.Accepted.{count_block, count_none}

@@ -1,7 +1,6 @@
 -- `prefix_writer::leading_variables` meets its contract.
 -- Assumes nothing.
 use native.Mathlib.Omega.{arith}
-use borrow.Author.Rules.{rules}
 use Rattle.prefix_writer.proofs.Words.{has_root}
 use Rattle.prefix_writer.proofs.Names.{leading_root, leading_level}
 use Rattle.prefix_writer.proofs.leading_variables.Goals as goal
@@ -19,7 +18,11 @@ write_entries-requires c =
     }
 
 pub returns-then-j-eq0 : goal.returns-then-j-eq0
-returns-then-j-eq0 c = let w = rw (leading_root _ _ _ _ _ _ c.if-j-eq0.true) c.write_entries.ensures in record { out_after = w.0; value = w.1 }
+returns-then-j-eq0 c =
+    record {
+      out_after = rw (leading_root _ _ _ _ _ _ c.if-j-eq0.true) c.write_entries.ensures.out_after;
+      value = rw (leading_root _ _ _ _ _ _ c.if-j-eq0.true) c.write_entries.ensures.value;
+    }
 
 pub level_variables-requires : goal.level_variables-requires
 level_variables-requires c =
@@ -32,4 +35,8 @@ level_variables-requires c =
     }
 
 pub returns : goal.returns
-returns c = let w = rw (leading_level _ _ _ _ _ _ c.if-j-eq0.false) c.level_variables.ensures in record { out_after = w.0; value = w.1 }
+returns c =
+    record {
+      out_after = rw (leading_level _ _ _ _ _ _ c.if-j-eq0.false) c.level_variables.ensures.out_after;
+      value = rw (leading_level _ _ _ _ _ _ c.if-j-eq0.false) c.level_variables.ensures.value;
+    }

@@ -3,13 +3,8 @@
 -- Assumes nothing.
 use Prim.Native.Nat.{◌-◌}
 use native.Mathlib.Omega.{arith}
-use borrow.Author.Rules.{rules}
-use lib.ListN.{length}
-use Rattle.formula.specs.Words.{table_of}
-use Rattle.arrays.proofs.Chains.{linked}
-use Rattle.prefix_writer.specs.Held.{held_own}
 use Rattle.prefix_writer.proofs.Names.{node_lt}
-use Rattle.prefix_writer.proofs.Levels.{Walked, walk_start, walk_lt, walk_room, walk_tail, walk_step, walk_less, walk_end}
+use Rattle.prefix_writer.proofs.Levels.{walk_start, walk_lt, walk_room, walk_tail, walk_step, walk_less, walk_end}
 use Rattle.prefix_writer.proofs.level_variables.Goals as goal
 
 pub bounds-firsts-level : goal.bounds-firsts-level

@@ -1,15 +1,11 @@
 -- `prefix_writer::level_variables` meets its contract. The loop's invariant: what the level's blocks before the one that
 -- `link` names add is written. The measure is how many blocks are left.
 -- Assumes nothing.
-use Prim.Native.Nat.{◌-◌}
-use native.Mathlib.Omega.{arith}
-use borrow.Author.Rules.{rules}
 use lib.ListN.{length}
 use Rattle.formula.specs.Words.{table_of}
 use Rattle.arrays.proofs.Chains.{linked}
 use Rattle.prefix_writer.specs.Held.{held_own}
-use Rattle.prefix_writer.proofs.Names.{node_lt}
-use Rattle.prefix_writer.proofs.Levels.{Walked, walk_start, walk_lt, walk_room, walk_tail, walk_step, walk_less, walk_end}
+use Rattle.prefix_writer.proofs.Levels.{Walked}
 use Rattle.prefix_writer.proofs.level_variables.Given as goal
 
 abbrev pub invariant-loop-link : goal.invariant-loop-link

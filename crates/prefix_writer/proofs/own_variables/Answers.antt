@@ -1,7 +1,6 @@
 -- `prefix_writer::own_variables` meets its contract.
 -- Assumes nothing.
 use native.Mathlib.Omega.{arith}
-use borrow.Author.Rules.{rules}
 use lib.ListN.{length-set}
 use Rattle.prefix_writer.specs.Held.{held_own}
 use Rattle.prefix_writer.proofs.Writing.{write_last}

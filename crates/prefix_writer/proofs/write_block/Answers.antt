@@ -2,7 +2,6 @@
 -- Assumes nothing.
 use mathlib.Core.Path.{refl}
 use native.Mathlib.Omega.{arith}
-use borrow.Author.Rules.{rules}
 use Rattle.prefix_writer.proofs.Writing.{tail_room, tail_back}
 use Rattle.prefix_writer.proofs.write_block.Goals as goal
 

@@ -2,7 +2,6 @@
 -- Assumes nothing.
 use mathlib.Core.Path.{◌∙◌, sym}
 use native.Mathlib.Omega.{arith}
-use borrow.Author.Rules.{rules}
 use Rattle.prefix_writer.specs.Held.{held}
 use Rattle.prefix_writer.proofs.Names.{node_lt, count_le, held_length}
 use Rattle.prefix_writer.proofs.write_entries.Goals as goal

@@ -1,10 +1,8 @@
 -- `prefix_writer::write_numbers` meets its contract. The loop's invariant: what is left of the numbers goes in from k on.
 -- Assumes nothing.
-use Prim.Native.Nat.{◌≤◌, ◌-◌}
 use native.Mathlib.Omega.{arith}
 use borrow.Author.Rules.{rules}
-use Rattle.lists.specs.Parts.{numbers}
-use Rattle.prefix_writer.proofs.Writing.{Left, numbers_left, numbers_start, numbers_step, numbers_end}
+use Rattle.prefix_writer.proofs.Writing.{numbers_start, numbers_step, numbers_end}
 use Rattle.prefix_writer.proofs.write_numbers.Goals as goal
 
 pub loop-k-init : goal.loop-k-init

@@ -2,7 +2,6 @@
 -- Assumes nothing.
 use mathlib.Core.Path.{refl}
 use native.Mathlib.Omega.{arith}
-use borrow.Author.Rules.{rules}
 use Rattle.prefix_writer.proofs.Writing.{tail_room, write_two}
 use Rattle.prefix_writer.proofs.Names.{names_low, copies_low, block_is, block_room}
 use Rattle.prefix_writer.proofs.Depth.{level_fits, next_fits}
@@ -30,6 +29,11 @@ slice_bounds-level_copies-count c =
     let p = c.requires in
     omega (arith, c.leading_variables-leading.auto.out, block_room _ _ _ _ _ _ p.started p.named _ _ _ p.j_in_bounds c.leading_variables-leading.ensures.value)
 
+pub slice_bounds-level_copies-start : goal.slice_bounds-level_copies-start
+slice_bounds-level_copies-start c =
+    let p = c.requires in
+    omega (arith, c.leading_variables-leading.auto.out, block_room _ _ _ _ _ _ p.started p.named _ _ _ p.j_in_bounds c.leading_variables-leading.ensures.value)
+
 pub overflow_add-j : goal.overflow_add-j
 overflow_add-j c = let p = c.requires in omega (arith, (next_fits _ _ p.started.checked _ p.j_bound).1)
 
@@ -37,8 +41,7 @@ pub level_copies-copied-requires : goal.level_copies-copied-requires
 level_copies-copied-requires c =
     let p = c.requires in
     let m = p.named in
-    let l = c.leading_variables-leading in
-    let r = tail_room l.new.1.1.0 _ _ _ l.auto.1.1.0 (block_room _ _ _ _ _ _ p.started m _ _ _ p.j_in_bounds l.ensures.1) in record {
+    let r = tail_room c.leading_variables-leading.new.out _ _ _ c.leading_variables-leading.auto.out (block_room _ _ _ _ _ _ p.started m _ _ _ p.j_in_bounds c.leading_variables-leading.ensures.value) in record {
       started = p.started;
       chained = p.chained;
       copies_le_highest_first = copies_low _ _ _ _ _ _ p.started m;

@@ -1,7 +1,6 @@
 -- `prefix_writer::write_words` meets its contract.
 -- Assumes nothing.
 use native.Mathlib.Omega.{arith}
-use borrow.Author.Rules.{rules}
 use lib.ListN.{length-set}
 use Rattle.lists.proofs.Overwrite.{set_three}
 use Rattle.prefix_writer.proofs.write_words.Goals as goal
