@@ -133,6 +133,7 @@ ended_file f =
     (ended_gates f.gates (output_token f.output ∷ []) (ended_last (output_tests f.output.minus).end_is)))
 
 held_ended : (t : Tokens) (ks : List Token) (p i : ℕ) → Ended ks → Held t p ks → suc i ≡ p + length ks → is_end (t.role i) ≡ true
+held_ended t [] p i x3 _ l = elim x3 [ ]
 held_ended t (k ∷ []) p i (ended_last e) (held_more r n h) l =
     let q : i ≡ p = omega arith in ap (λ j. is_end (t.role j)) q ∙ ap is_end r ∙ e
 held_ended t (k ∷ ks) p i (ended_more e) (held_more r n h) l = held_ended t ks (suc p) i e h (omega arith)
