@@ -1,42 +1,44 @@
 // Text and numbers on standard output, for the programs here.
 #![tactic(auto)]
 
-use libc::STDOUT_FILENO;
+use std::io;
 
 // The columns of a line that shows a figure: a name of up to 17 bytes, a space and five digits.
 const COLUMNS: usize = 23;
 
-pub fn text(bytes: &[u8]) {
-    io::write_all(STDOUT_FILENO, bytes);
+pub fn text(rt: &impl Print, bytes: &[u8]) -> io::Result<()> {
+    rt.write_all(bytes)
 }
 
 // Text, and a number in decimal after it.
-pub fn number(before: &[u8], x: u32) {
-    text(before);
-    io::print_decimal(STDOUT_FILENO, wide(x));
+pub fn number(rt: &impl Print, before: &[u8], x: u32) -> io::Result<()> {
+    text(rt, before)?;
+    rt.print(x)
 }
 
 // A line of its own: a name, and a number whose last digit stands in the last column.
-pub fn figure(name: &[u8], x: u32) {
-    let mut digits = [0u8; 20];
-    let count = io::decimal(wide(x), &mut digits);
-    text(name);
-    gap(name.len(), count);
-    text(&digits[..count]);
-    text(b"\n");
+pub fn figure(rt: &impl Print, name: &[u8], x: u32) -> io::Result<()> {
+    text(rt, name)?;
+    gap(rt, name.len(), count_digits(x))?;
+    rt.println(x)
 }
 
 // The spaces between a name and digits of these lengths; none where they fill the line.
-fn gap(name: usize, digits: usize) {
+fn gap(rt: &impl Print, name: usize, digits: usize) -> io::Result<()> {
     let spaces = [b' '; COLUMNS];
     if name <= COLUMNS {
         if digits <= COLUMNS - name {
             let from = name + digits;
-            text(&spaces[from..]);
+            text(rt, &spaces[from..])?;
         }
     }
+    Ok(())
 }
 
-fn wide(x: u32) -> u64 {
-    x as u64
+// How many digits a number has in decimal; 0 has one.
+fn count_digits(x: u32) -> usize {
+    match x.checked_ilog10() {
+        Some(log) => log as usize + 1,
+        None => 1,
+    }
 }
