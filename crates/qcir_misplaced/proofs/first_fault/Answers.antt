@@ -1,0 +1,66 @@
+-- `qcir_misplaced::first_fault` meets its contract. The invariant: no token passed is at fault, and the pass over all tokens goes on from here.
+-- Assumes nothing.
+use mathlib.Core.Path.{sym, ◌∙◌, ap}
+use Prim.Native.Nat.{◌+◌}
+use native.Mathlib.Omega.{arith}
+use lib.ListN.{get_or}
+use Rattle.qcir_misplaced.specs.Faults.{first_of}
+use Rattle.qcir_misplaced.proofs.Turn.{line_below, From, from_start, found_here, found_later, found_none}
+use Rattle.qcir_misplaced.proofs.first_fault.Goals as goal
+
+pub loop-i-init : goal.loop-i-init
+loop-i-init c = (omega arith, omega arith, c.requires.gates_len.1, from_start c.args.gates.now c.args.roles.now c.args.numbers.now c.args.positions.now c.args.count c.args.lists.now)
+
+pub overflow_cast-x : goal.overflow_cast-x
+overflow_cast-x c = omega (arith, c.type_inv.numbers c.loop-i.i)
+
+pub offset_bounds-gates-x : goal.offset_bounds-gates-x
+offset_bounds-gates-x c = omega (arith, c.type_inv.numbers c.loop-i.i)
+
+pub bounds-gates-x : goal.bounds-gates-x
+bounds-gates-x c = omega (arith, c.type_inv.numbers c.loop-i.i)
+
+pub offset_bounds-lists-x : goal.offset_bounds-lists-x
+offset_bounds-lists-x c = omega (arith, c.type_inv.numbers c.loop-i.i)
+
+pub bounds-lists-x : goal.bounds-lists-x
+bounds-lists-x c = omega (arith, c.type_inv.numbers c.loop-i.i)
+
+pub is_fault-requires : goal.is_fault-requires
+is_fault-requires c = omega arith
+
+pub overflow_cast-result : goal.overflow_cast-result
+overflow_cast-result c = omega (arith, c.type_inv.positions c.loop-i.i)
+
+pub returns-then-is_fault : goal.returns-then-is_fault
+returns-then-is_fault c =
+    let a = c.args in
+    sym (ap first_of c.loop-i.invariant.3
+    ∙ found_here a.gates.now a.roles.now a.numbers.now a.positions.now a.count c.loop-i.lists c.loop-i.line c.loop-i.i c.loop-i-test.true
+    (sym c.is_fault.ensures ∙ c.if-is_fault.true))
+
+pub pass-line-requires : goal.pass-line-requires
+pass-line-requires c =
+    let x = c.type_inv.numbers c.loop-i.i in record {
+      x_in_bounds = omega arith;
+      line_le_token_limit = (omega arith, omega arith);
+    }
+
+pub loop-i-preserved : goal.loop-i-preserved
+loop-i-preserved c =
+    let a = c.args in
+    let r = c.pass-line.ensures.value in
+    let next =
+    found_later a.gates.now a.roles.now a.numbers.now a.positions.now a.count c.loop-i.lists c.pass-line.new.lists c.loop-i.line c.loop-i.i c.loop-i-test.true
+    (sym c.is_fault.ensures ∙ c.if-is_fault.false) c.pass-line.ensures.by_index in (
+      omega arith,
+      omega (arith, line_below (get_or a.roles.now c.loop-i.i 0) c.loop-i.line c.loop-i.i c.loop-i.invariant.1),
+      c.pass-line.auto.lists ∙ c.loop-i.invariant.2,
+      c.loop-i.invariant.3 ∙ next ∙ ap (λ l. From a.gates.now a.roles.now a.numbers.now a.positions.now a.count c.pass-line.new.lists l (c.loop-i.i + 1)) (sym r),
+    )
+
+pub returns : goal.returns
+returns c =
+    let a = c.args in
+    sym (ap first_of c.loop-i.invariant.3
+    ∙ found_none a.gates.now a.roles.now a.numbers.now a.positions.now a.count c.loop-i.lists c.loop-i.line c.loop-i.i (omega arith))
