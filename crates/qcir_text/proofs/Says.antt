@@ -70,6 +70,7 @@ spelled_word most w ss t d = go (look (is_byte 44 w)) (look (is_byte 61 w))
 spelled_signs : (most : ℕ) (ss : List Sign) → Ends ss → names_from_one ss ≡ true → names_up_to most ss ≡ true
     → SpelledUnplaced most ss (signs_text ss ++ (10 ∷ []))
 unfolding signs_text sign_text names_from_one names_up_to
+spelled_signs most [] e f u = elim e [ ]
 spelled_signs most (newline ∷ []) last f u = blank_line (at_line_end end)
 spelled_signs most (word w ∷ ss) (before _ e) f u =
     rw (append_assoc (word_text w) (signs_text ss) (10 ∷ [])) (spelled_word most w ss _ (spelled_signs most ss e f u))
