@@ -213,9 +213,9 @@ module _ (roles numbers : List ℕ) (start : Progress) where
           }
 
 -- A line's block, written as a node, with its entries counted.
-pub line_wrote : {o m : List ℕ} {p q : Progress} (role count : ℕ) (node : NodeWords) → node ≡ block_words (line_block_kind role) p.listed count p.node → Wrote o p (add_node p node) m q
-    → Wrote o p (add_line p role count) m (record { next = q.next; listed = p.listed + count; node = q.node; kind = q.kind; gate = q.gate; ready = q.ready; first = q.first })
-line_wrote {o} {m} {p} {q} role count node e w =
+pub line_wrote : {o m : List ℕ} {p q : Progress} (k count : ℕ) (node : NodeWords) → node ≡ block_words (line_block_kind k) p.listed count p.node → Wrote o p (add_node p node) m q
+    → Wrote o p (add_line p k count) m (record { next = q.next; listed = p.listed + count; node = q.node; kind = q.kind; gate = q.gate; ready = q.ready; first = q.first })
+line_wrote {o} {m} {p} {q} k count node e w =
     record {
       words_are = w.words_are ∙ ap (λ n. overwrite o (width * p.next) (word_list n)) e;
       progress_is = ap (counted_line count) w.progress_is;
