@@ -120,14 +120,14 @@ module _ (p : ℕ → Bool) where
     pass_usable s x h (outer_name m) = known x m
     pass_usable s x h (lower_gate l k) = gates x l (omega arith)
 
-    pass_gates : {s : ℕ} {gs : List Gate} → first ≤ s → Rising outer first s gs end → Pass (gates_signs gs)
+    pass_gates : {s : ℕ} {gs : List Gate} → Rising outer first s gs end → first ≤ s → Pass (gates_signs gs)
     unfolding gates_signs names_pass
-    pass_gates h no_lines_lem = refl
-    pass_gates h (a_line {s = s} {g = g} {gs = gs} n v u rest) =
+    pass_gates no_lines_lem h = refl
+    pass_gates (a_line {s = s} {g = g} {gs = gs} n v u rest) h =
         let l = rising_le rest in
         pass_append (gate_signs g) _
         (pass_gate g v (ap p n ∙ gates s h (omega arith)) (λ x m. pass_usable s x (omega arith) (u x m)))
-        (pass_gates (omega arith) rest)
+        (pass_gates rest (omega arith))
 
     pub pass_file : (f : File) → numbers_of (outer_names f) ≡ outer → Rising outer first first f.gates end
         → Usable outer first end f.output.name.number → Pass (file_signs f)
@@ -140,4 +140,4 @@ module _ (p : ℕ → Bool) where
         (pass_prefix f.prefix (λ x m. known x (ap (mem x) (sym e ∙ all) ∙ mem_right x (numbers_of f.free) _ m)))
         (pass_append (output_signs f.output) _
         (pass_output f.output (pass_usable end f.output.name.number (omega arith) output))
-        (pass_gates (omega arith) rising)))
+        (pass_gates rising (omega arith))))

@@ -7,7 +7,7 @@ use mathlib.Core.List.{List, [], ◌∷◌, ◌++◌, flat_map}
 use Prim.Native.Nat.{ℕ, zero, suc, ◌-◌, ◌≤◌, ◌<◌}
 use native.Mathlib.Omega.{arith}
 use native.Mathlib.Nat.{not-suc-le-zero}
-use lib.Dec.{ltb}
+use lib.Dec.{eqb, ltb}
 use borrow.Author.Tests.{ne_eqb, ltb-true, ltb-false}
 use Rattle.lists.specs.Choice.{pick, pick_yes, pick_no, Is, is_true, is_false, look, and_both, and_off_right}
 use Rattle.lists.specs.Members.{mem}
@@ -22,8 +22,8 @@ use Rattle.formula.specs.Tree.{Tree}
 use Rattle.formula.proofs.Quantify.{quant_cong}
 use Rattle.formula.proofs.Unfolding.{value_node}
 use Rattle.acceptance.proofs.Matrix.{MatrixNode, matrix_node}
-use Rattle.qcir.specs.File.{Literal, Gate, Line, line_variables}
-use Rattle.qcir.specs.Meaning.{Meaning, literal_value, meaning, prefix_value, file_truth}
+use Rattle.qcir.specs.File.{Literal, Gate, gate_name, Line, line_variables}
+use Rattle.qcir.specs.Meaning.{Meaning, literal_value, gate_value, meaning, prefix_value, file_truth}
 use Rattle.qcir_form.specs.Rows.{RowKind, constant_row, left_row, right_row, and_row, xor_row, row}
 use Rattle.qcir_form.specs.File.{row_operands, used_operands, written, turned, row_has_gate, has_gate, row_literal, node_literal, node_gates, is_gate, gate_number, node_literal_of, gates_of, free_names, list_lines, prefix_lines, first_gate, matrix_file, form_file}
 use Rattle.qcir_form.specs.Laws.{FileTruth}
@@ -50,7 +50,7 @@ prefix_value_lem (b ∷ bs) g v =
 meaning_append : (m : Meaning) (gs hs : List Gate) → meaning m (gs ++ hs) ≡ meaning (meaning m gs) hs
 unfolding meaning
 meaning_append m [] hs = refl
-meaning_append m (g ∷ gs) hs = meaning_append _ gs hs
+meaning_append m (g ∷ gs) hs = meaning_append (λ x v. pick (eqb x (gate_name g).number) (gate_value m g v) (m x v)) gs hs
 
 -- The name of what stands for a node is below a bound that its own gate, its name and those of its operands are below.
 
