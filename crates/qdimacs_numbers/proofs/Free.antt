@@ -1,16 +1,16 @@
 -- What the pass over the names tells of a form: which names are free in it, and its first gate.
 -- Assumes nothing.
 use mathlib.Core.Path.{◌≡◌, refl, sym, ◌∙◌, ap, subst}
-use mathlib.Core.Bool.{Bool, true, false, not, ◌&&◌}
+use mathlib.Core.Bool.{Bool, true, not, ◌&&◌}
 use mathlib.Core.List.{List, []}
 use Prim.Native.Nat.{ℕ, ◌+◌, ◌<◌, ◌≤◌, max}
 use native.Mathlib.Omega.{arith}
-use lib.Dec.{eqb, leb, ltb}
+use lib.Dec.{leb, ltb}
 use lib.ListN.{length, get_or}
 use borrow.Author.Tests.{eqb-true, eq-eqb, leb-true, ltb-true, ltb-false, lt-ltb}
 use Rattle.lists.specs.Choice.{Is, is_true, is_false, look, clash, and_left, and_right, and_both, same_test}
 use Rattle.lists.specs.Search.{lowest, some_below}
-use Rattle.lists.specs.Members.{mem, maximum}
+use Rattle.lists.specs.Members.{maximum}
 use Rattle.lists.proofs.Search.{lowest_holds, lowest_least}
 use Rattle.lists.proofs.Members.{all_mem, maximum_ge, maximum_le}
 use Rattle.lists.proofs.Parts.{highest_ge, highest_attained}
