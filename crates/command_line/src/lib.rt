@@ -2,21 +2,28 @@
 // error what is wrong.
 #![tactic(auto)]
 
-ghost use Rattle.std.specs.Prelude.{◌+◌, ◌≤◌, ◌≡◌, length, take};
-ghost use Rattle.io.specs.Counts.{IsPrefixLen};
+ghost use Rattle.std.specs.Prelude.{◌+◌, ◌≤◌, ◌≡◌, length, take, IfOk};
+ghost use Rattle.std.specs.Io.{ReadsAtMost};
+ghost use Rattle.command_line.specs.Input.{IsPrefixLen};
 ghost use Rattle.command_line.specs.Place.{line, column, next_line, next_column};
 
-use libc::{STDERR_FILENO, STDIN_FILENO};
 use refusals::{
     BUFFER_TOO_SHORT, GATE_NOT_USED_ONCE, MISPLACED_NAME, MISSPELLED, TOO_LARGE,
     TOO_MANY_VARIABLES, UNBOUND_VARIABLE,
 };
+use std::env::FillError;
+use std::io::Read;
+use std::rt::Env;
+use std::{fs, io, str};
 
 // The most bytes of a QCIR text.
 const BYTES: usize = 65536;
 
 // Room for a text and a byte more, so that a longer text is seen to be too long.
 pub const ROOM: usize = 65537;
+
+// Room for a file's name, which the system takes up to 4,095 bytes of.
+const NAME: usize = 4096;
 
 const LINE_END: u8 = b'\n';
 
@@ -35,25 +42,33 @@ struct Place {
 }
 
 // Reads the file that the program's only argument names; if that is `-` or there is none, standard
-// input. What goes wrong is said here, the program's usage among it.
-pub fn read_input(usage: &[u8], text: &mut [u8]) -> Input
-    ensures { IsPrefixLen result.length text.new }
+// input. What goes wrong is said here, the program's usage among it; an error is one of saying it.
+pub fn read_input(rt: &HostRuntime, usage: &[u8], text: &mut [u8]) -> io::Result<Input>
+    ensures { IfOk result (λ input. IsPrefixLen input.length text.new) }
 {
-    let count = os::arg_count();
-    if count < 2 {
-        return read_open(STDIN_FILENO, b"standard input", text);
+    if is_given(rt, 2) {
+        say(rt, usage)?;
+        return Ok(nothing(text));
     }
-    if 2 < count {
-        say(usage);
-        return nothing(text);
+    let mut path = [0u8; NAME];
+    match rt.arg(1, &mut path) {
+        Ok(length) => read_named(rt, &path[..length], text),
+        Err(FillError::NotPresent) => read_standard_input(rt, text),
+        Err(FillError::TooLong) => {
+            say(rt, b"the file's name: File name too long\n")?;
+            Ok(nothing(text))
+        }
     }
-    let mut path = io::buffer();
-    let length = os::arg(1, &mut path);
-    if os::errno() != 0 {
-        os::fail(b"the file's name");
-        return nothing(text);
+}
+
+// Whether the command line has an argument of this number; the program's name is 0.
+fn is_given(rt: &HostRuntime, number: usize) -> bool {
+    let mut none = [0u8; 0];
+    match rt.arg(number, &mut none) {
+        Ok(_) => true,
+        Err(FillError::NotPresent) => false,
+        Err(FillError::TooLong) => true,
     }
-    read_named(&path[..length], text)
 }
 
 fn nothing(text: &[u8]) -> Input
@@ -65,20 +80,32 @@ fn nothing(text: &[u8]) -> Input
     }
 }
 
-fn read_named(path: &[u8], text: &mut [u8]) -> Input
-    ensures { IsPrefixLen result.length text.new }
+// A name that is no text in UTF-8 opens no file here, and is said to be none.
+fn read_named(rt: &HostRuntime, path: &[u8], text: &mut [u8]) -> io::Result<Input>
+    ensures { IfOk result (λ input. IsPrefixLen input.length text.new) }
 {
     if is_dash(path) {
-        return read_open(STDIN_FILENO, b"standard input", text);
+        return read_standard_input(rt, text);
     }
-    let fd = os::open_read(path);
-    if fd < 0 {
-        os::fail(path);
-        return nothing(text);
+    let Ok(name) = str::from_utf8(path) else {
+        say(rt, path)?;
+        say(rt, b": not a name in UTF-8\n")?;
+        return Ok(nothing(text));
+    };
+    match fs::open(rt, name) {
+        Ok(mut file) => read_open(rt, &mut file, path, text),
+        Err(error) => {
+            fail(rt, path, &error)?;
+            Ok(nothing(text))
+        }
     }
-    let input = read_open(fd, path, text);
-    libc::close(fd);
-    input
+}
+
+fn read_standard_input(rt: &HostRuntime, text: &mut [u8]) -> io::Result<Input>
+    ensures { IfOk result (λ input. IsPrefixLen input.length text.new) }
+{
+    let mut stdin = rt.stdin();
+    read_open(rt, &mut stdin, b"standard input", text)
 }
 
 fn is_dash(path: &[u8]) -> bool {
@@ -89,104 +116,94 @@ fn is_dash(path: &[u8]) -> bool {
 }
 
 // Reads what is open, and says under this name that it could not be read.
-fn read_open(fd: i32, name: &[u8], text: &mut [u8]) -> Input
-    ensures { IsPrefixLen result.length text.new }
+fn read_open<R: Read>(
+    rt: &HostRuntime,
+    from: &mut R,
+    name: &[u8],
+    text: &mut [u8],
+) -> io::Result<Input>
+    ensures { IfOk result (λ input. IsPrefixLen input.length text.new) }
 {
-    let input = read_all(fd, text);
-    if input.failed {
-        os::fail(name);
+    match read_all(from, text) {
+        Ok(length) => Ok(Input {
+            length,
+            failed: false,
+        }),
+        Err(error) => {
+            fail(rt, name, &error)?;
+            Ok(nothing(text))
+        }
     }
-    input
 }
 
 // Reads until the text is full, the input ends or a read fails.
-pub fn read_all(fd: i32, text: &mut [u8]) -> Input
-    ensures { IsPrefixLen result.length text.new }
+pub fn read_all<R: Read>(from: &mut R, text: &mut [u8]) -> io::Result<usize>
+    ensures { ReadsAtMost result text.new }
 {
     let mut length = 0;
     while length < text.len() {
-        let part = read_on(fd, text, length);
-        let more = part.length;
+        let more = from.read(&mut text[length..])?;
         if more == 0 {
-            return Input {
-                length,
-                failed: part.failed,
-            };
+            return Ok(length);
         }
         length += more;
     }
-    Input {
-        length,
-        failed: false,
-    }
-}
-
-// One read, to the text from a byte on. One that fails counts no bytes.
-fn read_on(fd: i32, text: &mut [u8], from: usize) -> Input
-    requires { from ≤ length text.old }
-    ensures { from + result.length ≤ length text.old }
-{
-    let rest = &mut text[from..];
-    let answer = libc::read(fd, rest);
-    Input {
-        length: io::count(answer, rest),
-        failed: answer < 0,
-    }
+    Ok(length)
 }
 
 // Says that a text is refused: the number, the place where it speaks of one, and the reason.
-pub fn refuse(text: &[u8], number: u32, position: u32) {
-    say_number(b"refused: ", number);
-    say_place(text, number, position);
-    say(b" (");
-    say_reason(text, number);
-    say(b")\n");
+pub fn refuse(rt: &HostRuntime, text: &[u8], number: u32, position: u32) -> io::Result<()> {
+    say_number(rt, b"refused: ", number)?;
+    say_place(rt, text, number, position)?;
+    say(rt, b" (")?;
+    say_reason(rt, text, number)?;
+    say(rt, b")\n")
 }
 
 // Where a refusal is. A text that is too long has no place, nor has a table with too many nodes.
-fn say_place(text: &[u8], number: u32, position: u32) {
+fn say_place(rt: &HostRuntime, text: &[u8], number: u32, position: u32) -> io::Result<()> {
     match number {
-        TOO_MANY_VARIABLES => say_number(b" at node ", position),
-        MISSPELLED => say_byte(text, position),
-        MISPLACED_NAME => say_byte(text, position),
-        UNBOUND_VARIABLE => say_number(b" at variable ", position),
-        GATE_NOT_USED_ONCE => say_number(b" at gate ", position),
-        _ => {}
+        TOO_MANY_VARIABLES => say_number(rt, b" at node ", position),
+        MISSPELLED => say_byte(rt, text, position),
+        MISPLACED_NAME => say_byte(rt, text, position),
+        UNBOUND_VARIABLE => say_number(rt, b" at variable ", position),
+        GATE_NOT_USED_ONCE => say_number(rt, b" at gate ", position),
+        _ => Ok(()),
     }
 }
 
 // The place of a byte of a text that is not too long.
-fn say_byte(text: &[u8], position: u32) {
+fn say_byte(rt: &HostRuntime, text: &[u8], position: u32) -> io::Result<()> {
     if text.len() <= BYTES {
         let here = find_place(text, position);
-        say(b" at line ");
-        io::print_decimal(STDERR_FILENO, here.line as u64);
-        say(b", column ");
-        io::print_decimal(STDERR_FILENO, here.column as u64);
+        say(rt, b" at line ")?;
+        rt.eprint(here.line)?;
+        say(rt, b", column ")?;
+        rt.eprint(here.column)?;
     }
+    Ok(())
 }
 
 // In a few words, what a refusal's number says of a text. The programs get no other number, and the
 // last of these never: their buffers have room for every table and every form.
-fn say_reason(text: &[u8], number: u32) {
+fn say_reason(rt: &HostRuntime, text: &[u8], number: u32) -> io::Result<()> {
     match number {
-        TOO_LARGE => say(b"too many nodes"),
-        TOO_MANY_VARIABLES => say(b"too many bound variables"),
-        MISSPELLED => say_misspelled(text),
-        MISPLACED_NAME => say(b"name misplaced"),
-        UNBOUND_VARIABLE => say(b"unbound variable"),
-        GATE_NOT_USED_ONCE => say(b"gate not used exactly once"),
-        BUFFER_TOO_SHORT => say(b"output buffer too short"),
-        _ => say(b"cannot happen here"),
+        TOO_LARGE => say(rt, b"too many nodes"),
+        TOO_MANY_VARIABLES => say(rt, b"too many bound variables"),
+        MISSPELLED => say_misspelled(rt, text),
+        MISPLACED_NAME => say(rt, b"name misplaced"),
+        UNBOUND_VARIABLE => say(rt, b"unbound variable"),
+        GATE_NOT_USED_ONCE => say(rt, b"gate not used exactly once"),
+        BUFFER_TOO_SHORT => say(rt, b"output buffer too short"),
+        _ => say(rt, b"cannot happen here"),
     }
 }
 
-fn say_misspelled(text: &[u8]) {
+fn say_misspelled(rt: &HostRuntime, text: &[u8]) -> io::Result<()> {
     if BYTES < text.len() {
-        say(b"longer than 65,536 bytes");
-        return;
+        return say(rt, b"longer than 65,536 bytes");
     }
-    say(b"spelling");
+    say(rt, b"spelling")
 }
 
 // The place of the byte at a position; at or after the text's end, where the next byte would stand.
@@ -227,12 +244,29 @@ fn after(here: Place, byte: u8) -> Place
     }
 }
 
-fn say(bytes: &[u8]) {
-    io::write_all(STDERR_FILENO, bytes);
+// Says what failed, under a name, and why, as the system words it.
+pub fn fail(rt: &HostRuntime, what: &[u8], error: &io::Error) -> io::Result<()> {
+    let words = format!(in rt.alloc(); "{error}")?;
+    say(rt, what)?;
+    say(rt, b": ")?;
+    say(rt, without_number(words.as_str()).as_bytes())?;
+    say(rt, b"\n")
+}
+
+// An error's words without the system's number of it, which std writes behind them.
+fn without_number(words: &str) -> &str {
+    match words.split_once(" (os error ") {
+        Some((before, _)) => before,
+        None => words,
+    }
+}
+
+fn say(rt: &HostRuntime, bytes: &[u8]) -> io::Result<()> {
+    rt.stderr().write_all(bytes)
 }
 
 // Text, and a number in decimal after it.
-fn say_number(before: &[u8], x: u32) {
-    say(before);
-    io::print_decimal(STDERR_FILENO, x as u64);
+fn say_number(rt: &HostRuntime, before: &[u8], x: u32) -> io::Result<()> {
+    say(rt, before)?;
+    rt.eprint(x)
 }

@@ -6,7 +6,6 @@ use Prim.Native.Nat.{suc, ◌+◌}
 use lib.Dec.{eqb}
 use native.Mathlib.Omega.{arith}
 use borrow.Author.Tests.{eq-eqb, ne_eqb}
-use borrow.Author.Rules.{rules}
 use Rattle.lists.specs.Choice.{pick_yes, pick_no}
 use Rattle.command_line.specs.Place.{line_end}
 use Rattle.command_line.proofs.after.Goals as goal

@@ -1,13 +1,9 @@
 -- `command_line::find_place` meets its contract. The loop keeps the place of the byte at `at`.
 -- Assumes nothing.
-use Prim.Native.Nat.{◌≤◌, ◌<◌, ◌-◌, ◌+◌}
-use mathlib.Core.Path.{◌≡◌, refl, sym, ap, ◌∙◌}
-use lib.ListN.{length, take, get_or}
-use lib.Seq.{take_all}
-use borrow.Author.Rules.{rules}
-use native.Mathlib.Omega.{arith}
-use Rattle.command_line.specs.Place.{line, column, next_line, next_column, through}
-use Rattle.command_line.proofs.Places.{through_next, line_bound, column_bound}
+use Prim.Native.Nat.{◌≤◌, ◌-◌, ◌+◌}
+use mathlib.Core.Path.{◌≡◌}
+use lib.ListN.{length, take}
+use Rattle.command_line.specs.Place.{line, column}
 use Rattle.command_line.proofs.find_place.Given as goal
 
 abbrev pub invariant-loop-at : goal.invariant-loop-at

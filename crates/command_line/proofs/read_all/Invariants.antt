@@ -3,12 +3,10 @@
 use Prim.Native.Nat.{◌≤◌, ◌-◌}
 use mathlib.Core.Path.{◌≡◌}
 use lib.ListN.{length as size}
-use Rattle.io.proofs.Counting.{prefix_len_of_le}
-use borrow.Author.Rules.{rules}
 use Rattle.command_line.proofs.read_all.Given as goal
 
 abbrev pub invariant-loop-length : goal.invariant-loop-length
-invariant-loop-length l = (l.length ≤ size l.text) × (size l.text ≡ size l.initial.text)
+invariant-loop-length g l = (l.length ≤ size l.text) × (size l.text ≡ size l.initial.text)
 
 abbrev pub decreases-loop-length : goal.decreases-loop-length
-decreases-loop-length l = size l.text - l.length
+decreases-loop-length g l = size l.text - l.length
