@@ -4,12 +4,8 @@ use mathlib.Core.Path.{refl}
 use Rattle.formula.specs.Truth.{digit}
 use Rattle.qcir_form.specs.Rows.{rows}
 use Rattle.qcir_rows.specs.Codes.{kind_code, row_numbers, row_table}
-use Rattle.qcir_rows.proofs.all_rows.Statement.{statement}
-use Rattle.qcir_rows.proofs.all_rows.Tie as tie
+use Rattle.qcir_rows.proofs.all_rows.Goals as goal
 
-returns : tie.Need-returns
+pub returns : goal.returns
 unfolding row_table rows row_numbers kind_code digit
 returns c = refl
-
-pub all-rows-spec : {M : Type 1} → statement M
-all-rows-spec = tie.close (tie.spec returns)
