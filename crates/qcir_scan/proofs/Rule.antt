@@ -171,8 +171,8 @@ module _ (i : ℕ) (low : i < 115) where
   place_entries =
       and_right (past_header (place_of i) && (agree (is_dead (place_of i)) (eqb i 0) && agree (is_done (place_of i)) (eqb i 27))) _ place_right
 
-  past_header : past_header (place_of i) ≡ true
-  past_header = and_left (past_header (place_of i)) _ place_numbers
+  past_header_lem : past_header (place_of i) ≡ true
+  past_header_lem = and_left (past_header (place_of i)) _ place_numbers
 
   -- the number of the dead place
   pub dead_number : is_dead (place_of i) ≡ eqb i 0
@@ -210,7 +210,7 @@ module _ (i : ℕ) (low : i < 115) where
     pub entry_effect : effect_at (place_of i) b ≡ effect_of (entry_at i b)
     unfolding right_entry y e
     entry_effect =
-        alike_effect b y (place_of i) (like b byte) past_header
+        alike_effect b y (place_of i) (like b byte) past_header_lem
         ∙ same_effects _ _ (and_left (same_effect (effect_at (place_of i) y) (effect_of e)) _ entry_right)
 
     pub next_low : entry_at i b % 256 < 115
