@@ -1,6 +1,5 @@
 -- `qcir_rows::row_of` meets its contract: the table lent is that of the sixteen rows, and so what stands at each of its places is its row.
 -- Assumes nothing.
-use borrow.Author.Rules.{rules}
 use Rattle.qcir_form.specs.Rows.{rows, row}
 use Rattle.qcir_rows.specs.Codes.{row_table}
 use Rattle.qcir_rows.proofs.Table.{coded_at}

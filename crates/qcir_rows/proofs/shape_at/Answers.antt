@@ -3,7 +3,6 @@
 use mathlib.Core.Path.{◌∙◌, sym}
 use Rattle.qcir_rows.proofs.Matrix.{table_low, shape_operator, shape_negation, shape_variable, constant_low, shape_constant}
 use native.Mathlib.Omega.{arith}
-use borrow.Author.Rules.{rules}
 use Rattle.qcir_rows.proofs.shape_at.Goals as goal
 
 pub row_of-row-requires : goal.row_of-row-requires
