@@ -22,6 +22,6 @@ listing names xs =
 unfoldable pub listed : List ℕ → List ℕ → List ℕ → Outcome ℕ (List ℕ)
 listed ws ls names = unless_refused (verdict ws ls) 0 names (listing names (free_variables (table_of ws ls)))
 
--- "Room for 2,048 names is always enough" (request S-11): 9 is then never given. The theorem `room-enough` (proofs/RoomEnough.antt).
+-- "Room for 2,048 names is always enough" (request S-11): 9 is then never given. The theorem `room_enough` (proofs/RoomEnough.antt).
 abbrev pub RoomEnough : Type 0
 RoomEnough = (ws ls names : List ℕ) → 2048 ≤ length names → (listed ws ls names).answer.verdict ≡ verdict ws ls
