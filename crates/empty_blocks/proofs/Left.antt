@@ -1,4 +1,4 @@
--- The nodes that stay, in order: node `leftBelow ws i` of the words without empty blocks is node i, if it stays, with each operand and
+-- The nodes that stay, in order: node `left_below ws i` of the words without empty blocks is node i, if it stays, with each operand and
 -- body at its new index.
 -- Assumes nothing.
 use mathlib.Core.Path.{◌≡◌, refl, sym, ◌∙◌, ap, subst}

@@ -1,4 +1,4 @@
--- What is named where a node was, in words whose operands and bodies are lower: the first argument of `namedFor` says nothing, what is
+-- What is named where a node was, in words whose operands and bodies are lower: the first argument of `named_for` says nothing, what is
 -- named stays, and an empty block is named as its body is.
 -- Assumes nothing.
 use mathlib.Core.Path.{◌≡◌, refl, sym, ◌∙◌, ap}

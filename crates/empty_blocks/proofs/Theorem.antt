@@ -1,4 +1,4 @@
--- The theorem: of every stored table that is accepted, `withoutEmptyBlocks` gives the words of the table without its empty blocks, with
+-- The theorem: of every stored table that is accepted, `without_empty_blocks` gives the words of the table without its empty blocks, with
 -- all that specs/Promise.antt says of them.
 -- Assumes nothing.
 use mathlib.Core.Path.{◌≡◌, refl, sym, ◌∙◌, ap, subst}

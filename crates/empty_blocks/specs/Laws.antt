@@ -1,4 +1,4 @@
--- What the new indices are, so that a reader need not trust how `namedFor` recurses: the theorem `new-indices` (proofs/Named.antt).
+-- What the new indices are, so that a reader need not trust how `named_for` recurses: the theorem `new_indices` (proofs/Named.antt).
 -- Assumes nothing.
 use Rattle.std.specs.Prelude.{true, false, List, ◌≡◌, ℕ, ◌<◌}
 use Rattle.formula.specs.Words.{node_count, words_at}

@@ -1,5 +1,5 @@
 -- What is owed of removing empty blocks: ns are the words of the table with words ws and list ls without its empty blocks. That
--- `withoutEmptyBlocks` gives such words of every stored table that is accepted is the theorem `removal` (proofs/Theorem.antt).
+-- `without_empty_blocks` gives such words of every stored table that is accepted is the theorem `removal` (proofs/Theorem.antt).
 -- Assumes nothing.
 use Rattle.std.specs.Prelude.{List, ◌≡◌, ℕ, ◌-◌}
 use Rattle.formula.specs.Words.{node_count, table_of}

@@ -23,7 +23,7 @@ storing nodes left =
 unfoldable pub removed : List ℕ → List ℕ → List ℕ → Outcome ℕ (List ℕ)
 removed ws ls nodes = unless_refused (stored_verdict ws ls) 0 nodes (storing nodes (without_empty_blocks ws))
 
--- So no number above 9, and never 16: the theorem `up-to-nine` (proofs/UpToNine.antt).
+-- So no number above 9, and never 16: the theorem `up_to_nine` (proofs/UpToNine.antt).
 abbrev pub UpToNine : Type 0
 UpToNine = (ws ls nodes : List ℕ) → (removed ws ls nodes).answer.verdict.number ≤ 9
 

@@ -1,5 +1,5 @@
--- `scopes::fill_block` meets its contract. A root block is the laws `root-filled` and `root-counted`, an inner one `inner-filled` and
--- `inner-counted`.
+-- `scopes::fill_block` meets its contract. A root block is the laws `root_filled` and `root_counted`, an inner one `inner_filled` and
+-- `inner_counted`.
 -- Assumes nothing.
 use native.Mathlib.Omega.{arith}
 use lib.ListN.{length-set}

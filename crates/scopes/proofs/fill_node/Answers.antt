@@ -1,4 +1,4 @@
--- `scopes::fill_node` meets its contract. A node that is no block is the laws `plain-filled` and `plain-counted`.
+-- `scopes::fill_node` meets its contract. A node that is no block is the laws `plain_filled` and `plain_counted`.
 -- Assumes nothing.
 use mathlib.Core.Path.{refl, sym, ◌∙◌}
 use native.Mathlib.Omega.{arith}
