@@ -49,13 +49,13 @@ module _ (marks : List ℕ) (a b : ℕ) where
       rw (ne_eqb k 0 n0, ne_eqb k 1 n1, ne_eqb k 2 n2, get_d_set (set marks a 1) b 1 0 (simp length-set (omega arith)) i, get_d_set marks a 1 0 h i) (two_marks (eqb i a) (eqb i b) (get_or marks i 0))
 
 -- The same of rows.
-pub code_operands : (k : RowKind) (a b : ℕ) → code_operands (kind_code k) a b ≡ row_operands k a b
+pub code_operands_lem : (k : RowKind) (a b : ℕ) → code_operands (kind_code k) a b ≡ row_operands k a b
 unfolding code_operands kind_code row_operands pick
-code_operands constant_row a b = refl
-code_operands left_row a b = refl
-code_operands right_row a b = refl
-code_operands and_row a b = refl
-code_operands xor_row a b = refl
+code_operands_lem constant_row a b = refl
+code_operands_lem left_row a b = refl
+code_operands_lem right_row a b = refl
+code_operands_lem and_row a b = refl
+code_operands_lem xor_row a b = refl
 
 -- One node.
 
@@ -89,7 +89,7 @@ module _ (marks names : List ℕ) (i h : ℕ) (nd : Node) where
   node_row marks' k n r ms =
       rw (ne_eqb (get_or marks i 0) 0 n)
       (record {
-        marks_are = λ j. ms j ∙ ap (λ xs. pick (mem j xs) 1 (get_or marks j 0)) (code_operands k _ _ ∙ sym r.used);
+        marks_are = λ j. ms j ∙ ap (λ xs. pick (mem j xs) 1 (get_or marks j 0)) (code_operands_lem k _ _ ∙ sym r.used);
         flags_are = λ x. sym (pick_no (stands_at x nd) _ _ (r.no_name x));
         highest_is = no_higher (eqb (get_or names (number_at nd) 0) 0) (number_at nd) h r.no_number;
       })
