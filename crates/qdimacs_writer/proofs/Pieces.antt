@@ -8,12 +8,11 @@ use native.Mathlib.Omega.{arith}
 use lib.ListN.{length, length-append}
 use Rattle.lists.specs.Choice.{pick, pick_no, Is, is_true, is_false, look, clash, or_left}
 use Rattle.lists.specs.Members.{mem}
-use Rattle.lists.specs.Parts.{up_to, sum, numbers}
+use Rattle.lists.specs.Parts.{up_to, numbers}
 use Rattle.lists.proofs.Members.{mem_nil}
 use Rattle.lists.proofs.Parts.{flat_map_append, highest_ge}
 use Rattle.formula.specs.Node.{Node, constant, variable, negation, operator, block, Table, operands, is_block}
 use Rattle.formula.specs.Words.{node_count, table_of}
-use Rattle.formula.specs.Truth.{digit}
 use Rattle.formula.specs.Form.{Block, blocks_of, form_free}
 use Rattle.formula.specs.FreeVariables.{number_at, highest_variable, form_free_variables}
 use Rattle.formula.proofs.FreeVariables.{form_free-listed}
