@@ -11,70 +11,72 @@ ghost use Rattle.report_text.specs.Report.{report_text};
 ghost use Rattle.report_text.specs.Bounds.{LineEach, report_room};
 
 use growth::{LINE, LINES, Line};
-use libc::{STDIN_FILENO, STDOUT_FILENO};
 use name_lines::{Found, Name, State};
 use refusals::{ACCEPTED, UNREADABLE};
+use std::io::Read;
+use std::{fs, io, str};
 
-// What standard input has told so far, whether there may be more, and whether reading failed.
+// The bytes that one read of standard input has room for.
+const PART: usize = 4096;
+
+// What standard input has told so far, whether there may be more, and why reading failed if it did.
 #[derive(Clone, Copy)]
 struct Part {
     state: State,
     more: bool,
-    failed: bool,
+    failed: Option<io::Error>,
 }
 
-// The names, and whether reading failed.
+// The names, and why reading failed if it did.
 #[derive(Clone, Copy)]
 struct Given {
     found: Found,
-    failed: bool,
+    failed: Option<io::Error>,
 }
 
-fn main() {
+fn main(rt: HostRuntime) -> io::Result<()> {
     let mut kept = [0u8; name_lines::ROOM];
-    run(&mut kept);
+    run(&rt, &mut kept)
 }
 
-fn run(kept: &mut [u8])
+fn run(rt: &HostRuntime, kept: &mut [u8]) -> io::Result<()>
     requires { 65536 ≤ length kept.old }
 {
-    let given = read_names(kept);
-    if given.failed {
-        os::fail(b"standard input");
-        return;
+    let given = read_names(rt, kept);
+    if let Some(error) = given.failed {
+        return command_line::fail(rt, b"standard input", &error);
     }
     let found = given.found;
     let verdict = found.verdict;
     if verdict.number != ACCEPTED {
-        io::print_decimal(STDOUT_FILENO, verdict.number as u64);
-        io::write_all(STDOUT_FILENO, b"\n");
-        return;
+        return rt.println(verdict.number);
     }
     let bytes = found.bytes;
-    report(&kept[..bytes]);
+    report(rt, &kept[..bytes])
 }
 
 // All of standard input, in parts: what is found of some text, and nothing says which, since no contract
 // tells what is read. A proved loop has to end, and nothing says that standard input does: so the loop counts
 // its turns down, from a number that no run uses up.
-fn read_names(kept: &mut [u8]) -> Given
+fn read_names(rt: &HostRuntime, kept: &mut [u8]) -> Given
     requires { 65536 ≤ length kept.old }
     ensures { (result.found.bytes ≤ length kept.new)
         × ((text : List ℕ) × Taken (names_of text) result.found kept.new) }
 {
-    let mut p = read_part(name_lines::start(kept), kept);
+    let mut p = read_part(rt, name_lines::start(kept), kept);
     let mut turns = u64::MAX;
     while p.more {
         if turns == 0 {
-            return names_given(p.state, true, kept);
+            let endless = io::Error::other("no end was found");
+            return names_given(p.state, Some(endless), kept);
         }
         turns -= 1;
-        p = read_part(p.state, kept);
+        p = read_part(rt, p.state, kept);
     }
     names_given(p.state, p.failed, kept)
 }
 
-fn names_given(s: State, failed: bool, kept: &mut [u8]) -> Given
+fn names_given(s: State, failed: Option<io::Error>, kept: &mut [u8]) -> Given
     ensures { (result.found.bytes ≤ length kept.new)
         × ((text : List ℕ) → HasRead text s kept.old → Taken (names_of text) result.found kept.new) }
 {
@@ -83,38 +85,43 @@ fn names_given(s: State, failed: bool, kept: &mut [u8]) -> Given
 }
 
 // One read of standard input.
-fn read_part(s: State, kept: &mut [u8]) -> Part
+fn read_part(rt: &HostRuntime, s: State, kept: &mut [u8]) -> Part
     ensures { (text : List ℕ) → HasRead text s kept.old
         → ((part : List ℕ) × HasRead (text ++ part) result.state kept.new) }
 {
-    let mut part = io::buffer();
-    let answer = libc::read(STDIN_FILENO, &mut part);
-    let n = io::count(answer, &part);
-    let state = name_lines::read_on(s, &part[..n], kept);
-    Part {
-        state,
-        more: 0 < answer,
-        failed: answer < 0,
+    let mut part = [0u8; PART];
+    match rt.stdin().read(&mut part) {
+        Ok(n) => Part {
+            state: name_lines::read_on(s, &part[..n], kept),
+            more: 0 < n,
+            failed: None,
+        },
+        Err(error) => Part {
+            state: s,
+            more: false,
+            failed: Some(error),
+        },
     }
 }
 
 // Measures the files, and prints their report.
-fn report(names: &[u8])
+fn report(rt: &HostRuntime, names: &[u8]) -> io::Result<()>
     requires { names_verdict (names_of names.now) ≡ accepted }
 {
     let mut lines = [0u32; LINES * LINE];
-    let count = measure_files(names, &mut lines);
+    let count = measure_files(rt, names, &mut lines);
     let end = LINE * count;
-    print_report(names, &lines[..end], count);
+    print_report(rt, names, &lines[..end], count)
 }
 
-fn print_report(names: &[u8], lines: &[u32], count: usize)
+fn print_report(rt: &HostRuntime, names: &[u8], lines: &[u32], count: usize) -> io::Result<()>
     requires { LineEach names.now lines.now count }
 {
     let mut text = [0u8; report_text::ROOM];
     let n = write_report(names, lines, count, &mut text);
-    if !io::write_all(STDOUT_FILENO, &text[..n]) {
-        os::fail(b"standard output");
+    match rt.write_all(&text[..n]) {
+        Ok(()) => Ok(()),
+        Err(error) => command_line::fail(rt, b"standard output", &error),
     }
 }
 
@@ -129,7 +136,7 @@ fn write_report(names: &[u8], lines: &[u32], count: usize, text: &mut [u8]) -> u
 }
 
 // A line for each name, of 256 at most; how many there are.
-fn measure_files(names: &[u8], lines: &mut [u32]) -> usize
+fn measure_files(rt: &HostRuntime, names: &[u8], lines: &mut [u32]) -> usize
     requires { length lines.old ≡ 1792 }
     ensures { (result ≤ 256) × (length (names_of names.now) ≤ 256 → result ≡ length (names_of names.now)) }
 {
@@ -140,7 +147,7 @@ fn measure_files(names: &[u8], lines: &mut [u32]) -> usize
         if name.end <= name.from {
             return i;
         }
-        growth::store_line(lines, i, measure_name(names, name));
+        growth::store_line(lines, i, measure_name(rt, names, name));
         from = name.end;
         i += 1;
     }
@@ -148,26 +155,30 @@ fn measure_files(names: &[u8], lines: &mut [u32]) -> usize
 }
 
 // The line of the file with the name that stands there.
-fn measure_name(names: &[u8], name: Name) -> Line
+fn measure_name(rt: &HostRuntime, names: &[u8], name: Name) -> Line
     requires { (name.from ≤ name.end) × (name.end ≤ length names.now) }
 {
     let from = name.from;
     let end = name.end;
-    measure_file(&names[from..end])
+    measure_file(rt, &names[from..end])
 }
 
-// The line of a file: 22 if it can't be opened or read to its end.
-fn measure_file(name: &[u8]) -> Line {
+// The line of a file: 22 if it can't be opened or read to its end, and where its name is no text in UTF-8.
+fn measure_file(rt: &HostRuntime, name: &[u8]) -> Line {
+    let Ok(name) = str::from_utf8(name) else {
+        return growth::refused_line(UNREADABLE);
+    };
+    match fs::open(rt, name) {
+        Ok(mut file) => measure_open(&mut file),
+        Err(_) => growth::refused_line(UNREADABLE),
+    }
+}
+
+// The line of a file that is open.
+fn measure_open<R: Read>(file: &mut R) -> Line {
     let mut content = [0u8; command_line::ROOM];
-    let fd = os::open_read(name);
-    if fd < 0 {
-        return growth::refused_line(UNREADABLE);
+    match command_line::read_all(file, &mut content) {
+        Ok(length) => file_line::line_of(&content[..length]),
+        Err(_) => growth::refused_line(UNREADABLE),
     }
-    let input = command_line::read_all(fd, &mut content);
-    libc::close(fd);
-    if input.failed {
-        return growth::refused_line(UNREADABLE);
-    }
-    let length = input.length;
-    file_line::line_of(&content[..length])
 }

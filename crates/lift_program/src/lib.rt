@@ -3,57 +3,54 @@
 #![tactic(auto)]
 
 use form_writer::Format;
-use libc::{STDERR_FILENO, STDOUT_FILENO};
 use lift_text::TEXT;
 use refusals::ACCEPTED;
 use stack_limit::NO_LIMIT;
+use std::io;
 
 // The bytes of stack that a program needs, as measured: the text to be written takes most of them.
 const STACK: u64 = 4608 * 1024;
 
 // Lifts the file that the command line names, if there is stack enough to do it.
 //
-// Two calls of `lift_input` keep the compiler from putting it in line: the stack that it takes would
-// then be taken before the test.
-pub fn run(usage: &[u8], format: Format) {
-    let limit = stack_limit::stack_limit();
+// `lift_input` is not to be put in line, and two calls of it keep a compiler from that which takes no
+// such hint: the stack that it takes would then be taken before the test.
+pub fn run(rt: &HostRuntime, usage: &[u8], format: Format) -> io::Result<()> {
+    let limit = stack_limit::stack_limit(rt);
     if limit == NO_LIMIT {
-        lift_input(usage, format);
-        return;
+        return lift_input(rt, usage, format);
     }
     if limit < STACK {
-        io::write_all(
-            STDERR_FILENO,
-            b"lifting needs 4608 KiB of stack: ulimit -s 4608\n",
-        );
-        return;
+        return rt.eprintln("lifting needs 4608 KiB of stack: ulimit -s 4608");
     }
-    lift_input(usage, format);
+    lift_input(rt, usage, format)
 }
 
-fn lift_input(usage: &[u8], format: Format) {
+#[inline(never)]
+fn lift_input(rt: &HostRuntime, usage: &[u8], format: Format) -> io::Result<()> {
     let mut text = [0u8; command_line::ROOM];
-    let input = command_line::read_input(usage, &mut text);
+    let input = command_line::read_input(rt, usage, &mut text)?;
     let length = input.length;
     if !input.failed {
-        lift_and_print(&text[..length], format);
+        lift_and_print(rt, &text[..length], format)?;
     }
+    Ok(())
 }
 
-fn lift_and_print(text: &[u8], format: Format) {
+fn lift_and_print(rt: &HostRuntime, text: &[u8], format: Format) -> io::Result<()> {
     let mut written = [0u8; TEXT];
-    lift_to(text, format, &mut written);
+    lift_to(rt, text, format, &mut written)
 }
 
-fn lift_to(text: &[u8], format: Format, written: &mut [u8]) {
+fn lift_to(rt: &HostRuntime, text: &[u8], format: Format, written: &mut [u8]) -> io::Result<()> {
     let answer = lift_text::lift_text(text, format, written);
     let verdict = answer.verdict;
     if verdict.number != ACCEPTED {
-        command_line::refuse(text, verdict.number, verdict.position);
-        return;
+        return command_line::refuse(rt, text, verdict.number, verdict.position);
     }
     let n = answer.bytes;
-    if !io::write_all(STDOUT_FILENO, &written[..n]) {
-        os::fail(b"standard output");
+    match rt.write_all(&written[..n]) {
+        Ok(()) => Ok(()),
+        Err(error) => command_line::fail(rt, b"standard output", &error),
     }
 }

@@ -3,7 +3,8 @@
 #![tactic(auto)]
 
 use form_writer::Format;
+use std::io;
 
-fn main() {
-    lift_program::run(b"usage: lift_qcir [FILE]\n", Format::Qcir);
+fn main(rt: HostRuntime) -> io::Result<()> {
+    lift_program::run(&rt, b"usage: lift_qcir [FILE]\n", Format::Qcir)
 }

@@ -4,32 +4,33 @@
 
 use prenex_form::Sizes;
 use refusals::ACCEPTED;
+use std::io;
 
-fn main() {
+fn main(rt: HostRuntime) -> io::Result<()> {
     let mut text = [0u8; command_line::ROOM];
-    let input = command_line::read_input(b"usage: measure_qcir [FILE]\n", &mut text);
+    let input = command_line::read_input(&rt, b"usage: measure_qcir [FILE]\n", &mut text)?;
     let length = input.length;
     if !input.failed {
-        show_answer(&text[..length]);
+        show_answer(&rt, &text[..length])?;
     }
+    Ok(())
 }
 
-fn show_answer(text: &[u8]) {
+fn show_answer(rt: &HostRuntime, text: &[u8]) -> io::Result<()> {
     let a = lift_text::measure_text(text);
     let verdict = a.verdict;
     if verdict.number != ACCEPTED {
-        command_line::refuse(text, verdict.number, verdict.position);
-        return;
+        return command_line::refuse(rt, text, verdict.number, verdict.position);
     }
-    show_sizes(a.sizes);
+    show_sizes(rt, a.sizes)
 }
 
-fn show_sizes(s: Sizes) {
-    printing::figure(b"nodes", s.n);
-    printing::figure(b"blocks", s.b);
-    printing::figure(b"bound variables", s.q);
-    printing::figure(b"quantifier depth", s.depth);
-    printing::figure(b"lifted: nodes", s.nodes);
-    printing::figure(b"lifted: blocks", s.blocks);
-    printing::figure(b"lifted: variables", s.entries);
+fn show_sizes(rt: &HostRuntime, s: Sizes) -> io::Result<()> {
+    printing::figure(rt, b"nodes", s.n)?;
+    printing::figure(rt, b"blocks", s.b)?;
+    printing::figure(rt, b"bound variables", s.q)?;
+    printing::figure(rt, b"quantifier depth", s.depth)?;
+    printing::figure(rt, b"lifted: nodes", s.nodes)?;
+    printing::figure(rt, b"lifted: blocks", s.blocks)?;
+    printing::figure(rt, b"lifted: variables", s.entries)
 }
