@@ -2,9 +2,7 @@
 -- Assumes nothing.
 use mathlib.Core.Bool.{Bool, true, false}
 use mathlib.Core.List.{List}
-use mathlib.Core.Path.{◌≡◌}
 use Prim.Native.Nat.{ℕ}
-use lib.Dec.{eqb}
 use Rattle.lists.specs.Choice.{pick}
 use Rattle.refusals.specs.Verdict.{Plain}
 use Rattle.refusals.specs.declared.Verdict.{Verdict}
