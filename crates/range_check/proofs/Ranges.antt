@@ -9,7 +9,7 @@ use native.Mathlib.Omega.{arith}
 use lib.Dec.{eqb, ltb}
 use lib.ListN.{length, get_or, take, drop, length-take, length-drop}
 use lib.Seq.{take-suc, get_or-take, get_or-drop}
-use borrow.Author.Tests.{eqb-true, eqb-false, eq-eqb, ne_eqb, ltb-true, ltb-false}
+use borrow.Author.Tests.{ltb-true, ltb-false}
 use Rattle.lists.specs.Choice.{Is, is_true, is_false, look, and_both}
 use Rattle.lists.specs.Members.{mem, all, distinct, place}
 use Rattle.lists.proofs.Members.{mem_append, mem_one, mem-get_or, place_lt, get_or-place, eqb_swap}

@@ -5,7 +5,6 @@ use mathlib.Core.Path.{refl, sym}
 use Rattle.lists.specs.Choice.{clash}
 use Rattle.block_check.proofs.Fault.{block_forward, block_past_end, block_empty, block_too_many, block_within}
 use native.Mathlib.Omega.{arith}
-use borrow.Author.Rules.{rules}
 use Rattle.block_check.proofs.block_fault.Goals as goal
 
 pub returns-then-i-body : goal.returns-then-i-body

@@ -3,7 +3,6 @@
 use mathlib.Core.Path.{refl}
 use Rattle.formula.specs.Truth.{digit}
 use Rattle.formula.specs.Words.{words_of}
-use borrow.Author.Rules.{rules}
 use Rattle.formula.proofs.constant_node.Goals as goal
 
 pub returns : goal.returns

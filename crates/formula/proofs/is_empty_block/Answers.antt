@@ -1,6 +1,5 @@
 -- `formula::is_empty_block` meets its contract.
 -- Assumes nothing.
-use borrow.Author.Rules.{rules}
 use Rattle.formula.specs.Words.{is_empty_block}
 use Rattle.formula.proofs.is_empty_block.Goals as goal
 

@@ -1,9 +1,7 @@
 -- `formula::node_at` meets its contract: each word is read where it stands.
 -- Assumes nothing.
 use native.Mathlib.Nat.{add-zero}
-use mathlib.Core.Path.{refl}
 use Rattle.formula.specs.Words.{field}
-use borrow.Author.Rules.{rules}
 use Rattle.formula.proofs.node_at.Goals as goal
 
 pub returns : goal.returns

@@ -10,7 +10,6 @@ use Rattle.lists.specs.Parts.{overwrite}
 use Rattle.lists.proofs.Overwrite.{sets_overwrite}
 use Rattle.formula.specs.Words.{width, word_list}
 use Rattle.formula.specs.declared.NodeWords.{NodeWords}
-use borrow.Author.Rules.{rules}
 use Rattle.formula.proofs.put_node.Goals as goal
 
 -- a node's words, stored one after the other

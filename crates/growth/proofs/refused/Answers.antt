@@ -1,6 +1,5 @@
 -- `growth::refused` meets its contract.
 -- Assumes nothing.
-use borrow.Author.Rules.{rules}
 use Rattle.refusals.specs.Outcome.{refused as refused_of}
 use Rattle.growth.proofs.refused.Goals as goal
 

@@ -1,13 +1,10 @@
 -- `growth::total_lines` meets its contract. The loop keeps the totals of the lines before i, and that no sum is large.
 -- Assumes nothing.
 use mathlib.Core.Path.{◌≡◌, sym, ap, ◌∙◌}
-use Prim.Native.Nat.{◌*◌, ◌-◌, ◌≤◌}
 use native.Mathlib.Omega.{arith}
-use borrow.Author.Rules.{rules}
 use Rattle.growth.specs.Lines.{line_at}
 use Rattle.growth.specs.Totals.{totals as totals_of}
 use Rattle.growth.specs.Steps.{with_line}
-use Rattle.growth.specs.Bounds.{Within}
 use Rattle.growth.proofs.Steps.{totals_start, totals_next, within_start, within_more}
 use Rattle.growth.proofs.total_lines.Goals as goal
 

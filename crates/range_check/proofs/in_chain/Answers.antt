@@ -4,8 +4,7 @@
 use mathlib.Core.Path.{sym}
 use Prim.Native.Nat.{◌+◌, ◌-◌}
 use native.Mathlib.Omega.{arith}
-use borrow.Author.Rules.{rules}
-use Rattle.range_check.proofs.Chains.{Walked, walked_none, walked_more, walked_found, walked_end}
+use Rattle.range_check.proofs.Chains.{walked_none, walked_more, walked_found, walked_end}
 use Rattle.range_check.proofs.in_chain.Goals as goal
 
 pub loop-c-init : goal.loop-c-init

@@ -1,11 +1,7 @@
 -- `range_check::in_chain` meets its contract: the loop's invariant is `Walked`, from the chain's head down to where the walk has come; the variable is met,
 -- or none of the block's entries below the head is it. The measure is where the walk has come.
 -- Assumes nothing.
-use mathlib.Core.Path.{sym}
-use Prim.Native.Nat.{◌+◌, ◌-◌}
-use native.Mathlib.Omega.{arith}
-use borrow.Author.Rules.{rules}
-use Rattle.range_check.proofs.Chains.{Walked, walked_none, walked_more, walked_found, walked_end}
+use Rattle.range_check.proofs.Chains.{Walked}
 use Rattle.range_check.proofs.in_chain.Given as goal
 
 abbrev pub invariant-loop-c : goal.invariant-loop-c

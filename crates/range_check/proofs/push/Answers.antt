@@ -1,7 +1,6 @@
 -- `range_check::push` meets its contract: its stores are the two that it speaks of.
 -- Assumes nothing.
 use mathlib.Core.Path.{refl}
-use borrow.Author.Rules.{rules}
 use Rattle.range_check.proofs.push.Goals as goal
 
 pub returns : goal.returns

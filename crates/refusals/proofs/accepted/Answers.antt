@@ -1,6 +1,5 @@
 -- `refusals::accepted` meets its contract: the verdict is the definition's.
 -- Assumes nothing.
-use borrow.Author.Rules.{rules}
 use Rattle.refusals.specs.Verdict.{refusal, accepted}
 use Rattle.refusals.proofs.accepted.Goals as goal
 

@@ -1,9 +1,6 @@
 -- `texts::store_wide_digits` meets its contract. The loop's invariant: the digits after those of `left` are stored.
 -- Assumes nothing.
-use borrow.Author.Rules.{rules}
-use native.Mathlib.Omega.{arith}
-use lib.ListN.{length-set}
-use Rattle.texts.proofs.Stores.{Back, back_start, back_room, back_length, back_step, back_end}
+use Rattle.texts.proofs.Stores.{Back}
 use Rattle.texts.proofs.store_wide_digits.Given as goal
 
 abbrev pub invariant-loop-left : goal.invariant-loop-left

@@ -1,11 +1,9 @@
 -- `texts::store_word` meets its contract. The loop's invariant: the first k bytes of the word are stored.
 -- Assumes nothing.
-use mathlib.Core.Path.{◌≡◌, sym}
-use Prim.Native.Nat.{◌-◌, ◌≤◌}
+use mathlib.Core.Path.{sym}
 use borrow.Author.Rules.{rules}
 use native.Mathlib.Omega.{arith}
-use lib.ListN.{length, take, length-set}
-use Rattle.lists.specs.Parts.{overwrite}
+use lib.ListN.{length-set}
 use Rattle.lists.proofs.Overwrite.{overwrite_nil}
 use Rattle.texts.proofs.Stores.{store_next, store_all}
 use Rattle.texts.proofs.store_word.Goals as goal

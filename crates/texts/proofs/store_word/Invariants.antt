@@ -1,13 +1,9 @@
 -- `texts::store_word` meets its contract. The loop's invariant: the first k bytes of the word are stored.
 -- Assumes nothing.
-use mathlib.Core.Path.{◌≡◌, sym}
+use mathlib.Core.Path.{◌≡◌}
 use Prim.Native.Nat.{◌-◌, ◌≤◌}
-use borrow.Author.Rules.{rules}
-use native.Mathlib.Omega.{arith}
-use lib.ListN.{length, take, length-set}
+use lib.ListN.{length, take}
 use Rattle.lists.specs.Parts.{overwrite}
-use Rattle.lists.proofs.Overwrite.{overwrite_nil}
-use Rattle.texts.proofs.Stores.{store_next, store_all}
 use Rattle.texts.proofs.store_word.Given as goal
 
 abbrev pub invariant-loop-k : goal.invariant-loop-k

@@ -1,14 +1,10 @@
 -- `texts::wide_digit_count` meets its contract. The loop's invariant: the digits counted and those of `left` are one more than those
 -- of the number.
 -- Assumes nothing.
-use mathlib.Core.Path.{◌≡◌, refl}
+use mathlib.Core.Path.{◌≡◌}
 use Prim.Native.Nat.{◌+◌, ◌≤◌}
-use native.Mathlib.Omega.{arith}
-use borrow.Author.Rules.{rules}
 use lib.ListN.{length}
 use Rattle.texts.specs.Numerals.{digits}
-use Rattle.texts.proofs.Numerals.{length_below_ten, length_step}
-use Rattle.texts.proofs.Lengths.{some_digit, at_most_twenty}
 use Rattle.texts.proofs.wide_digit_count.Given as goal
 
 abbrev pub invariant-loop-left : goal.invariant-loop-left

@@ -1,12 +1,7 @@
 -- `tree_check::all_once` meets its contract: the loop's invariant: if none has failed so far, the nodes passed are named once. The measure is what is left of them.
 -- Assumes nothing.
-use mathlib.Core.Bool.{true}
-use mathlib.Core.Path.{◌≡◌}
-use Prim.Native.Nat.{ℕ, ◌≤◌, ◌<◌, ◌-◌}
 use native.Mathlib.Omega.{arith}
-use lib.ListN.{get_or}
 use borrow.Author.Count.{below_more}
-use borrow.Author.Rules.{rules}
 use borrow.Author.Tests.{eqb-true}
 use Rattle.lists.specs.Choice.{and_left, and_right}
 use Rattle.tree_check.proofs.all_once.Goals as goal

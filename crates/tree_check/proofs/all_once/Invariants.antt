@@ -3,12 +3,7 @@
 use mathlib.Core.Bool.{true}
 use mathlib.Core.Path.{◌≡◌}
 use Prim.Native.Nat.{ℕ, ◌≤◌, ◌<◌, ◌-◌}
-use native.Mathlib.Omega.{arith}
 use lib.ListN.{get_or}
-use borrow.Author.Count.{below_more}
-use borrow.Author.Rules.{rules}
-use borrow.Author.Tests.{eqb-true}
-use Rattle.lists.specs.Choice.{and_left, and_right}
 use Rattle.tree_check.proofs.all_once.Given as goal
 
 abbrev pub invariant-loop-j : goal.invariant-loop-j

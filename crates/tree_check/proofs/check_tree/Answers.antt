@@ -3,7 +3,6 @@
 use mathlib.Core.Path.{sym, ◌∙◌, ap}
 use Rattle.refusals.specs.Verdict.{not_a_tree}
 use Rattle.tree_check.proofs.Named.{tree_refused, tree_passed}
-use borrow.Author.Rules.{rules}
 use Rattle.tree_check.proofs.check_tree.Goals as goal
 
 pub returns-then-j-last : goal.returns-then-j-last

@@ -1,6 +1,5 @@
 -- `tree_check::count_name` meets its contract: one store adds one name.
 -- Assumes nothing.
-use borrow.Author.Rules.{rules}
 use Rattle.tree_check.proofs.Named.{name_more}
 use Rattle.tree_check.proofs.count_name.Goals as goal
 

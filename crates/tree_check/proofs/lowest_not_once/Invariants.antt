@@ -1,14 +1,8 @@
 -- `tree_check::lowest_not_once` meets its contract: the loop's invariant: the nodes passed so far are named once. The measure is what is left of them.
 -- Assumes nothing.
-use mathlib.Core.Bool.{not}
-use mathlib.Core.Path.{◌≡◌, sym, ap}
+use mathlib.Core.Path.{◌≡◌}
 use Prim.Native.Nat.{ℕ, ◌≤◌, ◌<◌, ◌-◌}
-use native.Mathlib.Omega.{arith}
 use lib.ListN.{get_or}
-use borrow.Author.Count.{below_more}
-use borrow.Author.Rules.{rules}
-use borrow.Author.Tests.{eq-eqb, ne_eqb}
-use Rattle.lists.proofs.Search.{lowest_is, lowest_none}
 use Rattle.tree_check.proofs.lowest_not_once.Given as goal
 
 abbrev pub invariant-loop-j : goal.invariant-loop-j

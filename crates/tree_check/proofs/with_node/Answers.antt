@@ -1,7 +1,6 @@
 -- `tree_check::with_node` meets its contract: the fields that name node x, by the node's kind.
 -- Assumes nothing.
 use mathlib.Core.Path.{◌∙◌}
-use borrow.Author.Rules.{rules}
 use Rattle.tree_check.proofs.Users.{node_put}
 use Rattle.tree_check.proofs.with_node.Goals as goal
 

@@ -1,6 +1,5 @@
 -- `tree_check::with_user` meets its contract: each return, by how many users there were.
 -- Assumes nothing.
-use borrow.Author.Tests.{not-true, not-false}
 use Rattle.tree_check.proofs.Users.{put_none, put_first, put_second, put_further}
 use Rattle.tree_check.proofs.with_user.Goals as goal
 
