@@ -11,9 +11,11 @@ use notation::{find, first, part, read};
 use prefix_writer::PREFIX_WIDTH;
 use prenex::Answer;
 use refusals::{ACCEPTED, NOT_A_TREE, Verdict};
+use std::io;
 
-fn main() {
+fn main(rt: HostRuntime) -> io::Result<()> {
     show_lines(
+        &rt,
         b"no words: ;\n\
           constant 1: 1 1;\n\
           exists nothing over constant 0: 1 0, 5 0 0 0;\n\
@@ -27,85 +29,86 @@ fn main() {
           a number twice in one block: 2 1, 5 0 2 0; 2, 2\n\
           variable 65,535: 2 65535;\n\
           variable 65,536: 2 65536;\n",
-    );
-    room();
-    large();
-    long_list();
-    many_variables();
-    by_hand::compare_all();
+    )?;
+    room(&rt)?;
+    large(&rt)?;
+    long_list(&rt)?;
+    many_variables(&rt)?;
+    by_hand::compare_all(&rt)
 }
 
 // Lines of a formula each: its name, its nodes and its list.
-fn show_lines(text: &[u8]) {
+fn show_lines(rt: &impl Print, text: &[u8]) -> io::Result<()> {
     let mut start = 0;
     let mut i = 0;
     while i < text.len() {
-        start = show_ended(text, start, i);
+        start = show_ended(rt, text, start, i)?;
         i += 1;
     }
+    Ok(())
 }
 
 // Shows the line that ends here. Says where the line begins that the next byte is in.
-fn show_ended(text: &[u8], start: usize, i: usize) -> usize {
+fn show_ended(rt: &impl Print, text: &[u8], start: usize, i: usize) -> io::Result<usize> {
     if i < text.len() {
         if text[i] == b'\n' {
-            show_line(part(text, start, i));
-            return i + 1;
+            show_line(rt, part(text, start, i))?;
+            return Ok(i + 1);
         }
     }
-    start
+    Ok(start)
 }
 
-fn show_line(line: &[u8]) {
+fn show_line(rt: &impl Print, line: &[u8]) -> io::Result<()> {
     let mut entries = [0u32; 2];
     let colon = find(line, b':');
     let semicolon = find(line, b';');
     let nodes = part(line, std::num::wrapping_add_usize(colon, 2), semicolon);
     let list = part(line, std::num::wrapping_add_usize(semicolon, 2), line.len());
     let m = read(list, 1, &mut entries);
-    show_nodes(part(line, 0, colon), nodes, first(&entries, m));
+    show_nodes(rt, part(line, 0, colon), nodes, first(&entries, m))
 }
 
 // Prints a formula's name and what measuring says of its table.
-fn show_nodes(name: &[u8], nodes: &[u8], list: &[u32]) {
+fn show_nodes(rt: &impl Print, name: &[u8], nodes: &[u8], list: &[u32]) -> io::Result<()> {
     let mut words = [0u32; 6 * WIDTH];
     let n = read(nodes, WIDTH, &mut words);
-    show_words(name, first(&words, n), list);
+    show_words(rt, name, first(&words, n), list)
 }
 
-fn show_words(name: &[u8], words: &[u32], list: &[u32]) {
-    printing::text(name);
-    show_answer(prenex::measure(words, list));
+fn show_words(rt: &impl Print, name: &[u8], words: &[u32], list: &[u32]) -> io::Result<()> {
+    printing::text(rt, name)?;
+    show_answer(rt, prenex::measure(words, list))
 }
 
-fn show_answer(a: Answer) {
+fn show_answer(rt: &impl Print, a: Answer) -> io::Result<()> {
     let v = a.verdict;
     let s = a.sizes;
     if v.number != ACCEPTED {
-        show_refusal(v);
-        return;
+        return show_refusal(rt, v);
     }
     output::print(
+        rt,
         b": n #, b #, q #, depth #; form of # nodes, # prefix blocks, # prefix variables\n",
         &[s.n, s.b, s.q, s.depth, s.nodes, s.blocks, s.entries],
-    );
+    )
 }
 
-fn show_refusal(v: Verdict) {
+fn show_refusal(rt: &impl Print, v: Verdict) -> io::Result<()> {
     let users = v.users;
     if v.number == NOT_A_TREE {
-        output::print(
+        return output::print(
+            rt,
             b": refused, # at #, named by # and #\n",
             &[v.number, v.position, users.first, users.second],
         );
-        return;
     }
-    output::print(b": refused, # at #\n", &[v.number, v.position]);
+    output::print(rt, b": refused, # at #\n", &[v.number, v.position])
 }
 
 // Variable 1 xor (exists 2: 2 and 1), whose form has 15 nodes, lifted with a word too little room for
 // them and with just enough.
-fn room() {
+fn room(rt: &impl Print) -> io::Result<()> {
     let mut words = [0u32; 6 * WIDTH];
     let mut short = [0u32; 15 * WIDTH - 1];
     let mut nodes = [0u32; 15 * WIDTH];
@@ -116,43 +119,51 @@ fn room() {
         WIDTH,
         &mut words,
     );
-    printing::text(b"a block below an exclusive or, a word too little room");
-    show_answer(prenex::lift(&words, &[2], &mut short, &mut prefix, &mut variables));
-    printing::text(b"a block below an exclusive or, just enough room");
-    show_answer(prenex::lift(&words, &[2], &mut nodes, &mut prefix, &mut variables));
+    printing::text(rt, b"a block below an exclusive or, a word too little room")?;
+    show_answer(
+        rt,
+        prenex::lift(&words, &[2], &mut short, &mut prefix, &mut variables),
+    )?;
+    printing::text(rt, b"a block below an exclusive or, just enough room")?;
+    show_answer(
+        rt,
+        prenex::lift(&words, &[2], &mut nodes, &mut prefix, &mut variables),
+    )
 }
 
 // Five words of a chain, 4,096 nodes of it and all 4,097.
-fn large() {
+fn large(rt: &impl Print) -> io::Result<()> {
     let none = [0u32; 1];
     let mut words = [0u32; 4097 * WIDTH];
     chain(&mut words);
-    show_words(b"five words", first(&words, 5), &none[..0]);
-    show_words(b"4,096 nodes", first(&words, 4096 * WIDTH), &none[..0]);
-    show_words(b"4,097 nodes", &words, &none[..0]);
+    show_words(rt, b"five words", first(&words, 5), &none[..0])?;
+    show_words(rt, b"4,096 nodes", first(&words, 4096 * WIDTH), &none[..0])?;
+    show_words(rt, b"4,097 nodes", &words, &none[..0])
 }
 
 // Lists of 4,096 and 4,097 entries.
-fn long_list() {
+fn long_list(rt: &impl Print) -> io::Result<()> {
     let list = [0u32; 4097];
-    show_nodes(b"a list of 4,096", b"2 1", &list[..4096]);
-    show_nodes(b"a list of 4,097", b"2 1", &list);
+    show_nodes(rt, b"a list of 4,096", b"2 1", &list[..4096])?;
+    show_nodes(rt, b"a list of 4,097", b"2 1", &list)
 }
 
 // Two blocks over one range of 2,048 entries, and over one of 2,049.
-fn many_variables() {
+fn many_variables(rt: &impl Print) -> io::Result<()> {
     let mut list = [0u32; 2049];
     count_up(&mut list);
     show_nodes(
+        rt,
         b"two blocks of 2,048",
         b"2 1, 5 0 2048 0, 5 0 2048 1",
         &list,
-    );
+    )?;
     show_nodes(
+        rt,
         b"two blocks of 2,049",
         b"2 1, 5 0 2049 0, 5 0 2049 1",
         &list,
-    );
+    )
 }
 
 // Variable 1 under as many not nodes as there is room for.
