@@ -19,7 +19,7 @@ abbrev pub covers_entry : List ℕ → ℕ → ℕ → Bool
 covers_entry ws i k = is_block_kind (field ws i 0) && leb (field ws i 1) k && ltb k (field ws i 1 + field ws i 2)
 
 -- Lists of one length that hold the same in each entry that a block covers, whatever they hold elsewhere, are such lists: the law
--- `covered-alone` (proofs/Theorem.antt).
+-- `covered_alone` (proofs/Theorem.antt).
 abbrev pub CoveredAlone : Type 0
 CoveredAlone =
     (ws ls ls' : List ℕ) → length ls ≡ length ls'
@@ -36,6 +36,6 @@ pub record SameOutcomes (ws ls ls' : List ℕ) : Type 0 where
   pub same_listed : (names : List ℕ) → listed ws ls names ≡ listed ws ls' names
   pub same_removed : (nodes : List ℕ) → removed ws ls nodes ≡ removed ws ls' nodes
 
--- The theorem `by-ranges` (proofs/Theorem.antt).
+-- The theorem `by_ranges` (proofs/Theorem.antt).
 abbrev pub ByRanges : Type 0
 ByRanges = (ws ls ls' : List ℕ) → SameRanges ws ls ls' → SameOutcomes ws ls ls'

@@ -121,7 +121,7 @@ fn sizes_of(words: &[u32], list: &[u32], counts: Counts) -> Sizes
 
 // Lifts a table's quantifiers: writes the nodes, the prefix and the variables of its prenex form to
 // the starts of three buffers. The form's free variables are the table's, so the list of them is the
-// one that listing the table's free variables writes (`same-free` in `PrenexOf`, and the law
+// one that listing the table's free variables writes (`same_free` in `PrenexOf`, and the law
 // `SameList`).
 //
 // The contract rules out a lift that answers done and writes nothing, and one that writes to a buffer
