@@ -1,19 +1,17 @@
 -- What is found once a text has ended.
 -- Assumes nothing.
 use mathlib.Core.Path.{◌≡◌, refl, sym, ap, ◌∙◌, subst}
-use mathlib.Core.Bool.{true, false, ◌||◌}
+use mathlib.Core.Bool.{false}
 use mathlib.Core.List.{List, [], ◌∷◌, ◌++◌, append-nil}
-use Prim.Native.Nat.{ℕ, ◌+◌, ◌*◌, ◌≤◌, ◌<◌}
+use Prim.Native.Nat.{ℕ, ◌≤◌, ◌<◌}
 use native.Mathlib.Omega.{arith}
 use lib.ListN.{length, take}
 use borrow.Author.Tests.{eq-eqb}
-use Rattle.lists.specs.Choice.{or_neither_left}
-use Rattle.refusals.specs.Verdict.{refusal}
 use Rattle.name_lines.specs.declared.State.{State}
 use Rattle.name_lines.specs.declared.Found.{Found}
 use Rattle.name_lines.specs.Names.{line_end, ended, names, some_long, judged, names_verdict}
-use Rattle.name_lines.specs.Kept.{Taken, nothing, feed, through, names_of, kept_text, Few, Holds, many, few, HasRead}
-use Rattle.name_lines.proofs.Readings.{feed_end, through_append, names_through, kept_names, long_all, or_false}
+use Rattle.name_lines.specs.Kept.{Taken, nothing, feed, through, names_of, kept_text, Holds, many, few, HasRead}
+use Rattle.name_lines.proofs.Readings.{feed_end, through_append, names_through, kept_names, long_all}
 use Rattle.name_lines.proofs.Verdicts.{judged_many, Passed, passed, counted_refused, counted_done}
 
 names_read : (text : List ℕ) → names text ≡ names_of (through nothing text)

@@ -3,26 +3,13 @@
 use mathlib.Core.Path.{◌≡◌, refl, sym, ap, ◌∙◌, subst}
 use mathlib.Core.Bool.{true, false, ◌||◌}
 use mathlib.Core.List.{List, [], ◌∷◌, ◌++◌, flat_map, append_assoc, append-nil}
-use Prim.Native.Nat.{ℕ, suc, ◌+◌, ◌*◌, ◌<◌, ◌≤◌, min}
+use Prim.Native.Nat.{ℕ, suc, ◌+◌, ◌<◌, ◌≤◌}
 use native.Mathlib.Omega.{arith}
 use lib.Dec.{eqb, ltb}
-use lib.ListN.{length, take, set, get_or, length-append}
+use lib.ListN.{length, take, get_or, length-append}
 use lib.Seq.{take-suc-set, take_all}
 use borrow.Author.Tests.{ltb-true, ltb-false, lt-ltb, le-ltb, eq-eqb, ne_eqb, eqb-true, eqb-false}
-use Rattle.lists.specs.Choice.{
-  pick,
-  pick_yes,
-  pick_no,
-  Is,
-  is_true,
-  is_false,
-  look,
-  clash,
-  or_left,
-  or_right,
-  or_neither_left,
-  or_neither_right,
-}
+use Rattle.lists.specs.Choice.{Is, is_true, is_false, look, clash, or_right, or_neither_left, or_neither_right}
 use Rattle.name_lines.specs.declared.State.{State}
 use Rattle.name_lines.specs.Names.{line_end, ended, some_long}
 use Rattle.name_lines.specs.Kept.{name_line, Reading, nothing, feed, through, names_of, Few, StoredByte, Holds, many, few, HasRead}

@@ -1,6 +1,6 @@
 -- Verdicts on names.
 -- Assumes nothing.
-use mathlib.Core.Path.{◌≡◌, refl, sym, ap, ◌∙◌, subst}
+use mathlib.Core.Path.{◌≡◌, sym, ap, ◌∙◌, subst}
 use mathlib.Core.Bool.{Bool, true, false}
 use mathlib.Core.List.{List}
 use Prim.Native.Nat.{ℕ, ◌≤◌, ◌<◌}
@@ -8,10 +8,10 @@ use native.Mathlib.Omega.{arith}
 use lib.Dec.{eqb, ltb}
 use lib.ListN.{length}
 use borrow.Author.Tests.{eqb-true, eqb-false, ltb-true, ltb-false, lt-ltb, le-ltb}
-use Rattle.lists.specs.Choice.{pick, pick_yes, pick_no, Is, is_true, is_false, look}
+use Rattle.lists.specs.Choice.{pick_yes, pick_no, Is, is_true, is_false, look}
 use Rattle.refusals.specs.Verdict.{refusal, accepted, Plain}
 use Rattle.refusals.specs.declared.Verdict.{Verdict}
-use Rattle.refusals.specs.Outcome.{AnswerWith, done, refused}
+use Rattle.refusals.specs.Outcome.{done, refused}
 use Rattle.refusals.proofs.Outcome.{answer_next, answer_refused}
 use Rattle.refusals.proofs.Plain.{plain_refusal, plain_accepted}
 use Rattle.name_lines.specs.Names.{some_long, judged, names_verdict, counted}

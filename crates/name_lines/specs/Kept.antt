@@ -1,6 +1,6 @@
 -- What is kept of a text that comes in parts: its names, each with an LF after it, as far as there are at most 256 of at most 255 bytes.
 -- Assumes nothing.
-use Rattle.std.specs.Prelude.{Bool, false, ◌||◌, ◌≡◌, ℕ, ◌+◌, ◌*◌, ◌≤◌, ◌<◌, min, eqb, ltb, length, take, set}
+use Rattle.std.specs.Prelude.{false, ◌||◌, ◌≡◌, ℕ, ◌+◌, ◌*◌, ◌≤◌, ◌<◌, min, eqb, ltb, length, take, set}
 use mathlib.Core.List.{List, [], ◌∷◌, ◌++◌, flat_map}
 use Rattle.lists.specs.Choice.{pick}
 use Rattle.name_lines.specs.declared.State.{State}

@@ -5,7 +5,6 @@ use mathlib.Core.Bool.{Bool, true, false}
 use mathlib.Core.List.{List}
 use mathlib.Core.Path.{◌≡◌, refl, sym, ◌∙◌, ap, subst}
 use Prim.Native.Nat.{ℕ}
-use lib.Dec.{eqb}
 use Rattle.lists.specs.Choice.{pick, clash}
 use Rattle.lists.specs.Members.{mem}
 use Rattle.refusals.specs.Verdict.{refusal, accepted, Plain}

@@ -1,7 +1,7 @@
 -- Laws as statements, for a writer whose texts are to be read back. Each is proved under the name beside it: spells-within and spells-more in proofs/Bounds.antt, unique-any and unique-unbounded in
 -- crates/qcir_spelling/proofs/Unbounded.antt, prefix-kept in proofs/Theorem.antt. Those about positions stand in Positions.antt.
 -- Assumes nothing.
-use Rattle.std.specs.Prelude.{true, List, [], ◌↔◌, ◌≡◌, ℕ, ◌/◌, ◌≤◌}
+use Rattle.std.specs.Prelude.{true, List, [], ◌↔◌, ◌≡◌, ℕ, ◌≤◌}
 use Rattle.formula.specs.Words.{table_of}
 use Rattle.formula.specs.Valuation.{Valuation}
 use Rattle.formula.specs.Truth.{truth}

@@ -1,6 +1,6 @@
 -- Which texts are files (request S-1; QCIR-G14). A file is a sequence of signs; a text spells them one after the other.
 -- Assumes nothing.
-use Rattle.std.specs.Prelude.{Bool, true, false, ◌&&◌, ◌||◌, List, [], ◌∷◌, ◌++◌, ◌≡◌, ℕ, suc, ◌+◌, ◌-◌, ◌≤◌, ◌<◌, length, take}
+use Rattle.std.specs.Prelude.{Bool, true, false, ◌&&◌, ◌||◌, List, [], ◌∷◌, ◌++◌, ◌≡◌, ℕ, suc, ◌+◌, ◌≤◌, ◌<◌, length, take}
 use Rattle.lists.specs.Choice.{pick}
 use Rattle.lists.specs.Members.{mem, all}
 use Rattle.formula.specs.Node.{Quantifier, exists, for_all}

@@ -3,7 +3,6 @@
 use mathlib.Core.Path.{◌≡◌}
 use Prim.Native.Nat.{max}
 use native.Mathlib.Omega.{arith}
-use borrow.Author.Rules.{rules}
 use Rattle.block_counts.proofs.count_inner.Goals as goal
 
 pub returns-then-c-level : goal.returns-then-c-level

@@ -2,8 +2,6 @@
 -- Assumes nothing.
 use mathlib.Core.Path.{sym, ◌∙◌}
 use native.Mathlib.Omega.{arith}
-use borrow.Author.Rules.{rules}
-use borrow.Author.Tests.{not-true, not-false}
 use Rattle.arrays.proofs.Nodes.{nodes_few, block_read}
 use Rattle.chains.proofs.Chaining.{level_index, inner_chained, plain_chained}
 use Rattle.chains.proofs.chain_level.Goals as goal

@@ -3,10 +3,7 @@
 use mathlib.Core.Path.{◌≡◌, sym, ◌∙◌, subst}
 use Prim.Native.Nat.{◌+◌, ◌-◌, ◌<◌}
 use native.Mathlib.Omega.{arith}
-use lib.ListN.{length}
-use borrow.Author.Rules.{rules}
 use Rattle.formula.specs.Words.{node_count, table_of}
-use Rattle.acceptance.specs.Limits.{limit}
 use Rattle.arrays.proofs.Nodes.{accepted_tree}
 use Rattle.chains.specs.Chaining.{LevelsFrom}
 use Rattle.chains.proofs.Chaining.{levels_none, levels_done}

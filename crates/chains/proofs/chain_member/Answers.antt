@@ -1,7 +1,6 @@
 -- `chains::chain_member` meets its contract. The step is the law `member-chained`.
 -- Assumes nothing.
 use native.Mathlib.Omega.{arith}
-use borrow.Author.Rules.{rules}
 use Rattle.arrays.proofs.Nodes.{nodes_few}
 use Rattle.chains.proofs.Chaining.{parent_small, member_chained}
 use Rattle.chains.proofs.chain_member.Goals as goal

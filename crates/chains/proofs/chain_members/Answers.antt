@@ -2,12 +2,9 @@
 -- measure.
 -- Assumes nothing.
 use mathlib.Core.Path.{◌≡◌, sym, ◌∙◌}
-use Prim.Native.Nat.{◌≤◌}
 use native.Mathlib.Omega.{arith}
-use Rattle.formula.specs.Words.{node_count, table_of}
 use Rattle.acceptance.proofs.Accepted.{accepted_holds}
 use Rattle.prenex_form.proofs.Limits.{highest_limit}
-use Rattle.chains.specs.Chaining.{ChainedFrom}
 use Rattle.chains.proofs.Chaining.{passed_none, members_done, starts_done, highest_done}
 use Rattle.chains.proofs.chain_members.Goals as goal
 

@@ -1,14 +1,9 @@
 -- `chains::chain_members` meets its contract. The loop's invariant: the pass has done the nodes from `passed.node` up, which is the
 -- measure.
 -- Assumes nothing.
-use mathlib.Core.Path.{◌≡◌, sym, ◌∙◌}
 use Prim.Native.Nat.{◌≤◌}
-use native.Mathlib.Omega.{arith}
 use Rattle.formula.specs.Words.{node_count, table_of}
-use Rattle.acceptance.proofs.Accepted.{accepted_holds}
-use Rattle.prenex_form.proofs.Limits.{highest_limit}
 use Rattle.chains.specs.Chaining.{ChainedFrom}
-use Rattle.chains.proofs.Chaining.{passed_none, members_done, starts_done, highest_done}
 use Rattle.chains.proofs.chain_members.Given as goal
 
 abbrev pub invariant-loop-passed : goal.invariant-loop-passed

@@ -5,8 +5,7 @@ use mathlib.Core.Bool.{true}
 use Prim.Native.Nat.{◌+◌, ◌-◌, ◌<◌}
 use native.Mathlib.Omega.{arith}
 use lib.ListN.{length-set}
-use borrow.Author.Rules.{rules}
-use borrow.Author.Tests.{not-true, not-false}
+use borrow.Author.Tests.{not-false}
 use Rattle.formula.specs.Node.{is_block}
 use Rattle.formula.specs.Words.{node_count, node_at, table_of}
 use Rattle.arrays.proofs.Members.{block_member}

@@ -1,11 +1,7 @@
 -- `chains::highest_entry` meets its contract. The loop's invariant: the highest so far is that of the first k entries. The measure is what is left of the count.
 -- Assumes nothing.
 use mathlib.Core.Path.{◌≡◌}
-use Prim.Native.Nat.{◌-◌, ◌≤◌}
 use native.Mathlib.Omega.{arith}
-use borrow.Author.Rules.{rules}
-use Rattle.lists.specs.Members.{maximum}
-use Rattle.formula.specs.Words.{range}
 use Rattle.chains.proofs.Highest.{maximum_none, maximum_next}
 use Rattle.chains.proofs.highest_entry.Goals as goal
 

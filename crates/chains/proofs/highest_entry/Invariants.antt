@@ -2,11 +2,8 @@
 -- Assumes nothing.
 use mathlib.Core.Path.{◌≡◌}
 use Prim.Native.Nat.{◌-◌, ◌≤◌}
-use native.Mathlib.Omega.{arith}
-use borrow.Author.Rules.{rules}
 use Rattle.lists.specs.Members.{maximum}
 use Rattle.formula.specs.Words.{range}
-use Rattle.chains.proofs.Highest.{maximum_none, maximum_next}
 use Rattle.chains.proofs.highest_entry.Given as goal
 
 abbrev pub invariant-loop-k : goal.invariant-loop-k

@@ -4,7 +4,6 @@ use mathlib.Core.Path.{refl, ap}
 use Prim.Native.Nat.{ℕ}
 use native.Mathlib.Omega.{arith}
 use lib.ListN.{set}
-use borrow.Author.Rules.{rules}
 use Rattle.chains.proofs.put_first.Goals as goal
 
 pub returns : goal.returns

@@ -1,6 +1,4 @@
-use native.Mathlib.Omega.{arith}
 use Rattle.name_lines.proofs.Kept.{begins}
-use borrow.Author.Rules.{rules}
 use Rattle.name_lines.proofs.begin_name.Goals as goal
 
 pub returns : goal.returns

@@ -1,13 +1,10 @@
 -- `name_lines::check_names` meets its contract. The loop's invariant: the names counted and those left are all names.
 -- Assumes nothing.
-use mathlib.Core.Path.{◌≡◌, sym, ap, ◌∙◌}
-use Prim.Native.Nat.{◌≤◌, ◌<◌, ◌-◌}
+use mathlib.Core.Path.{sym, ◌∙◌}
 use native.Mathlib.Omega.{arith}
-use borrow.Author.Rules.{rules}
-use lib.ListN.{length}
 use Rattle.name_lines.specs.Names.{judged}
 use Rattle.name_lines.proofs.Verdicts.{counted_refused, counted_done}
-use Rattle.name_lines.proofs.Walk.{Walked, walked_start, walked_below, walked_next, walked_all}
+use Rattle.name_lines.proofs.Walk.{walked_start, walked_below, walked_next, walked_all}
 use Rattle.name_lines.proofs.check_names.Goals as goal
 
 pub loop-name-init : goal.loop-name-init

@@ -1,6 +1,4 @@
-use native.Mathlib.Omega.{arith}
 use Rattle.name_lines.proofs.Kept.{ends_empty, ends_name}
-use borrow.Author.Rules.{rules}
 use Rattle.name_lines.proofs.end_line.Goals as goal
 
 pub returns-then-s-eq0 : goal.returns-then-s-eq0

@@ -2,7 +2,6 @@
 -- Assumes nothing.
 use mathlib.Core.Path.{◌≡◌, refl, subst}
 use native.Mathlib.Omega.{arith}
-use borrow.Author.Rules.{rules}
 use Rattle.name_lines.proofs.Verdicts.{passed}
 use Rattle.name_lines.proofs.Endings.{taken_refused, taken_all}
 use Rattle.name_lines.proofs.finish.Goals as goal

@@ -1,6 +1,5 @@
 use native.Mathlib.Omega.{arith}
 use Rattle.name_lines.proofs.Kept.{goes_on, goes_on_long}
-use borrow.Author.Rules.{rules}
 use Rattle.name_lines.proofs.go_on.Goals as goal
 
 pub returns-then-s-gt-NAME : goal.returns-then-s-gt-NAME

@@ -2,7 +2,6 @@
 -- Assumes nothing.
 use mathlib.Core.Path.{sym, ◌∙◌}
 use native.Mathlib.Omega.{arith}
-use borrow.Author.Rules.{rules}
 use Rattle.name_lines.proofs.Verdicts.{judged_many, judged_long, judged_taken}
 use Rattle.name_lines.proofs.judge.Goals as goal
 

@@ -1,11 +1,9 @@
 -- `name_lines::line_end` meets its contract. The loop's invariant: the line goes on to i.
 -- Assumes nothing.
-use mathlib.Core.Path.{◌≡◌}
-use Prim.Native.Nat.{◌≤◌, ◌<◌, ◌-◌}
+use Prim.Native.Nat.{◌≤◌, ◌<◌}
 use native.Mathlib.Omega.{arith}
-use borrow.Author.Rules.{rules}
 use lib.ListN.{length}
-use Rattle.name_lines.proofs.Walk.{Begun, begun_start, begun_more, begun_end, begun_all}
+use Rattle.name_lines.proofs.Walk.{begun_start, begun_more, begun_end, begun_all}
 use Rattle.name_lines.proofs.line_end.Goals as goal
 
 pub loop-i-init : goal.loop-i-init

@@ -1,11 +1,8 @@
 -- `name_lines::line_end` meets its contract. The loop's invariant: the line goes on to i.
 -- Assumes nothing.
-use mathlib.Core.Path.{◌≡◌}
-use Prim.Native.Nat.{◌≤◌, ◌<◌, ◌-◌}
-use native.Mathlib.Omega.{arith}
-use borrow.Author.Rules.{rules}
+use Prim.Native.Nat.{◌≤◌, ◌-◌}
 use lib.ListN.{length}
-use Rattle.name_lines.proofs.Walk.{Begun, begun_start, begun_more, begun_end, begun_all}
+use Rattle.name_lines.proofs.Walk.{Begun}
 use Rattle.name_lines.proofs.line_end.Given as goal
 
 abbrev pub invariant-loop-i : goal.invariant-loop-i

@@ -1,7 +1,5 @@
 -- `name_lines::next_name` meets its contract.
 -- Assumes nothing.
-use native.Mathlib.Omega.{arith}
-use borrow.Author.Rules.{rules}
 use Rattle.name_lines.proofs.Walk.{past_end, next_name}
 use Rattle.name_lines.proofs.next_name.Goals as goal
 

@@ -1,10 +1,6 @@
 use borrow.Author.Rules.{rules}
 use native.Mathlib.Omega.{arith}
-use mathlib.Core.Path.{◌≡◌, refl, ◌∙◌}
-use mathlib.Core.List.{List, ◌++◌}
-use Prim.Native.Nat.{ℕ, ◌≤◌, ◌-◌}
-use lib.ListN.{length, take}
-use Rattle.name_lines.specs.Kept.{HasRead}
+use mathlib.Core.Path.{refl}
 use Rattle.name_lines.proofs.Kept.{read_none, read_more, read_all}
 use Rattle.name_lines.proofs.read_on.Goals as goal
 

@@ -1,11 +1,8 @@
-use borrow.Author.Rules.{rules}
-use native.Mathlib.Omega.{arith}
-use mathlib.Core.Path.{◌≡◌, refl, ◌∙◌}
+use mathlib.Core.Path.{◌≡◌}
 use mathlib.Core.List.{List, ◌++◌}
 use Prim.Native.Nat.{ℕ, ◌≤◌, ◌-◌}
 use lib.ListN.{length, take}
 use Rattle.name_lines.specs.Kept.{HasRead}
-use Rattle.name_lines.proofs.Kept.{read_none, read_more, read_all}
 use Rattle.name_lines.proofs.read_on.Given as goal
 
 abbrev pub invariant-loop-i : goal.invariant-loop-i

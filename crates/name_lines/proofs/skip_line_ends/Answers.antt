@@ -1,11 +1,9 @@
 -- `name_lines::skip_line_ends` meets its contract. The loop's invariant: there are LFs before i, which change no name.
 -- Assumes nothing.
-use mathlib.Core.Path.{◌≡◌, refl, ◌∙◌}
-use Prim.Native.Nat.{◌≤◌, ◌<◌, ◌-◌}
+use mathlib.Core.Path.{refl, ◌∙◌}
+use Prim.Native.Nat.{◌<◌}
 use native.Mathlib.Omega.{arith}
-use borrow.Author.Rules.{rules}
-use lib.ListN.{length, drop}
-use Rattle.name_lines.specs.Names.{names}
+use lib.ListN.{length}
 use Rattle.name_lines.proofs.Walk.{skip_end}
 use Rattle.name_lines.proofs.skip_line_ends.Goals as goal
 

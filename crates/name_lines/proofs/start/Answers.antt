@@ -1,5 +1,3 @@
-use borrow.Author.Rules.{rules}
-use native.Mathlib.Omega.{arith}
 use Rattle.name_lines.proofs.Kept.{started}
 use Rattle.name_lines.proofs.start.Goals as goal
 

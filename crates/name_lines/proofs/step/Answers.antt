@@ -1,6 +1,4 @@
-use native.Mathlib.Omega.{arith}
 use Rattle.name_lines.proofs.Kept.{still_over, for_byte}
-use borrow.Author.Rules.{rules}
 use Rattle.name_lines.proofs.step.Goals as goal
 
 pub returns-then-s-gt-NAMES : goal.returns-then-s-gt-NAMES
