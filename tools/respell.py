@@ -173,7 +173,7 @@ def turn_code(code, names, free, lib):
 
 
 def turn_span(text, names):
-    return SPAN.sub(lambda s: WORD.sub(lambda m: names.get(m[0], m[0]), s[0]), text)
+    return SPAN.sub(lambda s: "`" + WORD.sub(lambda m: names.get(m[0], m[0]), s[0][1:-1]) + "`", text)
 
 
 def turn_antt(text, names, free, lib):

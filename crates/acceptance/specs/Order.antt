@@ -1,5 +1,5 @@
 -- The order of the refusals by its property: what holds of a verdict is that its refusal applies, at the lowest node, and that none
--- before it does. That `verdictWithin` is this verdict is the law `verdict-order`; it and `users-of-eight` are proved in
+-- before it does. That `verdict_within` is this verdict is the law `verdict_order`; it and `users_of_eight` are proved in
 -- proofs/Order.antt.
 -- Assumes nothing.
 use Rattle.std.specs.Prelude.{true, false, List, ◌≡◌, ℕ, suc, ◌<◌}
@@ -15,7 +15,7 @@ pub record Whole (lim : TableLimits) (ws ls : List ℕ) : Type 0 where
   pub small : too_large lim ws ls ≡ false
 
 -- "Order: 1, 2; then nodes upward, each tested for 3 to 7 in that order; then 8. .. The first that applies is the answer." Refusal 16
--- is one of a node's faults, between 5 and 6 (nodeFault).
+-- is one of a node's faults, between 5 and 6 (node_fault).
 pub data FirstThatApplies (lim : TableLimits) (ws ls : List ℕ) : Verdict → Type 0 where
   partial : partial_node ws ≡ true → FirstThatApplies lim ws ls (refusal 1 0)
   large : partial_node ws ≡ false → too_large lim ws ls ≡ true → FirstThatApplies lim ws ls (refusal 2 0)
@@ -27,7 +27,7 @@ pub data FirstThatApplies (lim : TableLimits) (ws ls : List ℕ) : Verdict → T
   none : Whole lim ws ls → ((i : ℕ) → i < node_count ws → node_fault lim ws ls i ≡ 0)
       → ((k : ℕ) → suc k < node_count ws → not_named_once ws ls k ≡ false) → FirstThatApplies lim ws ls accepted
 
--- Request S-2, of the two users: "0 for every other number" than 8 (users-of-eight).
+-- Request S-2, of the two users: "0 for every other number" than 8 (users_of_eight).
 abbrev pub UsersOfEight : Type 0
 UsersOfEight =
     (lim : TableLimits) (ws ls : List ℕ) → ((verdict_within lim ws ls).number ≡ 8 → ⊥) → (verdict_within lim ws ls).users ≡ no_users

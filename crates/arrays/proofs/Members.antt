@@ -1,4 +1,4 @@
--- Laws of `isMember`: the nodes that stand in chains by their enclosing block.
+-- Laws of `is_member`: the nodes that stand in chains by their enclosing block.
 -- Assumes nothing.
 use mathlib.Core.Path.{◌≡◌, refl}
 use mathlib.Core.Bool.{true, false}

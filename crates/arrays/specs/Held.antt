@@ -52,8 +52,8 @@ member t b i = is_member (t.node i) && eqb (enclosing t i) b
 abbrev pub MemberChains : Table → List ℕ → List ℕ → Type 0
 MemberChains t firsts nexts = Chains (λ i. is_member (t.node i)) (enclosing t) t.size firsts nexts
 
--- The bound variables of all blocks, in node and list order. Entry e is one of block i's where boundBelow t i ≤ e and
--- e < boundBelow t (suc i).
+-- The bound variables of all blocks, in node and list order. Entry e is one of block i's where bound_below t i ≤ e and
+-- e < bound_below t (suc i).
 unfoldable pub entries : Table → List ℕ
 entries t = up_to (λ i. bound (t.node i)) t.size
 

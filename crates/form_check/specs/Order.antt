@@ -1,5 +1,5 @@
 -- The order of refusals 14 and 15 by its property: what holds of a verdict is that its refusal applies, at the first block, and that none
--- before it does. That `formVerdictWithin` is this verdict is the law `form-order` (proofs/Order.antt).
+-- before it does. That `form_verdict_within` is this verdict is the law `form_order` (proofs/Order.antt).
 -- Assumes nothing.
 use Rattle.std.specs.Prelude.{true, false, List, [], ◌≡◌, ℕ, ◌/◌, ◌%◌, ◌<◌, length}
 use Rattle.formula.specs.Form.{prefix_width}

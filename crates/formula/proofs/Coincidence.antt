@@ -1,5 +1,5 @@
 -- Only the numbers that are free matter (document 01: "what it gives to a number that is nowhere free in the table changes
--- neither value"). It holds of any table, whatever its operands: `value` and `freeAt` go down the same way.
+-- neither value"). It holds of any table, whatever its operands: `value` and `free_at` go down the same way.
 -- Assumes nothing.
 use mathlib.Core.Path.{◌≡◌, refl, sym, ◌∙◌, ap, ap₂}
 use mathlib.Core.Bool.{Bool, true, false, not, ◌&&◌, ◌||◌}

@@ -1,4 +1,4 @@
--- Proofs of the laws of specs/Laws.antt: `truth` and `formTruth` are what document 01 means, and nothing else is.
+-- Proofs of the laws of specs/Laws.antt: `truth` and `form_truth` are what document 01 means, and nothing else is.
 -- Assumes nothing.
 use mathlib.Core.Path.{◌≡◌, refl, sym, ◌∙◌, ap, fun_ext}
 use mathlib.Core.Bool.{Bool, true}

@@ -1,5 +1,5 @@
 -- The value of a node from those of its operands: where operands are lower than their users, the bound in `value` and
--- `freeAt` does not matter.
+-- `free_at` does not matter.
 -- Assumes nothing.
 use mathlib.Core.Path.{◌≡◌, refl, ◌∙◌, ap, ap₂}
 use mathlib.Core.Bool.{Bool, true, not, ◌&&◌, ◌||◌}

@@ -1,6 +1,6 @@
 -- Truth as document 01 tells it ("Truth and size"), sentence by sentence and with no recursion: what values given to the nodes
 -- of a table, and to the blocks of a prefix, must be. That there are such values, that there are no others, and that
--- `truth` and `formTruth` are among them are laws (specs/Laws.antt).
+-- `truth` and `form_truth` are among them are laws (specs/Laws.antt).
 -- Assumes nothing.
 use Rattle.std.specs.Prelude.{Bool, true, false, not, List, ◌∷◌, ◌↔◌, ◌≡◌, ℕ, suc, ◌<◌, length, drop}
 use Rattle.lists.specs.Members.{mem}

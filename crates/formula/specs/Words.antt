@@ -46,7 +46,7 @@ node_of ls w =
     (constant false))))))
 
 -- The words of a node, "fields not named .. are 0". Where a block's variables stand in the list is not the node's to say, so a
--- block has none. Read back, the words of any other node make it (proofs/Nodes.antt: words-node).
+-- block has none. Read back, the words of any other node make it (proofs/Nodes.antt: words_node).
 unfoldable pub words_of : Node → NodeWords
 words_of (constant b) = record { kind = 1; a = digit b; b = 0; c = 0 }
 words_of (variable x) = record { kind = 2; a = x; b = 0; c = 0 }

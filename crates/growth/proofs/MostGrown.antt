@@ -41,7 +41,7 @@ part_no : (g : Growth) → g.input ≡ 0 → takes_part g ≡ false
 unfolding takes_part
 part_no g h = le-ltb 0 g.input (omega arith)
 
--- What `moreGrown` chooses.
+-- What `more_grown` chooses.
 module _ (most here : Growth) where
   pub more_no_part : here.input ≡ 0 → more_grown most here ≡ most
   unfolding more_grown
@@ -121,7 +121,7 @@ unfolding most_growth
 only gs n _ (none h) = rw (none_most gs n h) (pick_no _ _ _ (le-ltb n n (omega arith)))
 only gs n _ (file best m) = rw (only_most gs n best m) (pick_yes _ _ _ (lt-ltb best n m.inside))
 
--- one file more makes `moreGrown` of it,
+-- one file more makes `more_grown` of it,
 module _ (gs : ℕ → Growth) (i : ℕ) where
   abbrev AtMost : ℕ → ℕ → Type 0
   AtMost best j = 0 < (gs j).input → (gs j).written * (gs best).input ≤ (gs best).written * (gs j).input

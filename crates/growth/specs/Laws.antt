@@ -11,14 +11,14 @@ pub record GrewMost (gs : ℕ → Growth) (n best : ℕ) : Type 0 where
   pub none_more : (i : ℕ) → i < n → 0 < (gs i).input → (gs i).written * (gs best).input ≤ (gs best).written * (gs i).input
   pub none_before : (i : ℕ) → i < best → 0 < (gs i).input → (gs i).written * (gs best).input < (gs best).written * (gs i).input
 
--- Where a file takes part, `mostGrown` is such a file (grew-most),
+-- Where a file takes part, `most_grown` is such a file (grew_most),
 abbrev pub MostGrewMost : Type 0
 MostGrewMost = (gs : ℕ → Growth) (n i : ℕ) → i < n → 0 < (gs i).input → GrewMost gs n (most_grown gs n)
 
--- and no other is (only-most).
+-- and no other is (only_most).
 abbrev pub OnlyMost : Type 0
 OnlyMost = (gs : ℕ → Growth) (n i : ℕ) → GrewMost gs n i → most_grown gs n ≡ i
 
--- Where none does, it is no file (none-most).
+-- Where none does, it is no file (none_most).
 abbrev pub NoneMost : Type 0
 NoneMost = (gs : ℕ → Growth) (n : ℕ) → ((i : ℕ) → i < n → 0 < (gs i).input → ⊥) → most_grown gs n ≡ n

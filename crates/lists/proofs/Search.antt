@@ -1,4 +1,4 @@
--- Laws of `lowest`: it is what its name says; and of `someBelow`, step by step.
+-- Laws of `lowest`: it is what its name says; and of `some_below`, step by step.
 -- Assumes nothing.
 use mathlib.Core.Path.{◌≡◌, refl, ◌∙◌}
 use mathlib.Core.Bool.{Bool, true, false, ◌||◌}

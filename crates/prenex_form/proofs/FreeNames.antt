@@ -54,7 +54,7 @@ stands_variable x (negation a) h = clash h refl
 stands_variable x (operator f a b) h = clash h refl
 stands_variable x (block q xs a) h = clash h refl
 
--- x stands at a variable node, and no block above the node binds it. In a tree this is what `free` says: free-stands, stands-free.
+-- x stands at a variable node, and no block above the node binds it. In a tree this is what `free` says: free_stands, stands_free.
 pub record Stands (t : Table) (x : ℕ) : Type 0 where
   pub node : ℕ
   pub within : node < t.size

@@ -1,5 +1,5 @@
 -- The prefix of a prenex form: its words read back as its blocks, no variable stands twice in it, and how long it
--- is. Its names are at most `lastName`.
+-- is. Its names are at most `last_name`.
 -- Assumes nothing.
 use mathlib.Core.Path.{◌≡◌, refl, sym, ◌∙◌, ap, subst}
 use mathlib.Core.Bool.{Bool, true, false, ◌&&◌}

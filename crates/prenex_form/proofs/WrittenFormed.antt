@@ -1,4 +1,4 @@
--- The written nodes are well formed: their names are from 1 up to `highestName`, their truth tables from 0 to 15.
+-- The written nodes are well formed: their names are from 1 up to `highest_name`, their truth tables from 0 to 15.
 -- Assumes nothing.
 use mathlib.Core.Path.{◌≡◌, refl, sym, ◌∙◌}
 use mathlib.Core.Bool.{true, false}

@@ -16,7 +16,7 @@ unbound_at t x i = stands_at x (t.node i) && eqb (binder t i x) t.size
 unfoldable pub stands_unbound : Table → ℕ → Bool
 stands_unbound t x = some_below (unbound_at t x) t.size
 
--- The free variables of a table, free in the sense of truth, are the list of these numbers: the theorem `free-by-binder`
+-- The free variables of a table, free in the sense of truth, are the list of these numbers: the theorem `free_by_binder`
 -- (proofs/FreeNames.antt).
 abbrev pub FreeByBinder : Type 0
 FreeByBinder = (t : Table) → Tree t → free_variables t ≡ passing (stands_unbound t) (suc (highest_variable t))

@@ -1,6 +1,6 @@
 -- What is owed of a prenex form: the three lists ns (words of nodes), ps (words of prefix blocks) and xs (variables) are a
 -- prenex form of the table t, with its truth value under every valuation and within the promised sizes. That the written form of
--- every accepted table is one is the theorem `prenex`, and that it has the measured sizes the theorem `sizes-written`
+-- every accepted table is one is the theorem `prenex`, and that it has the measured sizes the theorem `sizes_written`
 -- (proofs/Theorem.antt).
 -- Assumes nothing.
 use Rattle.std.specs.Prelude.{Bool, true, false, ◌||◌, List, [], ◌≡◌, ℕ, ◌+◌, ◌*◌, ◌/◌, ◌<◌, ◌≤◌, length, get_or}
@@ -64,15 +64,15 @@ pub record PrenexOf (t : Table) (ns ps xs : List ℕ) : Type 0 where
   pub nodes_limit : node_count ns ≤ 40960
   pub names_limit : highest_name t ≤ 77823
 
--- The list of the free variables of a prenex form is the table's own, the one that listing writes: the theorem `same-list`
--- (proofs/Theorem.antt), by `same-free`.
+-- The list of the free variables of a prenex form is the table's own, the one that listing writes: the theorem `same_list`
+-- (proofs/Theorem.antt), by `same_free`.
 abbrev pub SameList : Type 0
 SameList =
     (t : Table) → Tree t → (ns ps xs : List ℕ) → PrenexOf t ns ps xs
     → form_free_variables ns ps xs ≡ free_variables t
 
 -- The nodes of a form pass the checker's tests, with 40,960 nodes and numbers up to 77,823 allowed and no blocks: the theorem
--- `matrix-passes` (proofs/Theorem.antt).
+-- `matrix_passes` (proofs/Theorem.antt).
 abbrev pub MatrixPasses : List ℕ → Type 0
 MatrixPasses ns = verdict_within (matrix_limits 77823) ns [] ≡ accepted
 
@@ -87,7 +87,7 @@ unfoldable pub holds : Table → ℕ → Bool
 holds t x = some_node t (λ nd. stands_at x nd || mem x (bound nd))
 
 -- "A setting gives 0 (false) or 1 (true) to each whole number from 1 up". A valuation gives a value to 0 too, which changes nothing:
--- no accepted table and no prenex form of one holds the number 0. This is the theorem `zero-unused` (proofs/Theorem.antt).
+-- no accepted table and no prenex form of one holds the number 0. This is the theorem `zero_unused` (proofs/Theorem.antt).
 pub record ZeroUnused (t : Table) (ns ps xs : List ℕ) : Type 0 where
   pub not_in_table : holds t 0 ≡ false
   pub not_in_matrix : holds (table_of ns []) 0 ≡ false

@@ -33,7 +33,7 @@ unfoldable pub prefix_count : Table → ℕ
 prefix_count t = pick (eqb (block_count t) 0) 0 (pick (is_block (t.node (t.size - 1))) (depth t) (depth t + 1))
 
 -- The lengths of what is written, counted on the table alone. That this holds of every tree without empty blocks is the theorem
--- `size-rule` (proofs/Theorem.antt).
+-- `size_rule` (proofs/Theorem.antt).
 pub record SizeRule (t : Table) : Type 0 where
   -- "So K nodes are joined by 4 × count + 5 for each inner block"; request S-6: "The size rule loses its case for count 0"
   pub nodes_rule : length (prenex_nodes t) ≡ kept t + sum (added_by t) t.size

@@ -74,7 +74,7 @@ module _ {Sizes Buffers : Type 0} where
     abbrev pub OnlyFromText : List ℕ → Outcome Sizes Buffers → Type 0
     OnlyFromText text o = (p : Outcome Sizes Buffers) → FromText text p → p ≡ o
 
-    -- An outcome of the text, and no other. Every text has one, within any limits that allow a name (`every-text`, qcir_reader's
+    -- An outcome of the text, and no other. Every text has one, within any limits that allow a name (`every_text`, qcir_reader's
     -- proofs/Unique.antt).
     pub record OneOutcome (text : List ℕ) : Type 0 where
       pub result : Outcome Sizes Buffers

@@ -61,22 +61,22 @@ pub record SpellsUnplaced (most : ℕ) (text : List ℕ) (f : File) : Type 0 whe
   pub parts : text ++ (10 ∷ []) ≡ header ++ (count ++ rest)
   pub spelled : SpelledUnplaced most (newline ∷ file_signs f) rest
 
--- The laws. Those of texts are proved under the names beside them in proofs/Positions.antt, but for `one-said`, which stands in
+-- The laws. Those of texts are proved under the names beside them in proofs/Positions.antt, but for `one_said`, which stands in
 -- qcir_spelling's proofs/Positions.antt; the others in proofs/Unplaced.antt.
 
--- A text that spells a file without positions says it (spells-says),
+-- A text that spells a file without positions says it (spells_says),
 abbrev pub SpellsSays : Type 0
 SpellsSays = (most : ℕ) (text : List ℕ) (f : File) → SpellsUnplaced most text f → Says most text f
 
--- and one that says a file spells it without positions (says-spells).
+-- and one that says a file spells it without positions (says_spells).
 abbrev pub SaysSpells : Type 0
 SaysSpells = (most : ℕ) (text : List ℕ) (f : File) → Says most text f → SpellsUnplaced most text (unplaced f)
 
--- All files that a text says are the same apart from positions, whatever the limits on names (one-said).
+-- All files that a text says are the same apart from positions, whatever the limits on names (one_said).
 abbrev pub OneSaid : Type 0
 OneSaid = (a b : ℕ) (text : List ℕ) (f g : File) → Says a text f → Says b text g → unplaced f ≡ unplaced g
 
--- To take the positions away again changes nothing (unplaced-again).
+-- To take the positions away again changes nothing (unplaced_again).
 abbrev pub UnplacedAgain : Type 0
 UnplacedAgain = (f : File) → unplaced (unplaced f) ≡ unplaced f
 
@@ -84,21 +84,21 @@ UnplacedAgain = (f : File) → unplaced (unplaced f) ≡ unplaced f
 abbrev pub TruthUnplaced : Type 0
 TruthUnplaced = (f : File) (v : Valuation) → file_truth (unplaced f) v ≡ file_truth f v
 
--- nor to refusals 13 and 12 (not-used-once-unplaced, unbound-unplaced),
+-- nor to refusals 13 and 12 (not_used_once-unplaced, unbound-unplaced),
 abbrev pub NotUsedOnceUnplaced : Type 0
 NotUsedOnceUnplaced = (f : File) → not_used_once (unplaced f) ≡ not_used_once f
 
 abbrev pub UnboundUnplaced : Type 0
 UnboundUnplaced = (f : File) → unbound (unplaced f) ≡ unbound f
 
--- nor to its table (words-unplaced, list-unplaced),
+-- nor to its table (words_unplaced, list_unplaced),
 abbrev pub WordsUnplaced : Type 0
 WordsUnplaced = (f : File) → table_words (unplaced f) ≡ table_words f
 
 abbrev pub ListUnplaced : Type 0
 ListUnplaced = (f : File) → table_list (unplaced f) ≡ table_list f
 
--- nor to the two steps of storing it with the prefix lines kept as prefix (matrix-unplaced, blocks-unplaced);
+-- nor to the two steps of storing it with the prefix lines kept as prefix (matrix_unplaced, blocks_unplaced);
 abbrev pub MatrixUnplaced : Type 0
 MatrixUnplaced = (f : File) → store_matrix (unplaced f) ≡ store_matrix f
 

@@ -59,7 +59,7 @@ Reading lim text before o = FromText lim none_written before (stored before) tex
 abbrev pub Only : Limits → List ℕ → Buffers → Outcome Written Buffers → Type 0
 Only lim text before o = OnlyFromText lim none_written before (stored before) text o
 
--- Every text is read, and in one way, within any limits that allow a name (`every-text-read`, qcir_reader's proofs/Unique.antt).
+-- Every text is read, and in one way, within any limits that allow a name (`every_text_read`, qcir_reader's proofs/Unique.antt).
 abbrev pub EveryTextRead : Type 0
 EveryTextRead = (lim : Limits) (text : List ℕ) (before : Buffers) → 1 ≤ lim.names → OneOutcome lim none_written before (stored before) text
 

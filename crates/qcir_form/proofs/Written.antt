@@ -1,5 +1,5 @@
 -- Which nodes are written, from the root down, and what stands for them: where operands are lower than their users, the bounds in
--- `hangsOn` and `literalAt` do not matter.
+-- `hangs_on` and `literal_at` do not matter.
 -- Assumes nothing.
 use mathlib.Core.Path.{◌≡◌, refl, ap, ap₂}
 use mathlib.Core.Bool.{Bool, true, false, ◌||◌}

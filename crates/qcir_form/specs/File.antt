@@ -41,7 +41,7 @@ some p [] = false
 some p (x ∷ xs) = p x || some p xs
 
 -- Node i is node j, or hangs on it by operands that are not ignored. The first argument bounds how far down operands go; where they are
--- lower than their users it says nothing (hang-bound, proofs/Written.antt).
+-- lower than their users it says nothing (hang_bound, proofs/Written.antt).
 unfoldable pub hangs_on : ℕ → Table → ℕ → ℕ → Bool
 hangs_on zero t i j = false
 hangs_on (suc f) t i j = eqb i j || some (hangs_on f t i) (used_operands (t.node j))
@@ -93,7 +93,7 @@ node_literal at g (operator f a b) = row_literal (row f).kind (row f).whole g (a
 node_literal at g (block q xs a) = literal false g
 
 -- What stands for node i, the gates being numbered so. The first argument bounds how far down operands go, and says no more than that of
--- `hangsOn` (literal-bound, proofs/Written.antt).
+-- `hangs_on` (literal-bound, proofs/Written.antt).
 unfoldable pub literal_at : ℕ → (ℕ → Node) → (ℕ → ℕ) → ℕ → Literal
 literal_at zero node gate i = literal false 0
 literal_at (suc f) node gate i = node_literal (literal_at f node gate) (gate i) (node i)

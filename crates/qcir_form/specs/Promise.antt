@@ -1,5 +1,5 @@
 -- What is owed of a text that is written for a form. That it holds of the text of every form that neither 14 nor 15 refuses is the theorem
--- `text-written` (crates/qcir_round_trip/proofs/Theorem.antt).
+-- `text_written` (crates/qcir_round_trip/proofs/Theorem.antt).
 -- Assumes nothing.
 use Rattle.std.specs.Prelude.{List, [], ◌≡◌, ℕ}
 use Rattle.formula.specs.Valuation.{Valuation}

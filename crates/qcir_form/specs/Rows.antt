@@ -68,6 +68,6 @@ kind_value xor_row l r = xor l r
 unfoldable pub row_value : OperatorRow → Bool → Bool → Bool
 row_value w l r = xor w.whole (kind_value w.kind (xor w.left l) (xor w.right r))
 
--- The rule of the rows: each has its operator's value (row-rule, proofs/Rows.antt).
+-- The rule of the rows: each has its operator's value (row_rule, proofs/Rows.antt).
 abbrev pub RowRule : Type 0
 RowRule = (f : ℕ) → f < 16 → (l r : Bool) → row_value (row f) l r ≡ operator_value f l r

@@ -6,7 +6,7 @@ use Rattle.qdimacs.specs.Problem.{Problem}
 use Rattle.qdimacs.specs.Spelling.{Grammatical, Says}
 use Rattle.qdimacs.specs.Text.{problem_text}
 
--- A text says at most one problem (one-problem),
+-- A text says at most one problem (one_problem),
 abbrev pub OneProblem : Type 0
 OneProblem = (text : List ℕ) (p q : Problem) → Says text p → Says text q → p ≡ q
 

@@ -25,7 +25,7 @@ abbrev pub Satisfiable : (Valuation → Bool) → Type 0
 Satisfiable f = (u : Valuation) × (f u ≡ true)
 
 -- "The file is true exactly if some setting of the open names makes the form true", under whatever valuation the file is read
--- (problem-truth, proofs/Truth.antt).
+-- (problem_truth_lem, proofs/Truth.antt).
 abbrev pub TrueIfSatisfiable : Problem → (Valuation → Bool) → Type 0
 TrueIfSatisfiable p f = (v : Valuation) → (problem_truth p v ≡ true) ↔ Satisfiable f
 
@@ -33,7 +33,7 @@ abbrev pub ProblemTruth : Type 0
 ProblemTruth = OfEveryForm (λ p ns ps xs. TrueIfSatisfiable p (form_truth ns ps xs))
 
 -- "the header gives the highest gate number and the exact clause count": the highest number in the file, and how many clauses it has
--- (problem-header, proofs/Numbers.antt).
+-- (problem_header, proofs/Numbers.antt).
 pub record HeaderExact (p : Problem) : Type 0 where
   pub highest : p.variables ≡ maximum (problem_numbers p)
   pub counted : p.count ≡ length p.clauses
@@ -41,21 +41,21 @@ pub record HeaderExact (p : Problem) : Type 0 where
 abbrev pub ProblemHeader : Type 0
 ProblemHeader = OfEveryForm (λ p ns ps xs. HeaderExact p)
 
--- No clause is empty, has a variable twice or is a tautology (problem-clauses, proofs/Sound.antt).
+-- No clause is empty, has a variable twice or is a tautology (problem_clauses, proofs/Sound.antt).
 unfoldable pub sound_clause : Clause → Bool
 sound_clause c = not (eqb (length c) 0) && distinct (clause_variables c) && not (is_tautology c)
 
 abbrev pub ProblemClauses : Type 0
 ProblemClauses = OfEveryForm (λ p ns ps xs. every sound_clause p.clauses ≡ true)
 
--- Every variable of a clause stands in exactly one block, and there once (problem-bound, proofs/Bound.antt).
+-- Every variable of a clause stands in exactly one block, and there once (problem_bound, proofs/Bound.antt).
 unfoldable pub bound_once : List Block → Clause → Bool
 bound_once bs c = all (λ x. eqb (times x (prefix_names bs)) 1) (clause_variables c)
 
 abbrev pub ProblemBound : Type 0
 ProblemBound = OfEveryForm (λ p ns ps xs. every (bound_once p.blocks) p.clauses ≡ true)
 
--- Blocks alternate, none is empty, and the last is exists (problem-blocks, proofs/Blocks.antt).
+-- Blocks alternate, none is empty, and the last is exists (problem_blocks, proofs/Blocks.antt).
 unfoldable pub alternate : List Block → Bool
 alternate [] = true
 alternate (b ∷ []) = true
@@ -74,11 +74,11 @@ pub record BlocksInOrder (bs : List Block) : Type 0 where
 abbrev pub ProblemBlocks : Type 0
 ProblemBlocks = OfEveryForm (λ p ns ps xs. BlocksInOrder p.blocks)
 
--- It is one that the format has (problem-grammatical, proofs/Grammatical.antt).
+-- It is one that the format has (problem_grammatical, proofs/Grammatical.antt).
 abbrev pub ProblemGrammatical : Type 0
 ProblemGrammatical = OfEveryForm (λ p ns ps xs. Grammatical p)
 
--- Bytes that are always enough for the text of a form with so many nodes, prefix blocks and list entries (text-room, proofs/Room.antt).
+-- Bytes that are always enough for the text of a form with so many nodes, prefix blocks and list entries (text_room, proofs/Room.antt).
 abbrev pub room_for : ℕ → ℕ → ℕ → ℕ
 room_for nodes blocks entries = 64 * (nodes + 1) + 4 * blocks + 6 * entries
 

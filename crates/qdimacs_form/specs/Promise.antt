@@ -1,5 +1,5 @@
 -- What is owed of a QDIMACS text that is written for a form. That it holds of the text of every form that neither 14 nor 15 refuses is the
--- theorem `clauses-written` (proofs/Theorem.antt).
+-- theorem `clauses_written` (proofs/Theorem.antt).
 -- Assumes nothing.
 use Rattle.std.specs.Prelude.{true, List, ◌≡◌, ℕ}
 use Rattle.formula.specs.Form.{form_truth}

@@ -68,7 +68,7 @@ pub record RootBox (t : Table) (q : Quantifier) (xs : List ℕ) (a : ℕ) (ns ps
       → NoneBefore q (root_names t ++ first_copies t) (rest_truth ns ps ys) v u
       → NoneBefore q xs (value t.size t a) v (given xs (root_names t) u v)
 
--- The theorem `root-box` (proofs/RootBox.antt).
+-- The theorem `root_box` (proofs/RootBox.antt).
 abbrev pub RootBoxes : Type 0
 RootBoxes =
     (ws ls : List ℕ) → verdict ws ls ≡ accepted

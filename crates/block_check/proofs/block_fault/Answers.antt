@@ -1,4 +1,4 @@
--- `block_check::block_fault` meets its contract: each return is one of the five answers of `blockFault`, and past refusals 4 and 5 the body
+-- `block_check::block_fault` meets its contract: each return is one of the five answers of `block_fault`, and past refusals 4 and 5 the body
 -- is lower and is counted.
 -- Assumes nothing.
 use mathlib.Core.Path.{refl, sym}

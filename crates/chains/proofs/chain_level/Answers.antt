@@ -1,4 +1,4 @@
--- `chains::chain_level` meets its contract. A node that is no block is the law `plain-chained`, a block `inner-chained`.
+-- `chains::chain_level` meets its contract. A node that is no block is the law `plain_chained`, a block `inner_chained`.
 -- Assumes nothing.
 use mathlib.Core.Path.{sym, ◌∙◌}
 use native.Mathlib.Omega.{arith}

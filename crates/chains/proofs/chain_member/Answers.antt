@@ -1,4 +1,4 @@
--- `chains::chain_member` meets its contract. The step is the law `member-chained`.
+-- `chains::chain_member` meets its contract. The step is the law `member_chained`.
 -- Assumes nothing.
 use native.Mathlib.Omega.{arith}
 use Rattle.arrays.proofs.Nodes.{nodes_few}

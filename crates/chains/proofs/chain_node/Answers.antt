@@ -1,4 +1,4 @@
--- `chains::chain_node` meets its contract. One step of the pass is the law `variable-passed`, `plain-passed` or `block-passed`.
+-- `chains::chain_node` meets its contract. One step of the pass is the law `variable_passed`, `plain_passed` or `block_passed`.
 -- Assumes nothing.
 use mathlib.Core.Path.{◌≡◌, sym, ◌∙◌, subst}
 use mathlib.Core.Bool.{true}

@@ -1,4 +1,4 @@
--- `form_check::check_prefix` meets its contract: each return is one of the answers of `prefixVerdict`.
+-- `form_check::check_prefix` meets its contract: each return is one of the answers of `prefix_verdict`.
 -- Assumes nothing.
 use native.Mathlib.Omega.{arith}
 use Rattle.form_check.proofs.Flags.{prefix_ragged, prefix_bad, prefix_passed, prefix_flagged}

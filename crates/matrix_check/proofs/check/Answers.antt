@@ -1,4 +1,4 @@
--- `matrix_check::check` meets its contract: each return is one of the answers of `verdictWithin`, and what the scan of the counts requires follows from the pass over the nodes.
+-- `matrix_check::check` meets its contract: each return is one of the answers of `verdict_within`, and what the scan of the counts requires follows from the pass over the nodes.
 -- Assumes nothing.
 use mathlib.Core.Bool.{false, ◌||◌}
 use mathlib.Core.Path.{◌≡◌, ◌∙◌}

@@ -1,10 +1,9 @@
 -- `qcir_header::header_end` meets its contract. The invariant: the text has the header's bytes so far, and its end is that of what comes from here on.
 -- Assumes nothing.
 use mathlib.Core.Path.{◌≡◌, sym, ap}
-use Prim.Native.Nat.{suc, ◌+◌, ◌-◌, ◌≤◌, ◌<◌}
+use Prim.Native.Nat.{suc, ◌+◌, ◌-◌, ◌<◌}
 use native.Mathlib.Omega.{arith}
-use lib.ListN.{length, get_or, drop}
-use borrow.Author.Rules.{rules}
+use lib.ListN.{get_or, drop}
 use Rattle.qcir.specs.Spelling.{header}
 use Rattle.qcir_header.specs.Header.{common, header_end}
 use Rattle.qcir_header.proofs.Common.{common_ended, common_whole, common_differs, common_next}

@@ -1,13 +1,10 @@
 -- `qcir_header::header_end` meets its contract. The invariant: the text has the header's bytes so far, and its end is that of what comes from here on.
 -- Assumes nothing.
-use mathlib.Core.Path.{◌≡◌, sym, ap}
-use Prim.Native.Nat.{suc, ◌+◌, ◌-◌, ◌≤◌, ◌<◌}
-use native.Mathlib.Omega.{arith}
-use lib.ListN.{length, get_or, drop}
-use borrow.Author.Rules.{rules}
+use mathlib.Core.Path.{◌≡◌}
+use Prim.Native.Nat.{◌+◌, ◌-◌, ◌≤◌}
+use lib.ListN.{length, drop}
 use Rattle.qcir.specs.Spelling.{header}
 use Rattle.qcir_header.specs.Header.{common, header_end}
-use Rattle.qcir_header.proofs.Common.{common_ended, common_whole, common_differs, common_next}
 use Rattle.qcir_header.proofs.header_end.Given as goal
 
 abbrev pub invariant-loop-at : goal.invariant-loop-at

@@ -1,5 +1,5 @@
 -- `range_check::enter` meets its contract: the walk starts at the head of the variable's chain, and meets the variable exactly if an entry of the block before it is
--- the same; the push is the one that `chains-more` speaks of.
+-- the same; the push is the one that `chains_more` speaks of.
 -- Assumes nothing.
 use mathlib.Core.Bool.{true, false, not}
 use mathlib.Core.Path.{◌≡◌, refl, sym, ◌∙◌, ap}
