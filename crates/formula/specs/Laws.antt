@@ -43,7 +43,7 @@ ForAllRead = (xs : List ℕ) (f : Valuation → Bool) (v : Valuation) → (quant
 abbrev pub ValueMeans : Type 0
 ValueMeans = (t : Table) → Tree t → TableMeaning t (value t.size t)
 
--- there are no others (one-meaning),
+-- there are no others (one_meaning),
 abbrev pub OneMeaning : Type 0
 OneMeaning =
     (t : Table) → Tree t
@@ -56,7 +56,7 @@ TruthMeans =
     (t : Table) → Tree t
     → (val : ℕ → Valuation → Bool) → TableMeaning t val → (v : Valuation) → truth t v ≡ val (t.size - 1) v
 
--- The bound on which `value` and `free_at` recurse says nothing (value-bound, free-bound).
+-- The bound on which `value` and `free_at` recurse says nothing (value_bound, free_bound).
 abbrev pub ValueBound : Type 0
 ValueBound =
     (t : Table) → Tree t
@@ -110,12 +110,12 @@ UsersRead = (t : Table) (i : ℕ) → UsersOf t i (users t i)
 abbrev pub OneListOfUsers : Type 0
 OneListOfUsers = (t : Table) (i : ℕ) (us us' : List ℕ) → UsersOf t i us → UsersOf t i us' → us ≡ us'
 
--- and it is as long as the node is named often (users-counted).
+-- and it is as long as the node is named often (users_counted).
 abbrev pub UsersCounted : Type 0
 UsersCounted = (t : Table) (i : ℕ) → length (users t i) ≡ times_named t i
 
--- Free variables. A number is in the list exactly if it is free, and the list ascends strictly (free-listed, form_free-listed): no
--- other list does so (one-list, crates/lists/proofs/Passing.antt).
+-- Free variables. A number is in the list exactly if it is free, and the list ascends strictly (free_listed, form_free-listed): no
+-- other list does so (one_list, crates/lists/proofs/Passing.antt).
 abbrev pub FreeListed : Type 0
 FreeListed = (t : Table) → Tree t → ListOf (free t) (free_variables t)
 

@@ -43,7 +43,7 @@ abbrev pub StrictlyAscending : List ℕ → Type 0
 StrictlyAscending xs = (k m : ℕ) → k < m → m < length xs → get_or xs k 0 < get_or xs m 0
 
 -- What holds of the list of the numbers that pass a test: they stand in it, and nothing else does, ascending and once each. There
--- is one such list at most (proofs/Passing.antt: one-list).
+-- is one such list at most (proofs/Passing.antt: one_list).
 pub record ListOf (p : ℕ → Bool) (xs : List ℕ) : Type 0 where
   pub members : (x : ℕ) → mem x xs ≡ p x
   pub ascending : StrictlyAscending xs

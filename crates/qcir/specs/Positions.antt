@@ -80,11 +80,11 @@ OneSaid = (a b : ℕ) (text : List ℕ) (f g : File) → Says a text f → Says 
 abbrev pub UnplacedAgain : Type 0
 UnplacedAgain = (f : File) → unplaced (unplaced f) ≡ unplaced f
 
--- Positions matter neither to a file's truth value (truth-unplaced),
+-- Positions matter neither to a file's truth value (truth_unplaced),
 abbrev pub TruthUnplaced : Type 0
 TruthUnplaced = (f : File) (v : Valuation) → file_truth (unplaced f) v ≡ file_truth f v
 
--- nor to refusals 13 and 12 (not_used_once-unplaced, unbound-unplaced),
+-- nor to refusals 13 and 12 (not_used_once-unplaced, unbound_unplaced),
 abbrev pub NotUsedOnceUnplaced : Type 0
 NotUsedOnceUnplaced = (f : File) → not_used_once (unplaced f) ≡ not_used_once f
 
@@ -105,6 +105,6 @@ MatrixUnplaced = (f : File) → store_matrix (unplaced f) ≡ store_matrix f
 abbrev pub PrefixUnplaced : Type 0
 PrefixUnplaced = (f : File) → file_prefix (unplaced f) ≡ file_prefix f
 
--- of refusal 11 they give the place, not whether there is one (misplaced-unplaced).
+-- of refusal 11 they give the place, not whether there is one (misplaced_unplaced).
 abbrev pub MisplacedUnplaced : Type 0
 MisplacedUnplaced = (f : File) → (misplaced (unplaced f) ≡ []) ↔ (misplaced f ≡ [])

@@ -93,7 +93,7 @@ node_literal at g (operator f a b) = row_literal (row f).kind (row f).whole g (a
 node_literal at g (block q xs a) = literal false g
 
 -- What stands for node i, the gates being numbered so. The first argument bounds how far down operands go, and says no more than that of
--- `hangs_on` (literal-bound, proofs/Written.antt).
+-- `hangs_on` (literal_bound, proofs/Written.antt).
 unfoldable pub literal_at : ℕ → (ℕ → Node) → (ℕ → ℕ) → ℕ → Literal
 literal_at zero node gate i = literal false 0
 literal_at (suc f) node gate i = node_literal (literal_at f node gate) (gate i) (node i)

@@ -9,7 +9,7 @@ use Rattle.qcir_form.specs.File.{form_file, form_text}
 use Rattle.qcir_form.specs.Laws.{OfEveryFile}
 use Rattle.qcir_form.specs.Promise.{TextOf}
 
--- "Read back by S-1's steps, prefix lines kept as prefix, and written again" it is the same file (round-trip, proofs/RoundTrip.antt),
+-- "Read back by S-1's steps, prefix lines kept as prefix, and written again" it is the same file (round_trip, proofs/RoundTrip.antt),
 abbrev pub RoundTrip : Type 0
 RoundTrip = OfEveryFile (λ f ns ps xs most. form_file (matrix_words f) (file_prefix_words f) (file_prefix_list f) ≡ f)
 

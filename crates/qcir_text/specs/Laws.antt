@@ -14,7 +14,7 @@ names_from_one (word w ∷ ss) = names_from_one ss
 names_from_one (name x ∷ ss) = leb 1 x.number && names_from_one ss
 names_from_one (newline ∷ ss) = names_from_one ss
 
--- A file's text says the file, if its names are from 1 up and none is above the limit (text-says).
+-- A file's text says the file, if its names are from 1 up and none is above the limit (text_says).
 abbrev pub TextSays : Type 0
 TextSays =
     (most : ℕ) (f : File) → names_from_one (file_signs f) ≡ true → names_up_to most (file_signs f) ≡ true

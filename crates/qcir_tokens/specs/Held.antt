@@ -26,7 +26,7 @@ pub record Room (roles numbers positions : List ℕ) (count : ℕ) : Type 0 wher
   pub numbers_hold : count ≤ length numbers
   pub positions_hold : count ≤ length positions
 
--- The arrays hold the tokens of file f, in the order of its text. They hold no other file's (`holds-one`, proofs/Files.antt).
+-- The arrays hold the tokens of file f, in the order of its text. They hold no other file's (`holds_one`, proofs/Files.antt).
 pub record HoldsFile (roles numbers positions : List ℕ) (count : ℕ) (f : File) : Type 0 where
   pub tokens : tokens_from roles numbers positions 0 count ≡ file_tokens f
   pub ordered : ascending 0 (file_tokens f) ≡ true

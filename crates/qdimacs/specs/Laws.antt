@@ -10,6 +10,6 @@ use Rattle.qdimacs.specs.Text.{problem_text}
 abbrev pub OneProblem : Type 0
 OneProblem = (text : List ℕ) (p q : Problem) → Says text p → Says text q → p ≡ q
 
--- and the text of a problem says it (text-says).
+-- and the text of a problem says it (text_says).
 abbrev pub TextSays : Type 0
 TextSays = (p : Problem) → Grammatical p → Says (problem_text p) p

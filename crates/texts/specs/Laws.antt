@@ -8,7 +8,7 @@ use Rattle.texts.specs.Numerals.{is_digit, is_numeral, value_from, digits}
 abbrev pub DigitsNumeral : Type 0
 DigitsNumeral = (n : ℕ) → 1 ≤ n → is_numeral (digits n) ≡ true
 
--- whose value is the number (digits-value, of 0 too);
+-- whose value is the number (digits_value, of 0 too);
 abbrev pub DigitsValue : Type 0
 DigitsValue = (n : ℕ) → value_from 0 (digits n) ≡ n
 
@@ -24,7 +24,7 @@ NumeralDigits = (ds : List ℕ) → is_numeral ds ≡ true → digits (value_fro
 abbrev pub ZeroNoNumeral : Type 0
 ZeroNoNumeral = is_numeral (digits 0) ≡ false
 
--- Of every number, each byte is a digit (every-digit).
+-- Of every number, each byte is a digit (every_digit).
 abbrev pub EveryDigit : Type 0
 EveryDigit = (n : ℕ) → all is_digit (digits n) ≡ true
 
@@ -32,7 +32,7 @@ EveryDigit = (n : ℕ) → all is_digit (digits n) ≡ true
 abbrev pub DigitsBelowTen : Type 0
 DigitsBelowTen = (n : ℕ) → n < 10 → digits n ≡ (48 + n) ∷ []
 
--- any other has those of its tenth and then one more (digits-step);
+-- any other has those of its tenth and then one more (digits_step);
 abbrev pub DigitsStep : Type 0
 DigitsStep = (n : ℕ) → 10 ≤ n → digits n ≡ digits (n / 10) ++ ((48 + n % 10) ∷ [])
 
@@ -44,6 +44,6 @@ LengthBelowTen = (n : ℕ) → n < 10 → length (digits n) ≡ 1
 abbrev pub LengthStep : Type 0
 LengthStep = (n : ℕ) → 10 ≤ n → length (digits n) ≡ suc (length (digits (n / 10)))
 
--- The value of digits goes on from that of the digits before them (value-append).
+-- The value of digits goes on from that of the digits before them (value_append).
 abbrev pub ValueAppend : Type 0
 ValueAppend = (v : ℕ) (ds es : List ℕ) → value_from v (ds ++ es) ≡ value_from (value_from v ds) es
