@@ -1,0 +1,11 @@
+pub mod Keep
+pub mod Blocks
+pub mod PrefixShape
+pub mod Laws
+pub mod Leading
+pub mod Below
+pub mod Kept
+pub mod Stands
+pub mod Free
+pub mod Over
+pub mod Theorem

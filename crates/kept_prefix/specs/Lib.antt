@@ -1,0 +1,5 @@
+pub mod Blocks
+pub mod Leading
+pub mod Kept
+pub mod Form
+pub mod Promise
