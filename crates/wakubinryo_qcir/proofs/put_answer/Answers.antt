@@ -6,16 +6,12 @@ use Rattle.refusals.specs.declared.Verdict.{Verdict}
 use Rattle.refusals.specs.Outcome.{AnswerWith}
 use Rattle.qcir.specs.Reading.{Written}
 use Rattle.wakubinryo_qcir.specs.Words.{written_answer}
-use Rattle.wakubinryo_qcir.proofs.put_answer.Statement.{statement}
-use Rattle.wakubinryo_qcir.proofs.put_answer.Tie as tie
+use Rattle.wakubinryo_qcir.proofs.put_answer.Goals as goal
 
 -- an answer with these sizes
 abbrev with : ℕ → ℕ → Verdict → AnswerWith Written
 with words entries v = record { verdict = v; sizes = record { words = words; entries = entries } }
 
-returns : tie.Need-returns
+pub returns : goal.returns
 unfolding written_answer
-returns c = ap (with _ _) (sym c.before.before.requires)
-
-pub put-answer-spec : {M : Type 1} → statement M
-put-answer-spec = tie.close (tie.spec returns)
+returns c = ap (with _ _) (sym c.requires)
