@@ -9,12 +9,11 @@ use lib.Dec.{eqb}
 use lib.ListN.{length, length-map}
 use borrow.Author.Tests.{eqb-true}
 use Rattle.lists.specs.Choice.{pick, pick_yes, pick_no, Is, is_true, is_false, look, clash, absent}
-use Rattle.kept_prefix.specs.Blocks.{keep}
+use Rattle.kept_prefix.specs.Blocks.{keep, prefix_names, filled_blocks}
 use Rattle.kept_prefix.proofs.Keep.{keep_append}
 use Rattle.formula.specs.Node.{Quantifier, exists, for_all, Table}
 use Rattle.formula.specs.Valuation.{Valuation, update, join, quant}
 use Rattle.formula.specs.Form.{Block, quantify}
-use Rattle.kept_prefix.specs.Blocks.{prefix_names, filled_blocks}
 use Rattle.kept_prefix.proofs.Blocks.{Filled, filled_names, quantify_filled, length_filled, filled_blocks_lem}
 use Rattle.formula.proofs.Quantify.{quant_cong}
 use Rattle.formula.proofs.Coincidence.{EqualAt, Only}

@@ -29,9 +29,8 @@ use Rattle.prenex_form.specs.Matrix.{written_nodes}
 use Rattle.prenex_form.specs.Prefix.{block_count, prefix_blocks, written_prefix, written_variables}
 use Rattle.prenex_form.specs.Promise.{highest_name, PrenexOf}
 use Rattle.prenex_form.proofs.Theorem.{prenex}
-use Rattle.kept_prefix.proofs.Laws.{binds_append}
+use Rattle.kept_prefix.proofs.Laws.{binds_append, number_mono}
 use Rattle.prenex_form.proofs.Limits.{is_number_lem}
-use Rattle.kept_prefix.proofs.Laws.{number_mono}
 use Rattle.prenex_form.proofs.PrefixNames.{prefix_read}
 use Rattle.prenex_form.proofs.PrefixShape.{prefix_count_lem}
 use Rattle.kept_prefix.proofs.PrefixShape.{blocks_filled}

@@ -1,11 +1,10 @@
 -- The form that keeps the leading blocks: they "stand in front of the lifted prefix, in their order and with their own names".
 -- Assumes nothing.
 use Rattle.std.specs.Prelude.{Bool, List, ◌++◌, map, ℕ, length}
-use Rattle.kept_prefix.specs.Blocks.{keep}
+use Rattle.kept_prefix.specs.Blocks.{keep, prefix_names, filled_blocks}
 use Rattle.formula.specs.Node.{Table}
 use Rattle.formula.specs.Words.{table_of}
 use Rattle.formula.specs.Form.{Block, prefix_words}
-use Rattle.kept_prefix.specs.Blocks.{prefix_names, filled_blocks}
 use Rattle.formula.specs.FreeVariables.{stands_at, some_node}
 use Rattle.prenex_form.specs.declared.Sizes.{Sizes}
 use Rattle.prenex_form.specs.Scope.{depth}

@@ -15,7 +15,7 @@ use Rattle.prenex_form.specs.Levels.{quantifier_at}
 unfoldable pub block_of : Node → Block
 block_of nd = record { quantifier = quantifier_at nd; variables = bound nd }
 
--- Node j from the root down, the root at 0. Of an accepted table, each block's body is the node below it (BelowBlocks).
+-- Node j from the root down, the root at 0. Of an accepted table, each block's body is the node below it.
 unfoldable pub from_root : Table → ℕ → Node
 from_root t j = t.node (t.size - suc j)
 

@@ -1,0 +1,4 @@
+pub mod Flags
+pub mod Joined
+pub mod Fronts
+pub mod Taking
