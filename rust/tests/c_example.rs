@@ -4,6 +4,7 @@
 mod programs;
 
 use programs::{repository, run, Left};
+use std::env;
 use std::fs;
 use std::path::{Path, PathBuf};
 use std::process::Command;
@@ -41,13 +42,19 @@ prefix
 variables
 ";
 
+/// A library that build.rs found.
+fn archive(name: &str) -> PathBuf {
+    let name = format!("libwakubinryo_{name}.a");
+    env::split_paths(env!("WAKUBINRYO_LIB_DIRS"))
+        .map(|folder| folder.join(&name))
+        .find(|archive| archive.is_file())
+        .expect("a library")
+}
+
 /// Builds an example against libraries, linked in whole or as far as it needs
 /// them, and gives the program's path.
 fn built(example: &str, program: &str, libraries: &[&str], whole: bool) -> PathBuf {
-    let folder = Path::new(env!("WAKUBINRYO_LIB_DIR"));
-    let archives = libraries
-        .iter()
-        .map(|name| format!("libwakubinryo_{name}.a"));
+    let archives = libraries.iter().map(|name| archive(name));
     let program = Path::new(env!("CARGO_TARGET_TMPDIR")).join(program);
     let mut command = Command::new("cc");
     command
@@ -65,7 +72,7 @@ fn built(example: &str, program: &str, libraries: &[&str], whole: bool) -> PathB
     if whole {
         command.arg("-Wl,--whole-archive");
     }
-    command.args(archives.map(|archive| folder.join(archive)));
+    command.args(archives);
     if whole {
         command.arg("-Wl,--no-whole-archive");
     }

@@ -1,6 +1,6 @@
 //! Growth reports of files: the tool and the Rattle program growth_report print
-//! what the reference writes. The program is in ../target/bin once `rt check
-//! growth_report` has been run.
+//! what the reference writes. The program is in ../crates/growth_report/out once
+//! `rt ci` has been run, or `rt run` in its folder.
 
 mod common;
 mod programs;

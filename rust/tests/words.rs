@@ -1,6 +1,6 @@
 //! The Rattle programs measure_qcir, lift_qcir and lift_qdimacs say what the tool
-//! says. They are in ../target/bin once `rt check measure_qcir lift_qcir
-//! lift_qdimacs` has been run.
+//! says. They are in ../crates/NAME/out once `rt ci` has been run, or `rt run` in
+//! the folder of each.
 
 mod common;
 mod programs;

@@ -60,12 +60,12 @@ pub fn tool() -> &'static Path {
     Path::new(env!("CARGO_BIN_EXE_wakubinryo"))
 }
 
-/// A Rattle program.
+/// A Rattle program, where `rt ci` or a run of it left it.
 pub fn rattle_program(name: &str) -> PathBuf {
-    let path = repository("target/bin").join(name);
+    let path = repository("crates").join(name).join("out").join(name);
     assert!(
         path.is_file(),
-        "{} is missing: run `rt check {name}` in the repository's root",
+        "{} is missing: run `rt run` in the repository's crates/{name}",
         path.display()
     );
     path
