@@ -14,6 +14,7 @@ use std::fs::{self, File};
 use std::os::unix::ffi::OsStrExt;
 use std::path::Path;
 use std::process::{Command, Output};
+use std::str::from_utf8;
 use wakubinryo::answer::line;
 use wakubinryo::generate::Rng;
 use wakubinryo::generate_qcir::{damage_once, exchange_names, good_file};
@@ -41,10 +42,18 @@ fn reference_line(file: &Path) -> Line {
 
 /// What is to be printed for a text of names in a folder, and the tool's status.
 fn expected(folder: &Path, input: &[u8]) -> (Vec<u8>, i32) {
+    expected_of(folder, input, |_| true)
+}
+
+/// The same where only names that `opens` tells can be opened.
+fn expected_of(folder: &Path, input: &[u8], opens: fn(&[u8]) -> bool) -> (Vec<u8>, i32) {
     match growth::accepted_names(input) {
         Err(refusal) => (format!("{}\n", refusal.reason.number()).into_bytes(), 2),
         Ok(names) => {
-            let file = |name: &&[u8]| reference_line(&folder.join(path(name)));
+            let file = |name: &&[u8]| match opens(name) {
+                true => reference_line(&folder.join(path(name))),
+                false => line(Err(Reason::Unreadable.at(0))),
+            };
             let lines: Vec<Line> = names.iter().map(file).collect();
             let text = growth::report(input, lines.as_flattened()).expect("accepted");
             (text, lines.iter().any(|line| line[0] != 0).into())
@@ -80,7 +89,8 @@ fn program_in(folder: &Path) -> Command {
 
 /// Holds the tool and the Rattle program to what is to be printed for a text of
 /// names, which the tool is given on standard input and, where it can be, as
-/// arguments. Gives what is printed and the tool's status.
+/// arguments. Gives what the tool prints and its status; the program prints the
+/// same but for names that are no text in UTF-8, which it can't open.
 fn assert_reported(folder: &Path, input: &[u8]) -> (Vec<u8>, i32) {
     let (text, status) = expected(folder, input);
     let mut runs = vec![output(&mut report_in(folder), input)];
@@ -95,7 +105,8 @@ fn assert_reported(folder: &Path, input: &[u8]) -> (Vec<u8>, i32) {
         assert_output(&left, &text);
         assert_eq!(left.status.code(), Some(status));
     }
-    assert_output(&output(&mut program_in(folder), input), &text);
+    let (of_program, _) = expected_of(folder, input, |name| from_utf8(name).is_ok());
+    assert_output(&output(&mut program_in(folder), input), &of_program);
     (text, status)
 }
 
