@@ -2,12 +2,11 @@
 -- Assumes nothing.
 use mathlib.Core.List.{List}
 use Prim.Native.Nat.{ℕ}
-use Rattle.refusals.specs.Verdict.{refusal, accepted, Plain}
+use Rattle.refusals.specs.Verdict.{Plain}
 use Rattle.refusals.specs.Outcome.{AnswerWith, Outcome, refused, done}
 use Rattle.refusals.proofs.Plain.{plain_refusal, plain_accepted, plain_pick, plain_call, plain_room}
 use Rattle.prenex_form.specs.declared.Sizes.{Sizes}
 use Rattle.prenex.specs.Outcome.{no_sizes}
-use Rattle.qcir.specs.File.{File}
 use Rattle.qcir.specs.Table.{table_words, table_list}
 use Rattle.qcir.specs.FromText.{limits, refused_text, FromText}
 use Rattle.qcir.proofs.Answers.{from_text}

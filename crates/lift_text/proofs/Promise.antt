@@ -1,14 +1,14 @@
 -- What is owed of lifting and measuring a text follows from what comes of it.
 -- Assumes nothing.
-use mathlib.Core.Path.{◌≡◌, refl, sym, ◌∙◌, ap, subst}
+use mathlib.Core.Path.{◌≡◌, refl, sym, subst}
 use mathlib.Core.Bool.{true}
 use mathlib.Core.List.{List, [], ◌∷◌}
-use Prim.Native.Nat.{ℕ, ◌+◌, ◌*◌, ◌/◌, ◌<◌, ◌≤◌}
+use Prim.Native.Nat.{ℕ, ◌*◌, ◌/◌, ◌<◌, ◌≤◌}
 use native.Mathlib.Omega.{arith}
 use lib.Dec.{ltb}
 use lib.ListN.{length, take}
 use borrow.Author.Tests.{ltb-true, ltb-false, lt-ltb, le-ltb}
-use Rattle.lists.specs.Choice.{pick, pick_yes, pick_no, Is, is_true, is_false, look}
+use Rattle.lists.specs.Choice.{Is, is_true, is_false, look}
 use Rattle.lists.specs.Members.{mem, all}
 use Rattle.lists.proofs.Members.{all_mem}
 use Rattle.lists.specs.Parts.{overwrite}
@@ -16,17 +16,12 @@ use Rattle.lists.proofs.Overwrite.{start_of, length_overwrite}
 use Rattle.formula.specs.Words.{width, node_count, table_of}
 use Rattle.formula.specs.Form.{prefix_width}
 use Rattle.refusals.specs.Verdict.{refusal, accepted}
-use Rattle.refusals.specs.Outcome.{AnswerWith, Outcome, refused, done}
-use Rattle.refusals.specs.declared.Verdict.{Verdict}
-use Rattle.refusals.proofs.Outcome.{call_next, call_refused, call_room, call_short}
-use Rattle.acceptance.specs.Verdict.{verdict}
-use Rattle.prenex_form.specs.declared.Sizes.{Sizes}
+use Rattle.refusals.specs.Outcome.{Outcome, refused, done}
+use Rattle.refusals.proofs.Outcome.{call_room, call_short}
 use Rattle.prenex_form.specs.Matrix.{written_nodes}
 use Rattle.prenex_form.specs.Prefix.{written_prefix, written_variables}
 use Rattle.prenex_form.specs.Sizes.{sizes}
 use Rattle.prenex_form.proofs.Theorem.{prenex, sizes_written}
-use Rattle.prenex.specs.Outcome.{no_sizes}
-use Rattle.form_check.specs.Verdict.{form_verdict}
 use Rattle.form_check.specs.Accepted.{AcceptedForm}
 use Rattle.form_check.proofs.Accepted.{form_holds}
 use Rattle.form_writer.specs.Formats.{text_as, room_as}
@@ -34,11 +29,11 @@ use Rattle.form_writer.proofs.Formats.{text_room}
 use Rattle.qcir.specs.File.{File}
 use Rattle.qcir.specs.Spelling.{Spells}
 use Rattle.qcir.specs.Table.{table_words, table_list}
-use Rattle.qcir.specs.FromText.{limits, name_verdict, size_verdict, text_refusals, refused_text, FromText}
+use Rattle.qcir.specs.FromText.{limits, name_verdict, size_verdict, text_refusals, refused_text}
 use Rattle.qcir.specs.Reading.{TableOf}
-use Rattle.qcir.proofs.Answers.{no_refusal, Ways, both_refused, both_go_on, ways, from_text}
+use Rattle.qcir.proofs.Answers.{no-refusal, from_text}
 use Rattle.qcir_reader.proofs.Texts.{passed, file_table}
-use Rattle.qcir_reader.proofs.Unique.{outcome_unique, only_one}
+use Rattle.qcir_reader.proofs.Unique.{only_one}
 use Rattle.file_to_file.specs.FileToFile.{lifted_text}
 use Rattle.file_to_file.specs.FileToClauses.{lifted_clauses}
 use Rattle.file_to_file.proofs.Passes.{lift_passes}
@@ -48,8 +43,6 @@ use Rattle.form_writer.specs.declared.Format.TheVariants.{Qcir, Qdimacs}
 use Rattle.lift_text.specs.Formats.{lifted_as, Owed, most_bytes}
 use Rattle.text_answers.specs.Answers.{TextSizes, no_text_sizes}
 use Rattle.lift_text.specs.Lifting.{lifted_sizes, written_as, Lifting, Linear, LiftsText}
-use Rattle.lift_text.specs.Memory.{Lent, lent, text_of, beside, written_in, LiftingIn, LiftsTextIn}
-use Rattle.lift_text.specs.Measuring.{alone, measured_table, Measuring, MeasuresText}
 use Rattle.lift_text.proofs.Form.{nodes_most, prefix_most, variables_most}
 
 abbrev lift_numbers : List ℕ
@@ -175,11 +168,11 @@ module _ (format : Format) (text before : List ℕ) where
   unfolding refused_text refused refusal no_text_sizes text_refusals mem all
   of_refusal number position m =
       record {
-        same = λ z. absurd (no_refusal 0 number refl m z);
-        linear_sizes = λ z. absurd (no_refusal 0 number refl m z);
+        same = λ z. absurd (no-refusal 0 number refl m z);
+        linear_sizes = λ z. absurd (no-refusal 0 number refl m z);
         within = omega arith;
         numbers = listed lift_numbers number refl m;
-        room = λ z. absurd (no_refusal 9 number refl m z);
+        room = λ z. absurd (no-refusal 9 number refl m z);
       }
 
   of_table_lem : (f : File) → Spells limits.names text f → (name_verdict f).number ≡ 0 → (size_verdict limits (table_words f)).number ≡ 0
