@@ -1,9 +1,7 @@
 -- From the outcome of a call to the one that C's words say.
 -- Assumes nothing.
 use mathlib.Core.Path.{◌≡◌, sym, ◌∙◌, ap, subst}
-use mathlib.Core.List.{List}
 use Prim.Native.Nat.{ℕ}
-use Rattle.refusals.specs.declared.Verdict.{Verdict}
 use Rattle.refusals.specs.Verdict.{refusal, Plain}
 use Rattle.refusals.specs.Outcome.{AnswerWith, Outcome, refused}
 use Rattle.refusals.proofs.Plain.{plain_refusal}
