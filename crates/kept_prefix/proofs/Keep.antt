@@ -8,10 +8,10 @@ use native.Mathlib.Omega.{arith}
 use lib.Dec.{eqb}
 use lib.ListN.{length}
 use borrow.Author.Tests.{eqb-true, not-true}
-use Rattle.lists.specs.Choice.{pick, pick_no, clash, and_both, and_left, and_right, and_off_left, or_neither_left}
+use Rattle.lists.specs.Choice.{pick, clash, and_both, and_left, and_right, and_off_left, or_neither_left}
 use Rattle.lists.specs.Members.{mem, distinct}
 use Rattle.kept_prefix.specs.Blocks.{keep}
-use Rattle.lists.proofs.Members.{mem_head, mem_tail, mem_append, distinct_tail}
+use Rattle.lists.proofs.Members.{mem_append, distinct_tail}
 
 -- No element twice: the first stands not in the rest, and the rest has none twice.
 distinct_head : (x : ℕ) (xs : List ℕ) → distinct (x ∷ xs) ≡ true → mem x xs ≡ false
@@ -29,12 +29,6 @@ distinct_left [] ys h = refl
 distinct_left (x ∷ xs) ys h =
     distinct_cons x xs (or_neither_left (mem x xs) (mem x ys) (sym (mem_append x xs ys) ∙ distinct_head x (xs ++ ys) h))
     (distinct_left xs ys (distinct_tail x (xs ++ ys) h))
-
--- Where nothing passes, nothing is kept.
-pub nothing_kept : (p : ℕ → Bool) (xs : List ℕ) → ((x : ℕ) → mem x xs ≡ true → p x ≡ false) → keep p xs ≡ []
-unfolding keep
-nothing_kept p [] h = refl
-nothing_kept p (x ∷ xs) h = pick_no _ _ _ (h x (mem_head x xs)) ∙ nothing_kept p xs (λ y m. h y (mem_tail y x xs m))
 
 -- Tests that agree keep the same.
 pub keep_cong : (p q : ℕ → Bool) (xs : List ℕ) → ((x : ℕ) → p x ≡ q x) → keep p xs ≡ keep q xs
@@ -63,9 +57,6 @@ mem_keep p [] x = refl
 mem_keep p (y ∷ ys) x =
     mem_pick x y (keep p ys) (p y) (mem x ys && p x) (mem_keep p ys x)
     ∙ both_test (p y) (eqb x y) (mem x ys) (p x) (λ e. ap p (sym (eqb-true x y e)))
-
-pub kept_from : (p : ℕ → Bool) (xs : List ℕ) (x : ℕ) → mem x (keep p xs) ≡ true → mem x xs ≡ true
-kept_from p xs x m = and_left (mem x xs) (p x) (sym (mem_keep p xs x) ∙ m)
 
 pub kept_passes : (p : ℕ → Bool) (xs : List ℕ) (x : ℕ) → mem x (keep p xs) ≡ true → p x ≡ true
 kept_passes p xs x m = and_right (mem x xs) (p x) (sym (mem_keep p xs x) ∙ m)

@@ -37,9 +37,6 @@ names_next t k =
     ∙ ap (λ (xs : List ℕ). prefix_names (outermost t k) ++ xs) (append-nil (bound (from_root t k))))
 
 -- The same, with the count as the code has it.
-pub outermost_one_more : (t : Table) (k : ℕ) → outermost t (k + 1) ≡ outermost t k ++ (block_of (from_root t k) ∷ [])
-outermost_one_more t k = rw add-one (outermost_next t k)
-
 pub names_one_more : (t : Table) (k : ℕ) → prefix_names (outermost t (k + 1)) ≡ prefix_names (outermost t k) ++ bound (from_root t k)
 names_one_more t k = rw add-one (names_next t k)
 

@@ -1,0 +1,3 @@
+pub mod FormOutcome
+pub mod Outcome
+pub mod Steps
