@@ -24,7 +24,7 @@ pub record FormOf (t : Table) (ns ps xs : List ℕ) : Type 0 where
   -- "what it gives to a number that is nowhere free in the table changes neither value"
   pub table_by_free : (v u : Valuation) → SameOnFree t v u → truth t v ≡ truth t u
   pub form_by_free : (v u : Valuation) → SameOnFree t v u → form_truth ns ps xs v ≡ form_truth ns ps xs u
-  -- the same free variables, so the same list of them (SameList)
+  -- the same free variables
   pub same_free : (x : ℕ) → form_free ns ps xs x ≡ free t x
   -- no variable is bound twice
   pub bound_once : distinct xs ≡ true
