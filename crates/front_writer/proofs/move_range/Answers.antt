@@ -1,5 +1,6 @@
 -- `front_writer::move_range` meets its contract.
 -- Assumes nothing.
+use Prim.Native.Nat.{◌+◌, ◌*◌}
 use native.Mathlib.Omega.{arith}
 use Rattle.front_writer.proofs.move_range.Goals as goal
 
