@@ -14,7 +14,7 @@ use Rattle.formula.specs.Words.{table_of}
 use Rattle.prenex.specs.Outcome.{no_sizes}
 use Rattle.qcir.specs.Table.{table_words, table_list}
 use Rattle.qcir.specs.FromText.{limits, text_refusals, refused_text}
-use Rattle.qcir.proofs.Answers.{no-refusal, Ways, both-refused, both-go-on, ways, from_text}
+use Rattle.qcir.proofs.Answers.{no_refusal, Ways, both_refused, both_go_on, ways, from_text}
 use Rattle.qcir_reader.proofs.Unique.{outcome_unique, only_one}
 use Rattle.form_writer.specs.declared.Format.{Format}
 use Rattle.text_answers.specs.Answers.{TextSizes, no_text_sizes}
@@ -35,8 +35,8 @@ module _ (format : Format) (text before : List ℕ) (o : Outcome TextSizes (List
   same_sizes : (q : Outcome Sizes (Unit {0})) → Ways limits no_sizes tt measured_table no_text_sizes before (written_as format before) text q
       → o.answer.sizes.table ≡ q.answer.sizes
   unfolding refused_text refused refusal measured_table done text_refusals mem
-  same_sizes _ (both-refused k position m h) = absurd (no-refusal 0 k refl m (sym (ap (λ (q : Outcome TextSizes (List ℕ)). q.answer.verdict.number) (is _ h)) ∙ zero))
-  same_sizes _ (both-go-on f s a b h) = lifted_sizes _ _ _ (way format before (table_words f) (table_list f)) (is _ h)
+  same_sizes _ (both_refused k position m h) = absurd (no_refusal 0 k refl m (sym (ap (λ (q : Outcome TextSizes (List ℕ)). q.answer.verdict.number) (is _ h)) ∙ zero))
+  same_sizes _ (both_go_on f s a b h) = lifted_sizes _ _ _ (way format before (table_words f) (table_list f)) (is _ h)
 
 abbrev measure_numbers : List ℕ
 measure_numbers = 0 ∷ 2 ∷ 6 ∷ 10 ∷ 11 ∷ 12 ∷ 13 ∷ []

@@ -17,7 +17,7 @@ use Rattle.refusals.proofs.Outcome.{call_next, call_refused}
 use Rattle.prenex_form.specs.Matrix.{written_nodes}
 use Rattle.qcir.specs.Table.{table_words, table_list}
 use Rattle.qcir.specs.FromText.{limits, text_refusals, refused_text}
-use Rattle.qcir.proofs.Answers.{no-refusal, Ways, both-refused, both-go-on, ways}
+use Rattle.qcir.proofs.Answers.{no_refusal, Ways, both_refused, both_go_on, ways}
 use Rattle.qcir_reader.proofs.Unique.{only_one}
 use Rattle.form_writer.specs.declared.Format.{Format}
 use Rattle.text_answers.specs.Answers.{TextSizes, no_text_sizes}
@@ -51,8 +51,8 @@ module _ (format : Format) (text : List ℕ) (before : Lent) where
   -- Of the text comes what comes without lent memory, unless 24 refuses it.
   text_too : (o : Outcome TextSizes Lent) → Both o → (o.answer.verdict.number ≡ 24 → ⊥) → Lifting format text before.out (text_of o)
   unfolding refused_text refused refusal
-  text_too _ (both-refused _ _ _ h) n = h
-  text_too _ (both-go-on f s a b h) n = go (look (ltb (length before.nodes) (length (written_nodes (table_of (table_words f) (table_list f))))))
+  text_too _ (both_refused _ _ _ h) n = h
+  text_too _ (both_go_on f s a b h) n = go (look (ltb (length before.nodes) (length (written_nodes (table_of (table_words f) (table_list f))))))
     where
       go : Is (ltb (length before.nodes) (length (written_nodes (table_of (table_words f) (table_list f))))) → Lifting format text before.out (text_of (written_in format before (table_words f) (table_list f)))
       go (is_true t) = absurd (n (ap (λ (o : Outcome TextSizes Lent). o.answer.verdict.number) (no_memory format before _ _ (ltb-true _ _ t))))
@@ -60,8 +60,8 @@ module _ (format : Format) (text : List ℕ) (before : Lent) where
 
   little : (o : Outcome TextSizes Lent) → Both o → o.answer.verdict.number ≡ 24 → length before.nodes < width * 40960
   unfolding refused_text refused refusal text_refusals mem
-  little _ (both-refused k _ m _) z = absurd (no-refusal 24 k refl m z)
-  little _ (both-go-on f s a b h) z = go (look (ltb (length before.nodes) (length (written_nodes (table_of (table_words f) (table_list f))))))
+  little _ (both_refused k _ m _) z = absurd (no_refusal 24 k refl m z)
+  little _ (both_go_on f s a b h) z = go (look (ltb (length before.nodes) (length (written_nodes (table_of (table_words f) (table_list f))))))
     where
       go : Is (ltb (length before.nodes) (length (written_nodes (table_of (table_words f) (table_list f))))) → length before.nodes < width * 40960
       go (is_true t) =

@@ -31,7 +31,7 @@ use Rattle.qcir.specs.Spelling.{Spells}
 use Rattle.qcir.specs.Table.{table_words, table_list}
 use Rattle.qcir.specs.FromText.{limits, name_verdict, size_verdict, text_refusals, refused_text}
 use Rattle.qcir.specs.Reading.{TableOf}
-use Rattle.qcir.proofs.Answers.{no-refusal, from_text}
+use Rattle.qcir.proofs.Answers.{no_refusal, from_text}
 use Rattle.qcir_reader.proofs.Texts.{passed, file_table}
 use Rattle.qcir_reader.proofs.Unique.{only_one}
 use Rattle.file_to_file.specs.FileToFile.{lifted_text}
@@ -168,11 +168,11 @@ module _ (format : Format) (text before : List ℕ) where
   unfolding refused_text refused refusal no_text_sizes text_refusals mem all
   of_refusal number position m =
       record {
-        same = λ z. absurd (no-refusal 0 number refl m z);
-        linear_sizes = λ z. absurd (no-refusal 0 number refl m z);
+        same = λ z. absurd (no_refusal 0 number refl m z);
+        linear_sizes = λ z. absurd (no_refusal 0 number refl m z);
         within = omega arith;
         numbers = listed lift_numbers number refl m;
-        room = λ z. absurd (no-refusal 9 number refl m z);
+        room = λ z. absurd (no_refusal 9 number refl m z);
       }
 
   of_table_lem : (f : File) → Spells limits.names text f → (name_verdict f).number ≡ 0 → (size_verdict limits (table_words f)).number ≡ 0

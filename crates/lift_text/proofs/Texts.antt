@@ -17,7 +17,7 @@ use Rattle.qcir.specs.File.{File}
 use Rattle.qcir.specs.Table.{table_words, table_list}
 use Rattle.qcir.specs.FromText.{limits, text_refusals, refused_text, FromText}
 use Rattle.qcir.specs.Reading.{Written, Buffers, buffers, none_written, done_with, stored, Reading}
-use Rattle.qcir.proofs.Answers.{no-refusal, Ways, both-refused, both-go-on, ways}
+use Rattle.qcir.proofs.Answers.{no_refusal, Ways, both_refused, both_go_on, ways}
 use Rattle.qcir_reader.proofs.Texts.{Passed, passed, words_fit, list_fits}
 
 abbrev number : Outcome Written Buffers → ℕ
@@ -39,8 +39,8 @@ module _ (words list : List ℕ) (wide : length words ≡ 16384) (long : length 
     -- Where reading refuses, the text is refused by the same verdict.
     refused_way : (o : Outcome Written Buffers) → Way o → (number o ≡ 0 → ⊥) → FromText limits none before next text (refused_text none before o.answer.verdict)
     unfolding refused_text refused done_with done accepted
-    refused_way _ (both-refused _ _ _ h) n = h
-    refused_way _ (both-go-on f s a b h) n = absurd (n (ap number (fits f (passed f a b))))
+    refused_way _ (both_refused _ _ _ h) n = h
+    refused_way _ (both_go_on f s a b h) n = absurd (n (ap number (fits f (passed f a b))))
 
     pub read_refused : (o : Outcome Written Buffers) → Reading limits text (buffers words list) o → (o.answer.verdict.number ≡ 0 → ⊥)
         → FromText limits none before next text (refused_text none before o.answer.verdict)
@@ -55,8 +55,8 @@ module _ (words list : List ℕ) (wide : length words ≡ 16384) (long : length 
 
     done_way : (o : Outcome Written Buffers) → Way o → number o ≡ 0 → ReadDone o
     unfolding refused_text refused refusal done_with done text_refusals mem
-    done_way _ (both-refused k _ m _) z = absurd (no-refusal 0 k refl m z)
-    done_way _ (both-go-on f s a b h) z =
+    done_way _ (both_refused k _ m _) z = absurd (no_refusal 0 k refl m z)
+    done_way _ (both_go_on f s a b h) z =
         let p = passed f a b in
         let ws = table_words f in
         let ls = table_list f in

@@ -34,17 +34,17 @@ module _ (ws ls : List ℕ) (v : Verdict) (is : v ≡ verdict ws ls) where
   accepted_by e = number_zero ws ls (sym number_is ∙ e)
 
   module _ (n : v.number ≡ 0 → ⊥) (r : Answer) (e : answer_of r ≡ refused v no_sizes) where
-    handed-on : answer_of r ≡ refused (verdict ws ls) no_sizes
-    handed-on = e ∙ ap (λ (w : Verdict). refused w no_sizes) is
+    handed_on : answer_of r ≡ refused (verdict ws ls) no_sizes
+    handed_on = e ∙ ap (λ (w : Verdict). refused w no_sizes) is
 
     pub measured_refused : answer_of r ≡ measured ws ls
     unfolding measured
-    measured_refused = handed-on ∙ sym (answer_refused (verdict ws ls) no_sizes _ (λ z. n (number_is ∙ z)))
+    measured_refused = handed_on ∙ sym (answer_refused (verdict ws ls) no_sizes _ (λ z. n (number_is ∙ z)))
 
     pub lifted_refused : (before : FormBuffers) → after r before ≡ lifted ws ls before
     unfolding lifted
     lifted_refused before =
-        ap (λ (a : AnswerWith Sizes). record { answer = a; buffers = before }) handed-on
+        ap (λ (a : AnswerWith Sizes). record { answer = a; buffers = before }) handed_on
         ∙ sym (call_refused no_sizes before _ (verdict ws ls) (λ z. n (number_is ∙ z)))
 
 -- Room.

@@ -5,7 +5,6 @@ use mathlib.Core.Bool.{true}
 use Prim.Native.Nat.{◌+◌, ◌-◌, ◌<◌}
 use native.Mathlib.Omega.{arith}
 use lib.ListN.{length-set}
-use borrow.Author.Tests.{not-false}
 use Rattle.formula.specs.Node.{is_block}
 use Rattle.formula.specs.Words.{node_count, node_at, table_of}
 use Rattle.arrays.proofs.Members.{block_member}
@@ -32,7 +31,7 @@ one_less c = omega (arith, c.requires.node_nonzero)
 block_here : (c : Else-not-is_block_kind)
     → is_block (node_at c.args.words.now c.args.list.now (c.args.passed.node - 1)) ≡ true
 block_here c =
-    sym (c.is_block_kind.ensures ∙ block_read c.args.words.now c.args.list.now (c.args.passed.node - 1) _ c.node_at-node.ensures) ∙ not-false _ c.if-not-is_block_kind.false-raw
+    sym (c.is_block_kind.ensures ∙ block_read c.args.words.now c.args.list.now (c.args.passed.node - 1) _ c.node_at-node.ensures) ∙ c.if-not-is_block_kind.false
 
 pub chain_member-requires : goal.chain_member-requires
 chain_member-requires c =
@@ -70,7 +69,7 @@ chain_member-requires-2 c =
     }
 
 pub overflow_cast-before : goal.overflow_cast-before
-overflow_cast-before c = omega (arith, c.struct_known-3-1.given)
+overflow_cast-before c = omega (arith, c.node_at-node.type_inv)
 
 pub overflow_sub-before : goal.overflow_sub-before
 overflow_sub-before c = (start_fits c.args.words.now c.args.list.now c.requires.list_value (c.args.passed.node - 1) (below (goal.at.overflow_sub-before c).Start) _ _ _ _ (done-above (goal.at.overflow_sub-before c).Start) _ c.node_at-node.ensures (block_here (goal.at.overflow_sub-before c).Else-not-is_block_kind)).0
@@ -85,10 +84,10 @@ pub bounds-starts-i : goal.bounds-starts-i
 bounds-starts-i c = index_lt c.args.words.now c.args.list.now c.requires.list_value (c.args.passed.node - 1) (below (goal.at.bounds-starts-i c).Start) c.args.starts.now (done-above (goal.at.bounds-starts-i c).Start).starts_length
 
 pub overflow_cast-node : goal.overflow_cast-node
-overflow_cast-node c = omega (arith, c.struct_known-5-1.given)
+overflow_cast-node c = omega (arith, c.node_at-node.type_inv)
 
 pub overflow_cast-node-2 : goal.overflow_cast-node-2
-overflow_cast-node-2 c = omega (arith, c.struct_known-6-1.given)
+overflow_cast-node-2 c = omega (arith, c.node_at-node.type_inv)
 
 pub highest_entry-highest-requires : goal.highest_entry-highest-requires
 highest_entry-highest-requires c = entries_within c.args.words.now c.args.list.now c.requires.list_value (c.args.passed.node - 1) (below (goal.at.highest_entry-highest-requires c).Start) _ c.node_at-node.ensures (block_here (goal.at.highest_entry-highest-requires c).Else-not-is_block_kind)

@@ -3,7 +3,6 @@
 use mathlib.Core.Bool.{true, true≢false}
 use mathlib.Core.Path.{◌≡◌, sym, ◌∙◌}
 use native.Mathlib.Omega.{arith}
-use borrow.Author.Tests.{not-false}
 use Rattle.acceptance.specs.Verdict.{is_number_to}
 use Rattle.form_check.proofs.Flags.{no_name, name_again, name_new, flagged_next, name_below}
 use Rattle.form_check.proofs.flag_name.Goals.{Else-not-is_name}
@@ -14,7 +13,7 @@ returns-then-not-is_name c = λ names f. (no_name names _ _ f _ (sym c.is_name.e
 
 -- past the first test x is a name
 is_name : (c : Else-not-is_name) → is_number_to 77823 c.args.x ≡ true
-is_name c = sym c.is_name.ensures ∙ not-false _ c.if-not-is_name.false-raw
+is_name c = sym c.is_name.ensures ∙ c.if-not-is_name.false
 
 pub bounds-bound-at : goal.bounds-bound-at
 bounds-bound-at c = omega (arith, name_below _ (is_name (goal.at.bounds-bound-at c).Else-not-is_name), c.requires)

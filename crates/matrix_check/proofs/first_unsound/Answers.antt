@@ -24,7 +24,7 @@ shape_of-named-then-not-take_node c = c.take_node.auto.named ∙ c.loop-i.invari
 pub returns-then-not-take_node : goal.returns-then-not-take_node
 returns-then-not-take_node c =
     let l = c.loop-i in record {
-      value = sym (lowest_is _ _ l.i c.loop-i-test.true (ap not (sym c.take_node.ensures.value) ∙ c.if-not-take_node.true-raw) (λ k h. ap not (l.invariant.2 k h)));
+      value = sym (lowest_is _ _ l.i c.loop-i-test.true (ap not (sym c.take_node.ensures.value ∙ c.if-not-take_node.true)) (λ k h. ap not (l.invariant.2 k h)));
       tallied_2 = λ e. absurd (omega (arith, c.loop-i-test.true));
     }
 

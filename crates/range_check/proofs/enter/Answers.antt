@@ -6,7 +6,6 @@ use mathlib.Core.Path.{◌≡◌, refl, sym, ◌∙◌, ap}
 use Prim.Native.Nat.{◌+◌}
 use lib.ListN.{get_or}
 use native.Mathlib.Omega.{arith}
-use borrow.Author.Tests.{not-false}
 use Rattle.lists.specs.Choice.{clash}
 use Rattle.acceptance.specs.Verdict.{is_number}
 use Rattle.range_check.proofs.Chains.{chain_of, new_is, chains_more}
@@ -23,7 +22,7 @@ returns-then-not-is_number c =
 
 -- Past the first test, the entry is a variable number.
 number : (c : Else-not-is_number) → let a = c.args in is_number (get_or a.list.now (a.first + a.k) 0) ≡ true
-number c = sym c.is_number.ensures ∙ not-false _ c.if-not-is_number.false-raw
+number c = sym c.is_number.ensures ∙ c.if-not-is_number.false
 
 pub overflow_cast-head : goal.overflow_cast-head
 overflow_cast-head c =
