@@ -23,13 +23,13 @@ overflow_mul-front c = omega (arith, blocks_low c.args.words.now c.args.list.now
 pub returns-then-prefix-front : goal.returns-then-prefix-front
 unfolding Does
 returns-then-prefix-front c =
-    front_short c.args.words.now c.args.list.now c.requires _ c.with_flags-front.ensures.0 _ _ _ c.if-prefix-front.true _ c.short.ensures
+    front_short c.args.words.now c.args.list.now c.requires _ c.with_flags-front.ensures.0 _ _ _ (omega arith) _ c.short.ensures
     ∙ (λ i. lifted_kept c.args.words.now c.args.list.now (buffers c.args.nodes.now (c.with_flags-front.ensures.1.0 i) (c.with_flags-front.ensures.1.1 i)))
 
 pub returns-then-variables-front : goal.returns-then-variables-front
 unfolding Does
 returns-then-variables-front c =
-    names_short c.args.words.now c.args.list.now c.requires _ c.with_flags-front.ensures.0 _ _ _ c.if-variables-front.true _ c.short-then-variables-front.ensures
+    names_short c.args.words.now c.args.list.now c.requires _ c.with_flags-front.ensures.0 _ _ _ (omega arith) _ c.short-then-variables-front.ensures
     ∙ (λ i. lifted_kept c.args.words.now c.args.list.now (buffers c.args.nodes.now (c.with_flags-front.ensures.1.0 i) (c.with_flags-front.ensures.1.1 i)))
 
 pub lift_below-requires : goal.lift_below-requires
@@ -38,7 +38,7 @@ lift_below-requires c =
     record {
       list_value = c.requires;
       front_to = c.with_flags-front.ensures.0;
-      front_room = record { blocks_fit = c.if-prefix-front.false; names_fit = c.if-variables-front.false };
+      front_room = record { blocks_fit = omega arith; names_fit = omega arith };
     }
 
 pub returns : goal.returns
