@@ -20,7 +20,7 @@ abbrev pub itself : ℕ → Table
 itself x = table_of (itself_words x) (x ∷ [])
 
 -- "With unequal ones this fails": exists 1: 1 and exists 2: 2 meet all that is asked but equal highest numbers, and their forms differ. The
--- theorem `unequal-highest` (proofs/Examples.antt).
+-- theorem `unequal_highest` (proofs/Examples.antt).
 pub record UnequalHighest : Type 0 where
   pub accepted_1 : verdict (itself_words 1) (1 ∷ []) ≡ accepted
   pub accepted_2 : verdict (itself_words 2) (2 ∷ []) ≡ accepted
@@ -45,7 +45,7 @@ two_entries = table_of (both_words 1 1) (1 ∷ 2 ∷ [])
 abbrev pub one_entry : Table
 one_entry = table_of (both_words 2 0) (2 ∷ [])
 
--- These meet all that is asked, and are different tables. The theorem `both-packings` (proofs/Examples.antt).
+-- These meet all that is asked, and are different tables. The theorem `both_packings` (proofs/Examples.antt).
 pub record BothPackings : Type 0 where
   pub accepted_two : verdict (both_words 1 1) (1 ∷ 2 ∷ []) ≡ accepted
   pub accepted_one : verdict (both_words 2 0) (2 ∷ []) ≡ accepted

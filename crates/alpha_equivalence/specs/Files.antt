@@ -17,7 +17,7 @@ abbrev pub table_read : Outcome Written Buffers → Table
 table_read o = table_of (take o.answer.sizes.words o.buffers.words) (take o.answer.sizes.entries o.buffers.list)
 
 -- Whatever two texts were read, if the forms of their tables are equal, the files that they spell have the same truth value under every
--- valuation. The theorem `equal-files` (proofs/Theorem.antt).
+-- valuation. The theorem `equal_files` (proofs/Theorem.antt).
 abbrev pub EqualFiles : Type 0
 EqualFiles =
     (text text' : List ℕ) (before before' : Buffers) (o o' : Outcome Written Buffers)

@@ -41,7 +41,7 @@ pub record LiftedAlike (ws ls ws' ls' : List ℕ) : Type 0 where
   -- and what the tables mean.
   pub same_meaning : SameMeaning (table_of ws ls) (table_of ws' ls')
 
--- The theorem `lifted-alike` (proofs/Theorem.antt).
+-- The theorem `lifted_alike` (proofs/Theorem.antt).
 abbrev pub AlphaEquivalentLifts : Type 0
 AlphaEquivalentLifts =
     (ws ls ws' ls' : List ℕ) → verdict ws ls ≡ accepted → verdict ws' ls' ≡ accepted
@@ -49,7 +49,7 @@ AlphaEquivalentLifts =
     → LiftedAlike ws ls ws' ls'
 
 -- Equal forms come of such tables alone: "With unequal ones this fails", as it does where any other condition fails. The theorem
--- `only-interchangeable` (proofs/Unique.antt).
+-- `only_interchangeable` (proofs/Unique.antt).
 abbrev pub OnlyInterchangeable : Type 0
 OnlyInterchangeable =
     (ws ls ws' ls' : List ℕ) → verdict ws ls ≡ accepted → verdict ws' ls' ≡ accepted

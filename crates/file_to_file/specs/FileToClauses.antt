@@ -1,5 +1,5 @@
 -- The chain from a QCIR file to clauses: reading (request S-1), lifting (document 01) and writing as QDIMACS (request S-7), each by its own
--- definition. The theorem `file-to-clauses` is proved in proofs/Theorem.antt.
+-- definition. The theorem `file_to_clauses` is proved in proofs/Theorem.antt.
 -- Assumes nothing.
 use Rattle.std.specs.Prelude.{List, ◌≡◌, ℕ, take}
 use Rattle.formula.specs.Words.{table_of}
@@ -30,7 +30,7 @@ pub record SameAnswer (text lifted : List ℕ) : Type 0 where
   pub target_only : (q : Problem) → Says lifted q → q ≡ target
   pub truth : TrueIfSatisfiable target (file_truth source)
 
--- Whatever text was read, the table that stands in the buffers, lifted and written as QDIMACS, gives such a text (file-to-clauses).
+-- Whatever text was read, the table that stands in the buffers, lifted and written as QDIMACS, gives such a text (file_to_clauses).
 abbrev pub FileToClauses : Type 0
 FileToClauses =
     (text : List ℕ) (before : Buffers) (o : Outcome Written Buffers) → Reading limits text before o → o.answer.verdict.number ≡ 0

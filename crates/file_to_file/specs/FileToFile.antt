@@ -1,5 +1,5 @@
 -- The chain from file to file: reading (request S-1), lifting (document 01) and writing (request S-5), each by its own definition. The
--- theorem `file-to-file` and the law `lift-passes` are proved in proofs/.
+-- theorem `file_to_file` and the law `lift_passes` are proved in proofs/.
 -- Assumes nothing.
 use Rattle.std.specs.Prelude.{List, ◌≡◌, ℕ, take}
 use Rattle.formula.specs.Node.{Table}
@@ -19,7 +19,7 @@ use Rattle.qcir.specs.FromText.{limits}
 use Rattle.qcir.specs.Reading.{Written, Buffers, Reading}
 use Rattle.qcir_form.specs.File.{form_text}
 
--- Every prenex form that lifting may write passes the form check: neither 14 nor 15 refuses it (lift-passes).
+-- Every prenex form that lifting may write passes the form check: neither 14 nor 15 refuses it (lift_passes).
 abbrev pub LiftPasses : Type 0
 LiftPasses = (t : Table) (ns ps xs : List ℕ) → PrenexOf t ns ps xs → form_verdict ns ps xs ≡ accepted
 
@@ -36,7 +36,7 @@ pub record SameTruth (text lifted : List ℕ) : Type 0 where
   pub target_only : (g : File) → SpellsUnbounded lifted g → g ≡ target
   pub same_truth : (v : Valuation) → file_truth target v ≡ file_truth source v
 
--- Whatever text was read, the table that stands in the buffers, lifted and written, gives such a text (file-to-file).
+-- Whatever text was read, the table that stands in the buffers, lifted and written, gives such a text (file_to_file).
 abbrev pub FileToFile : Type 0
 FileToFile =
     (text : List ℕ) (before : Buffers) (o : Outcome Written Buffers) → Reading limits text before o → o.answer.verdict.number ≡ 0

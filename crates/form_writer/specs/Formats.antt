@@ -13,7 +13,7 @@ unfoldable pub text_as : Format → List ℕ → List ℕ → List ℕ → List 
 text_as Qcir = form_text
 text_as Qdimacs = clauses_text
 
--- Bytes that are enough for the text of a form with so many nodes, prefix blocks and prefix variables (text-room, proofs/Formats.antt).
+-- Bytes that are enough for the text of a form with so many nodes, prefix blocks and prefix variables (text_room, proofs/Formats.antt).
 unfoldable pub room_as : Format → ℕ → ℕ → ℕ → ℕ
 room_as Qcir = qcir.room_for
 room_as Qdimacs = qdimacs.room_for
