@@ -2,8 +2,9 @@
 // error what is wrong.
 #![tactic(auto)]
 
-ghost use Rattle.std.specs.Prelude.{◌+◌, ◌≤◌, ◌≡◌, length, take, IfOk};
+ghost use Rattle.std.specs.Prelude.{◌+◌, ◌<◌, ◌≤◌, ◌≡◌, length, take, IfOk};
 ghost use Rattle.std.specs.Io.{ReadsAtMost};
+ghost use Rattle.std.specs.Io.KnownBytes.{Consumes, IsAtEnd};
 ghost use Rattle.command_line.specs.Input.{IsPrefixLen};
 ghost use Rattle.command_line.specs.Place.{line, column, next_line, next_column};
 
@@ -136,9 +137,12 @@ fn read_open<R: Read>(
     }
 }
 
-// Reads until the text is full, the input ends or a read fails.
+// Reads until the text is full, the input ends or a read fails. What it puts in the text's front is what
+// the reader gave, all of it where there is room for more.
 pub fn read_all<R: Read>(from: &mut R, text: &mut [u8]) -> io::Result<usize>
-    ensures { ReadsAtMost result text.new }
+    ensures bound { ReadsAtMost result text.new }
+    ensures bytes { IfOk result (λ n. Consumes (R.remaining from.old) (R.remaining from.new) (take n text.new)) }
+    ensures end { IfOk result (λ n. n < length text.new → IsAtEnd (R.remaining from.new)) }
 {
     let mut length = 0;
     while length < text.len() {
