@@ -2,7 +2,8 @@
 // (request S-13); or the number of the refusal of the names.
 #![tactic(auto)]
 
-ghost use Rattle.std.specs.Prelude.{ℕ, ◌≤◌, ◌≡◌, List, ◌++◌, length, take};
+ghost use Rattle.std.specs.Prelude.{ℕ, ◌≤◌, ◌≡◌, List, ◌++◌, length, take, false, IsNone};
+ghost use Rattle.std.specs.Io.KnownBytes.{Consumes, IsAtEnd};
 ghost use Rattle.refusals.specs.Verdict.{accepted};
 ghost use Rattle.growth.specs.Lines.{line_at};
 ghost use Rattle.name_lines.specs.Names.{names as names_of, names_verdict};
@@ -42,7 +43,8 @@ fn main(rt: HostRuntime) -> io::Result<()> {
 fn run(rt: &HostRuntime, kept: &mut [u8]) -> io::Result<()>
     requires { 65536 ≤ length kept.old }
 {
-    let given = read_names(rt, kept);
+    let mut stdin = rt.stdin();
+    let given = read_names(&mut stdin, kept);
     if let Some(error) = given.failed {
         return command_line::fail(rt, b"standard input", &error);
     }
@@ -55,15 +57,17 @@ fn run(rt: &HostRuntime, kept: &mut [u8]) -> io::Result<()>
     report(rt, &kept[..bytes])
 }
 
-// All of standard input, in parts: what is found of some text, and nothing says which, since no contract
-// tells what is read. A proved loop has to end, and nothing says that standard input does: so the loop counts
-// its turns down, from a number that no run uses up.
-fn read_names(rt: &HostRuntime, kept: &mut [u8]) -> Given
+// All that a reader gives, in parts: what is found of this text, and where reading did not fail, none is left.
+// What standard input gives no contract tells. A proved loop has to end, and nothing says that standard input
+// does: so the loop counts its turns down, from a number that no run uses up.
+fn read_names<R: Read>(from: &mut R, kept: &mut [u8]) -> Given
     requires { 65536 ≤ length kept.old }
-    ensures { (result.found.bytes ≤ length kept.new)
-        × ((text : List ℕ) × Taken (names_of text) result.found kept.new) }
+    ensures found { (result.found.bytes ≤ length kept.new)
+        × ((text : List ℕ) × Taken (names_of text) result.found kept.new
+        × Consumes (R.remaining from.old) (R.remaining from.new) text) }
+    ensures end { IsNone result.failed → IsAtEnd (R.remaining from.new) }
 {
-    let mut p = read_part(rt, name_lines::start(kept), kept);
+    let mut p = read_part(from, name_lines::start(kept), kept);
     let mut turns = u64::MAX;
     while p.more {
         if turns == 0 {
@@ -71,26 +75,29 @@ fn read_names(rt: &HostRuntime, kept: &mut [u8]) -> Given
             return names_given(p.state, Some(endless), kept);
         }
         turns -= 1;
-        p = read_part(rt, p.state, kept);
+        p = read_part(from, p.state, kept);
     }
     names_given(p.state, p.failed, kept)
 }
 
 fn names_given(s: State, failed: Option<io::Error>, kept: &mut [u8]) -> Given
-    ensures { (result.found.bytes ≤ length kept.new)
+    ensures found { (result.found.bytes ≤ length kept.new)
         × ((text : List ℕ) → HasRead text s kept.old → Taken (names_of text) result.found kept.new) }
+    ensures failed { result.failed ≡ failed }
 {
     let found = name_lines::finish(s, kept);
     Given { found, failed }
 }
 
-// One read of standard input.
-fn read_part(rt: &HostRuntime, s: State, kept: &mut [u8]) -> Part
-    ensures { (text : List ℕ) → HasRead text s kept.old
-        → ((part : List ℕ) × HasRead (text ++ part) result.state kept.new) }
+// One read.
+fn read_part<R: Read>(from: &mut R, s: State, kept: &mut [u8]) -> Part
+    ensures read { (text : List ℕ) → HasRead text s kept.old
+        → ((part : List ℕ) × HasRead (text ++ part) result.state kept.new
+        × Consumes (R.remaining from.old) (R.remaining from.new) part) }
+    ensures end { result.more ≡ false → IsNone result.failed → IsAtEnd (R.remaining from.new) }
 {
     let mut part = [0u8; PART];
-    match rt.stdin().read(&mut part) {
+    match from.read(&mut part) {
         Ok(n) => Part {
             state: name_lines::read_on(s, &part[..n], kept),
             more: 0 < n,

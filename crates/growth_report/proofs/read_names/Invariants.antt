@@ -1,14 +1,16 @@
--- `growth_report::read_names` meets its contract. The loop's invariant: some text has been read.
+-- `growth_report::read_names` meets its contract. The loop's invariant: what has been read since it began is what the reader gave.
 -- Assumes nothing.
-use mathlib.Core.List.{List}
-use Prim.Native.Nat.{ℕ}
+use Rattle.std.proofs.Common.{◌≡◌, ℕ, List, ◌++◌, length, false}
+use Rattle.std.specs.Prelude.{IsNone}
+use Rattle.std.specs.Io.KnownBytes.{Consumes, IsAtEnd}
 use Rattle.name_lines.specs.Kept.{HasRead}
-use mathlib.Core.Path.{◌≡◌}
-use lib.ListN.{length}
 use Rattle.growth_report.proofs.read_names.Given as goal
 
 abbrev pub invariant-loop-p : goal.invariant-loop-p
-invariant-loop-p l = (length l.kept ≡ length l.initial.kept) × ((text : List ℕ) × HasRead text l.p.state l.kept)
+invariant-loop-p g l = (length l.kept ≡ length l.initial.kept)
+    × ((first : List ℕ) → HasRead first l.initial.p.state l.initial.kept
+    → ((part : List ℕ) × HasRead (first ++ part) l.p.state l.kept × Consumes (g.R.Read.remaining l.initial.from) (g.R.Read.remaining l.from) part))
+    × (l.p.more ≡ false → IsNone l.p.failed → IsAtEnd (g.R.Read.remaining l.from))
 
 abbrev pub decreases-loop-p : goal.decreases-loop-p
-decreases-loop-p l = l.turns
+decreases-loop-p g l = l.turns
