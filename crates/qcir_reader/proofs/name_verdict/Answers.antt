@@ -16,7 +16,7 @@ returns-then-gate c =
 pub returns-then-variable : goal.returns-then-variable
 returns-then-variable c =
     λ f p g v. let m = nothing_found _ (misplaced f) p c.if-place.false in
-    let u = nothing_found _ (not_used_once f) g c.if-gate.false in
+    let u = nothing_found _ (not_used_once f) g (cc) in
     c.refusal-then-variable.ensures ∙ unbound_first f _ m u (v m u) c.if-variable.true
 
 pub returns : goal.returns
