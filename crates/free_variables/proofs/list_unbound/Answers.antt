@@ -12,7 +12,7 @@ list_flagged-requires c =
     record {
       list_value = c.requires.list_value;
       bound = c.requires.bound;
-      clear = flags_none (table_of c.args.words.now c.args.list.now) 4096 (omega (arith, c.requires.highest_value, c.if-highest-lt-FEW_NUMBERS.true)) (omega arith);
+      clear = flags_none (table_of c.args.words.now c.args.list.now) 4096 (omega (arith, c.requires.highest_value)) (omega arith);
     }
 
 pub list_flagged-requires-2 : goal.list_flagged-requires-2

@@ -25,7 +25,7 @@ returns-then-shape-eq-NAME c =
     let e = c.shape_at-shape.ensures in
     let nd = node_at c.args.nodes.now [] c.args.i in
     let v = is_name nd (plain_node 40960 77823 c.args.nodes.now c.requires.accepted_within c.args.i c.requires.i_bound.0) (ap (λ (r : Shape). r.row.kind) (sym e) ∙ c.if-shape-eq-NAME.true) in
-    node_name c.args.marks.now c.args.names.now c.args.i c.args.highest nd _ _ _ (λ z. omega (arith, c.if-marks-i-eq0.false, z)) (v ∙ ap variable (ap (λ (r : Shape). r.left) (sym e))) c.flag_name.ensures.by_index c.flag_name.ensures.value
+    node_name c.args.marks.now c.args.names.now c.args.i c.args.highest nd _ _ _ (λ z. omega arith) (v ∙ ap variable (ap (λ (r : Shape). r.left) (sym e))) c.flag_name.ensures.by_index c.flag_name.ensures.value
 
 pub mark_operands-requires : goal.mark_operands-requires
 unfolding table_of
@@ -41,4 +41,4 @@ returns c =
     let nd = node_at c.args.nodes.now [] c.args.i in
     let plain = plain_node 40960 77823 c.args.nodes.now c.requires.accepted_within c.args.i c.requires.i_bound.0 in
     let k = some_row nd plain (λ z. c.if-shape-eq-NAME.false (ap (λ (r : Shape). r.row.kind) e ∙ z)) in
-    node_row c.args.marks.now c.args.names.now c.args.i c.args.highest nd _ k.0 (λ z. omega (arith, c.if-marks-i-eq0.false, z)) (is_row nd plain k.0 k.1) (rw (← k.1, ← e) c.mark_operands.ensures)
+    node_row c.args.marks.now c.args.names.now c.args.i c.args.highest nd _ k.0 (λ z. omega arith) (is_row nd plain k.0 k.1) (rw (← k.1, ← e) c.mark_operands.ensures)
