@@ -2,7 +2,7 @@
 // error what is wrong.
 #![tactic(auto)]
 
-ghost use Rattle.std.specs.Prelude.{◌+◌, ◌<◌, ◌≤◌, ◌≡◌, length, take, IfOk};
+ghost use Rattle.std.specs.Prelude.{◌+◌, ◌<◌, ◌≤◌, ◌≡◌, length, take, IfOk, OnErr};
 ghost use Rattle.std.specs.Io.{ReadsAtMost};
 ghost use Rattle.std.specs.Io.KnownBytes.{Consumes, IsAtEnd};
 ghost use Rattle.std.specs.Counts.{IsPrefixLen};
@@ -45,7 +45,8 @@ struct Place {
 // Reads the file that the program's only argument names; if that is `-` or there is none, standard
 // input. What goes wrong is said here, the program's usage among it; an error is one of saying it.
 pub fn read_input(rt: &HostRuntime, usage: &[u8], text: &mut [u8]) -> io::Result<Input>
-    ensures { IfOk result (λ input. IsPrefixLen input.length text.new) }
+    ensures ok { IfOk result (λ input. IsPrefixLen input.length text.new) }
+    ensures err { OnErr result (length text.new ≡ length text.old) }
 {
     if is_given(rt, 2) {
         say(rt, usage)?;
@@ -83,7 +84,8 @@ fn nothing(text: &[u8]) -> Input
 
 // A name that is no text in UTF-8 opens no file here, and is said to be none.
 fn read_named(rt: &HostRuntime, path: &[u8], text: &mut [u8]) -> io::Result<Input>
-    ensures { IfOk result (λ input. IsPrefixLen input.length text.new) }
+    ensures ok { IfOk result (λ input. IsPrefixLen input.length text.new) }
+    ensures err { OnErr result (length text.new ≡ length text.old) }
 {
     if is_dash(path) {
         return read_standard_input(rt, text);
@@ -103,7 +105,8 @@ fn read_named(rt: &HostRuntime, path: &[u8], text: &mut [u8]) -> io::Result<Inpu
 }
 
 fn read_standard_input(rt: &HostRuntime, text: &mut [u8]) -> io::Result<Input>
-    ensures { IfOk result (λ input. IsPrefixLen input.length text.new) }
+    ensures ok { IfOk result (λ input. IsPrefixLen input.length text.new) }
+    ensures err { OnErr result (length text.new ≡ length text.old) }
 {
     let mut stdin = rt.stdin();
     read_open(rt, &mut stdin, b"standard input", text)
@@ -123,7 +126,8 @@ fn read_open<R: Read>(
     name: &[u8],
     text: &mut [u8],
 ) -> io::Result<Input>
-    ensures { IfOk result (λ input. IsPrefixLen input.length text.new) }
+    ensures ok { IfOk result (λ input. IsPrefixLen input.length text.new) }
+    ensures err { OnErr result (length text.new ≡ length text.old) }
 {
     match read_all(from, text) {
         Ok(length) => Ok(Input {
@@ -143,6 +147,7 @@ pub fn read_all<R: Read>(from: &mut R, text: &mut [u8]) -> io::Result<usize>
     ensures bound { ReadsAtMost result text.new }
     ensures bytes { IfOk result (λ n. Consumes (R.remaining from.old) (R.remaining from.new) (take n text.new)) }
     ensures end { IfOk result (λ n. n < length text.new → IsAtEnd (R.remaining from.new)) }
+    ensures err { OnErr result (length text.new ≡ length text.old) }
 {
     let mut length = 0;
     while length < text.len() {
