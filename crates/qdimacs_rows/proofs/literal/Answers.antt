@@ -8,7 +8,7 @@ pub returns-then-value-eq1 : goal.returns-then-value-eq1
 returns-then-value-eq1 c =
     let p = c.requires in
     let of = c.positive.ensures in record {
-      by_index = λ g b w d. says_true g b d c.if-value-eq1.true (of g w.writable w.word_of).0;
+      by_index = λ g b w d. says_true g b d (omega arith) (of g w.writable w.word_of).0;
       length_bound = omega (arith, (of p.0.0 p.0.1.writable p.0.1.word_of).1);
     }
 
@@ -16,6 +16,6 @@ pub returns : goal.returns
 returns c =
     let p = c.requires in
     let of = c.negative.ensures in record {
-      by_index = λ g b w d. says_false g b d c.if-value-eq1.false (of g w.writable w.word_of).0;
+      by_index = λ g b w d. says_false g b d (λ z. omega arith) (of g w.writable w.word_of).0;
       length_bound = (of p.0.0 p.0.1.writable p.0.1.word_of).1;
     }
