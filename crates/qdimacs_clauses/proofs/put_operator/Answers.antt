@@ -11,7 +11,7 @@ pub returns-then-x-y : goal.returns-then-x-y
 returns-then-x-y c =
     record {
       by_index = λ g a b w u v below lower. loose_as
-          (same_operands g (operator_value c.args.table) u v below c.if-x-y.true)
+          (same_operands g (operator_value c.args.table) u v below (omega arith))
           (c.put_one_operand.ensures.by_index g a (λ p. operator_value c.args.table p p) w u (bit_none c.args.table) (bit_both c.args.table c.requires.3));
       upper_bound = omega arith;
     }
@@ -20,7 +20,7 @@ pub returns : goal.returns
 returns c =
     record {
       by_index = λ g a b w u v below lower. loose_as
-          (different_operands g (operator_value c.args.table) u v below c.if-x-y.false lower)
+          (different_operands g (operator_value c.args.table) u v below (λ z. omega arith) lower)
           (c.put_two_operands.ensures.by_index g a b w u v);
       upper_bound = omega arith;
     }
