@@ -70,6 +70,10 @@ ended_none k e = loose_as (ap end_text e ∙ end_none) loose_none
 pub ended : (k : ℕ) {before after : List ℕ} {at n : ℕ} → (k ≡ 0 → ⊥) → Put before at (48 ∷ 10 ∷ []) after n → Loose before at (end_text k) after n
 ended k n p = loose_as (end_some k n) (put_loose p)
 
+-- Where none has begun, its end has no length.
+pub unended_length : (k : ℕ) → k ≡ 0 → length (end_text k) ≡ 0
+unended_length k e = ap length (ap end_text e ∙ end_none)
+
 -- No step, steps in a row, and a step by another name.
 pub goes_none : {before : List ℕ} {l : Line} → Goes before l [] l.kind before l
 goes_none = record { put = loose_none; kind_is = refl }
@@ -110,6 +114,17 @@ turned_for_all m n d p q =
 pub block_none : {before : List ℕ} {l : Line} (m : ℕ) (xs : List ℕ) → length xs ≡ 0
     → Goes before l (added_text l.kind m xs) (kind_after l.kind m xs) before l
 block_none {before} {l} m xs e = goes_as (added_none l.kind m xs e) (after_none l.kind m xs e) goes_none
+
+-- A block without names again, where the line keeps its kind and its index: whatever was put is empty then.
+nothing : (p : List ℕ) → length p ≡ 0 → p ≡ []
+nothing [] e = refl
+nothing (x ∷ p) e = absurd (omega arith)
+
+pub block_empty : {before after : List ℕ} {l n : Line} (m : ℕ) (xs : List ℕ) → length xs ≡ 0 → n.kind ≡ l.kind → n.at ≡ l.at
+    → (p : List ℕ) × Loose before l.at p after n.at → Goes before l (added_text l.kind m xs) (kind_after l.kind m xs) after n
+block_empty {l = l} m xs e same still q =
+    let none : q.0 ≡ [] = nothing q.0 (omega (arith, q.1.counted)) in
+    record { put = loose_as (added_none l.kind m xs e ∙ sym none) q.1; kind_is = same ∙ sym (after_none l.kind m xs e) }
 
 pub block_put : {before mid after : List ℕ} {l t : Line} {n : ℕ} (m : ℕ) (xs : List ℕ) → (length xs ≡ 0 → ⊥)
     → Goes before l (turn_text l.kind m) m mid t → Loose mid t.at (names_text xs) after n
