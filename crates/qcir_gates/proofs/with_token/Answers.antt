@@ -3,6 +3,8 @@
 use mathlib.Core.Bool.{not}
 use mathlib.Core.List.{◌∷◌}
 use mathlib.Core.Path.{sym, ◌∙◌, ap}
+use native.Mathlib.Omega.{arith}
+use lib.ListN.{get_or}
 use borrow.Author.Tests.{eq-eqb, ne_eqb}
 use Rattle.lists.specs.Choice.{pick_yes, pick_no, and_both, and_off_left, and_off_right}
 use Rattle.qcir_tokens.specs.Held.{found_of}
@@ -15,7 +17,9 @@ returns-then-not-is_definition c = λ xs e. e ∙ ap found_of (sym (pick_no _ _ 
 pub returns-then-uses-number-eq1 : goal.returns-then-uses-number-eq1
 returns-then-uses-number-eq1 c =
     λ xs e. let a = c.args in
-    e ∙ ap found_of (sym (pick_no _ (a.number ∷ xs) xs (and_off_right (is_definition a.role) _ (ap not (eq-eqb _ 1 c.if-uses-number-eq1.true)))))
+    e ∙ ap found_of (sym (pick_no _ (a.number ∷ xs) xs (and_off_right (is_definition a.role) _ (ap not (eq-eqb (get_or a.uses.now a.number 0) 1 (omega arith))))))
 
 pub returns : goal.returns
-returns c = λ xs e. c.with_number.ensures xs e ∙ ap found_of (sym (pick_yes _ _ _ (and_both _ _ (sym c.is_definition.ensures ∙ c.if-not-is_definition.false) (ap not (ne_eqb _ 1 c.if-uses-number-eq1.false)))))
+returns c =
+    λ xs e. let a = c.args in
+    c.with_number.ensures xs e ∙ ap found_of (sym (pick_yes _ _ _ (and_both _ _ (sym c.is_definition.ensures ∙ c.if-not-is_definition.false) (ap not (ne_eqb (get_or a.uses.now a.number 0) 1 (λ z. omega arith))))))
