@@ -3,6 +3,7 @@
 -- Assumes nothing.
 use mathlib.Core.Bool.{false}
 use mathlib.Core.Path.{◌≡◌, sym, ◌∙◌}
+use native.Mathlib.Omega.{arith}
 use Rattle.acceptance.specs.Limits.{tables_with}
 use Rattle.acceptance.specs.Verdict.{partial_node, too_large}
 use Rattle.table_check.proofs.Faults.{some_node_lem, few_nodes, verdict_partial, verdict_large, verdict_nodes, verdict_tree}
@@ -37,16 +38,18 @@ check_nodes-nodes-requires c =
 pub returns-then-nodes-ne-ACCEPTED : goal.returns-then-nodes-ne-ACCEPTED
 returns-then-nodes-ne-ACCEPTED c =
     let n = c.check_nodes-nodes.ensures.value in
-    n ∙ sym (verdict_nodes _ _ _ (whole (goal.at.returns-then-nodes-ne-ACCEPTED c).Else-partial_node) (within (goal.at.returns-then-nodes-ne-ACCEPTED c).Else-words-list) (rw n at c.if-nodes-ne-ACCEPTED.true))
+    let refused : c.check_nodes-nodes.result.number ≡ 0 → ⊥ = λ z. omega arith in
+    n ∙ sym (verdict_nodes _ _ _ (whole (goal.at.returns-then-nodes-ne-ACCEPTED c).Else-partial_node) (within (goal.at.returns-then-nodes-ne-ACCEPTED c).Else-words-list) (rw n at refused))
 
 pub check_tree-requires : goal.check_tree-requires
 check_tree-requires c =
     let counted = c.check_nodes-nodes.ensures.counted_2 in record {
       words_nonzero = (some_node_lem _ (whole (goal.at.check_tree-requires c).Else-partial_node), few_nodes _ _ _ (within (goal.at.check_tree-requires c).Else-words-list));
-      counted = counted c.if-nodes-ne-ACCEPTED.false;
+      counted = counted (omega arith);
     }
 
 pub returns : goal.returns
 returns c =
-    let sound = rw c.check_nodes-nodes.ensures.value at c.if-nodes-ne-ACCEPTED.false in
+    let accepted : c.check_nodes-nodes.result.number ≡ 0 = omega arith in
+    let sound = rw c.check_nodes-nodes.ensures.value at accepted in
     c.check_tree.ensures ∙ sym (verdict_tree _ _ _ (whole (goal.at.returns c).Else-partial_node) (within (goal.at.returns c).Else-words-list) sound)

@@ -14,10 +14,10 @@ returns-then-all_once c = sym (lowest_none _ _ (λ k l. ap not (eq-eqb _ 1 (c.al
 pub returns-then-named-j-ne1 : goal.returns-then-named-j-ne1
 returns-then-named-j-ne1 c =
     sym
-    (lowest_is _ _ _ c.loop-j-test.true (ap not (ne_eqb _ 1 c.if-named-j-ne1.true)) (λ k l. ap not (eq-eqb _ 1 (c.loop-j.invariant.1 k l))))
+    (lowest_is _ _ _ c.loop-j-test.true (ap not (ne_eqb _ 1 (λ z. omega arith))) (λ k l. ap not (eq-eqb _ 1 (c.loop-j.invariant.1 k l))))
 
 pub loop-j-preserved : goal.loop-j-preserved
-loop-j-preserved c = (omega arith, below_more _ _ c.loop-j.invariant.1 c.if-named-j-ne1.false)
+loop-j-preserved c = (omega arith, below_more _ _ c.loop-j.invariant.1 (omega arith))
 
 pub returns : goal.returns
 returns c = sym (lowest_none _ _ (λ k l. ap not (eq-eqb _ 1 (c.loop-j.invariant.1 k (omega arith)))))
