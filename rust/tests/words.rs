@@ -6,9 +6,10 @@ mod common;
 mod programs;
 
 use common::files;
-use programs::{folder, rattle_program, refused, repository, run, tool, Left};
+use programs::{folder, output, rattle_program, refused, repository, run, tool, Left};
 use std::fs;
 use std::path::{Path, PathBuf};
+use std::process::Command;
 use wakubinryo::generate_qcir::largest_lift;
 use wakubinryo::measure_text;
 
@@ -155,5 +156,19 @@ fn file_errors_agree() {
             assert_eq!(expected.status, Some(2));
             assert_eq!(said(run(&program.path, &[name], b"")), said(expected));
         }
+    }
+}
+
+/// The programs open no file whose name is no text in UTF-8, and say so.
+#[cfg(unix)]
+#[test]
+fn a_name_not_in_utf8() {
+    use std::ffi::OsStr;
+    use std::os::unix::ffi::OsStrExt;
+    let name = OsStr::from_bytes(b"box\xff.qcir");
+    for program in programs() {
+        let left = output(Command::new(&program.path).arg(name), b"");
+        let message = b"box\xff.qcir: not a name in UTF-8\n".to_vec();
+        assert_eq!((left.stdout, left.stderr), (Vec::new(), message));
     }
 }
