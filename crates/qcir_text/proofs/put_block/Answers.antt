@@ -9,7 +9,7 @@ use Rattle.qcir_text.proofs.put_block.Goals as goal
 pub returns-then-names-eq0 : goal.returns-then-names-eq0
 returns-then-names-eq0 c =
     record {
-      put = put_no_line _ _ _ _ c.if-names-eq0.true;
+      put = put_no_line _ _ _ _ (omega arith);
       upper_bound = omega arith;
     }
 
