@@ -12,7 +12,7 @@ use Rattle.formula.specs.Node.{variable}
 use Rattle.qcir_marks.proofs.mark_node.Goals as goal
 
 pub returns-then-marks-i-eq0 : goal.returns-then-marks-i-eq0
-returns-then-marks-i-eq0 c = let a = c.args in node_unmarked a.marks.now a.names.now a.i a.highest (node_at a.nodes.now [] a.i) c.if-marks-i-eq0.true
+returns-then-marks-i-eq0 c = let a = c.args in node_unmarked a.marks.now a.names.now a.i a.highest (node_at a.nodes.now [] a.i) (omega arith)
 
 pub flag_name-requires : goal.flag_name-requires
 flag_name-requires c =
