@@ -17,16 +17,23 @@ pub returns-then-nodes-left : goal.returns-then-nodes-left
 returns-then-nodes-left c =
     let ws = c.args.words.now in
     storing_short _ _ _ c.refusal-verdict.ensures
-    (omega (arith, whole_left ws, left_count ws, c.count_left-left.ensures, c.if-nodes-left.true))
+    (omega (arith, whole_left ws, left_count ws, left_le ws (node_count ws), c.count_left-left.ensures, c.requires.few, c.if-nodes-left.true))
 
 pub overflow_cast-count : goal.overflow_cast-count
 overflow_cast-count c =
     let ws = c.args.words.now in
     omega (arith, c.count_left-left.ensures, left_le ws (node_count ws), c.requires.few)
 
+pub write_left-requires : goal.write_left-requires
+write_left-requires c =
+    let ws = c.args.words.now in record {
+      small_table = c.requires;
+      words_in_bounds = omega (arith, c.count_left-left.ensures, left_le ws (node_count ws), c.requires.few, c.if-nodes-left.false);
+    }
+
 pub returns : goal.returns
 returns c =
     let ws = c.args.words.now in
     let n = c.count_left-left.ensures in
-    storing_done _ _ _ c.accepted-verdict.ensures (omega (arith, whole_left ws, left_count ws, n, c.if-nodes-left.false)) _ (n ∙ sym (left_count ws)) _
+    storing_done _ _ _ c.accepted-verdict.ensures (omega (arith, whole_left ws, left_count ws, left_le ws (node_count ws), n, c.requires.few, c.if-nodes-left.false)) _ (n ∙ sym (left_count ws)) _
     c.write_left.ensures
