@@ -1,6 +1,7 @@
 //! The Rattle programs measure_qcir, lift_qcir and lift_qdimacs say what the tool
-//! says. They are in ../crates/NAME/out once `rt ci` has been run, or `rt run` in
-//! the folder of each.
+//! says, but of a file whose name is no text in UTF-8, which the tool alone opens.
+//! They are in ../crates/NAME/out once `rt ci` has been run, or `rt run` in the
+//! folder of each.
 
 mod common;
 mod programs;
