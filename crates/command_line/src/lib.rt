@@ -13,7 +13,7 @@ use refusals::{
     TOO_MANY_VARIABLES, UNBOUND_VARIABLE,
 };
 use std::env::FillError;
-use std::io::Read;
+use std::io::{Read, Write};
 use std::rt::Env;
 use std::{fs, io, str};
 
@@ -25,6 +25,9 @@ pub const ROOM: usize = 65537;
 
 // Room for a file's name, which the system takes up to 4,095 bytes of.
 const NAME: usize = 4096;
+
+// Room for an error's words: std takes up to 256 bytes of the system's, and writes its number behind them.
+const WORDS: usize = 320;
 
 const LINE_END: u8 = b'\n';
 
@@ -253,19 +256,25 @@ fn after(here: Place, byte: u8) -> Place
     }
 }
 
-// Says what failed, under a name, and why, as the system words it.
+// Says what failed, under a name, and why, as the system words it. Words that have no room are an error.
 pub fn fail(rt: &HostRuntime, what: &[u8], error: &io::Error) -> io::Result<()> {
-    let words = format!(in rt.alloc(); "{error}")?;
+    let mut words = [0u8; WORDS];
+    let mut rest = &mut words[..];
+    write!(rest, "{error}")?;
+    let length = WORDS.saturating_sub(rest.len());
     say(rt, what)?;
     say(rt, b": ")?;
-    say(rt, without_number(words.as_str()).as_bytes())?;
+    say(rt, without_number(&words[..length]))?;
     say(rt, b"\n")
 }
 
 // An error's words without the system's number of it, which std writes behind them.
-fn without_number(words: &str) -> &str {
-    match words.split_once(" (os error ") {
-        Some((before, _)) => before,
+fn without_number(words: &[u8]) -> &[u8] {
+    let Ok(text) = str::from_utf8(words) else {
+        return words;
+    };
+    match text.split_once(" (os error ") {
+        Some((before, _)) => before.as_bytes(),
         None => words,
     }
 }
