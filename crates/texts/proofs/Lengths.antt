@@ -1,7 +1,7 @@
 -- How many digits a number has.
 -- Assumes nothing.
-use mathlib.Core.Path.{◌≡◌, ◌∙◌, ap}
-use Prim.Native.Nat.{ℕ, zero, suc, ◌*◌, ◌/◌, ◌^◌, ◌≤◌, ◌<◌}
+use mathlib.Core.Path.{◌≡◌}
+use Prim.Native.Nat.{ℕ, zero, suc, ◌+◌, ◌*◌, ◌/◌, ◌^◌, ◌≤◌, ◌<◌}
 use native.Mathlib.Nat.{pow-succ'}
 use native.Mathlib.Omega.{arith}
 use lib.Dec.{ltb}
@@ -16,23 +16,19 @@ use Rattle.texts.specs.Bounds.{number_bound}
 pub some_digit : (x : ℕ) → 1 ≤ length (digits x)
 some_digit = by_tenths (λ x. 1 ≤ length (digits x)) (λ x h. omega (arith, length_below_ten x h)) (λ x h tenth. omega (arith, length_step x h))
 
-pub one_digit : (x : ℕ) → x < 10 → length (digits x) ≡ 1
-one_digit x h = length_below_ten x h
+-- a power of ten is at least one
+ten_up : (k : ℕ) → 1 ≤ 10 ^ k
+ten_up zero = omega arith
+ten_up (suc k) = omega (arith, pow-succ' 10 k, ten_up k)
 
-pub two_digits : (x : ℕ) → 10 ≤ x → x < 100 → length (digits x) ≡ 2
-two_digits x l h = length_step x l ∙ ap suc (one_digit (x / 10) (omega arith))
-
-pub three_digits : (x : ℕ) → 100 ≤ x → x < 1000 → length (digits x) ≡ 3
-three_digits x l h = length_step x (omega arith) ∙ ap suc (two_digits (x / 10) (omega arith) (omega arith))
-
-pub four_digits : (x : ℕ) → 1000 ≤ x → x < 10000 → length (digits x) ≡ 4
-four_digits x l h = length_step x (omega arith) ∙ ap suc (three_digits (x / 10) (omega arith) (omega arith))
-
-pub five_digits : (x : ℕ) → 10000 ≤ x → x < 100000 → length (digits x) ≡ 5
-five_digits x l h = length_step x (omega arith) ∙ ap suc (four_digits (x / 10) (omega arith) (omega arith))
-
-pub six_digits : (x : ℕ) → 100000 ≤ x → x < 1000000 → length (digits x) ≡ 6
-six_digits x l h = length_step x (omega arith) ∙ ap suc (five_digits (x / 10) (omega arith) (omega arith))
+-- from the k-th power of ten on and below the next: one digit more than k
+pub digits_at : (k x : ℕ) → 10 ^ k ≤ x → x < 10 * 10 ^ k → length (digits x) ≡ k + 1
+digits_at zero x l h = length_below_ten x (omega arith)
+digits_at (suc k) x l h =
+    let p : 10 ^ suc k ≡ 10 * 10 ^ k = pow-succ' 10 k in
+    let up : 1 ≤ 10 ^ k = ten_up k in
+    let tenth : length (digits (x / 10)) ≡ k + 1 = digits_at k (x / 10) (omega arith) (omega arith) in
+    omega (arith, length_step x (omega arith))
 
 -- at most one digit more below ten times the bound
 next_bound : (k bound : ℕ) → ((x : ℕ) → x < bound → length (digits x) ≤ k) → (x : ℕ) → x < 10 * bound → length (digits x) ≤ suc k

@@ -12,12 +12,17 @@ use Rattle.texts.specs.Put.{Put}
 use Rattle.texts.proofs.Stores.{overwrite_over}
 
 -- a piece that is stored, and one that does not fit
+pub put_held : (before : List ℕ) (at : ℕ) (piece after : List ℕ) (next : ℕ) → next ≡ at + length piece → next ≤ length before
+    → after ≡ overwrite before at piece → Put before at piece after next
+put_held before at piece after next n fits e =
+    record { counted = n; kept = ap length e ∙ length_overwrite before at piece (omega arith); held = λ _. e }
+
+-- one that ends where the next begins
 pub put_stored : (before : List ℕ) (at : ℕ) (piece after : List ℕ) (next : ℕ) → next ≡ at + length piece → next ≤ length before
     → after ≡ overwrite before (next - length piece) piece → Put before at piece after next
 put_stored before at piece after next n fits e =
     let a : next - length piece ≡ at = omega arith in
-    let w : after ≡ overwrite before at piece = e ∙ ap (λ k. overwrite before k piece) a in
-    record { counted = n; kept = ap length w ∙ length_overwrite before at piece (omega arith); held = λ _. w }
+    put_held before at piece after next n fits (e ∙ ap (λ k. overwrite before k piece) a)
 
 pub put_counted : (before : List ℕ) (at : ℕ) (piece : List ℕ) (next : ℕ) → next ≡ at + length piece → length before < next
     → Put before at piece before next

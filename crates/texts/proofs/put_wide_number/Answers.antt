@@ -10,7 +10,7 @@ pub returns-then-next-text : goal.returns-then-next-text
 returns-then-next-text c =
     let at = c.args.at in
     let count = c.wide_digit_count.ensures in record {
-      put = put_stored _ _ _ _ _ (ap (λ n. at + n) count.0) (omega arith) c.store_wide_digits.ensures;
+      put = put_stored _ _ _ _ _ (ap (λ n. at + n) count.0) (omega arith) c.store_digits.ensures;
       upper_bound = omega (arith, count.1);
     }
 

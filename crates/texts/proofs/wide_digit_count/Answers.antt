@@ -1,27 +1,15 @@
--- `texts::wide_digit_count` meets its contract. The loop's invariant: the digits counted and those of `left` are one more than those
--- of the number.
+-- `texts::wide_digit_count` meets its contract.
 -- Assumes nothing.
-use mathlib.Core.Path.{◌≡◌}
+use mathlib.Core.Path.{sym}
 use native.Mathlib.Omega.{arith}
-use lib.ListN.{length}
-use Rattle.texts.specs.Numerals.{digits}
-use Rattle.texts.proofs.Numerals.{length_below_ten, length_step}
-use Rattle.texts.proofs.Lengths.{at_most_twenty}
+use Rattle.texts.proofs.Numerals.{length_below_ten}
+use Rattle.texts.proofs.Lengths.{digits_at}
 use Rattle.texts.proofs.wide_digit_count.Goals as goal
 
-pub loop-left-init : goal.loop-left-init
-loop-left-init c = (omega arith, at_most_twenty c.args.x (omega arith))
+pub returns-in-Some : goal.returns-in-Some
+returns-in-Some c =
+    let log = c.in-Some.ensures in
+    (sym (digits_at _ _ log.power_le log.next_power_gt), omega (arith, log.bound))
 
-pub overflow_add-count : goal.overflow_add-count
-overflow_add-count c = omega (arith, c.loop-left.invariant)
-
-pub loop-left-preserved : goal.loop-left-preserved
-loop-left-preserved c =
-    let turn = c.loop-left in
-    (omega (arith, turn.invariant.0, length_step turn.left (omega arith)), turn.invariant.1)
-
-pub returns : goal.returns
-returns c =
-    let turn = c.loop-left in
-    let one : length (digits turn.left) ≡ 1 = length_below_ten turn.left (omega arith) in
-    (omega (arith, turn.invariant.0), omega (arith, turn.invariant))
+pub returns-in-None : goal.returns-in-None
+returns-in-None c = (sym (length_below_ten _ (omega (arith, c.in-None.ensures.none))), omega arith)
