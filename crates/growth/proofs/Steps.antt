@@ -17,6 +17,24 @@ sum_next : (f : ℕ → ℕ) (i : ℕ) → sum f (i + 1) ≡ sum f i + f i
 unfolding sum
 sum_next f i = rw add-one refl
 
+-- the default totals
+pub none_by_default : (t : Totals)
+    → (t.read ≡ 0) × ((t.refused ≡ 0) × ((t.n ≡ 0) × ((t.b ≡ 0) × ((t.q ≡ 0) × ((t.depth ≡ 0) × ((t.nodes ≡ 0) × ((t.variables ≡ 0)
+    × ((t.most.written ≡ 0) × (t.most.input ≡ 0))))))))) → t ≡ no_totals
+unfolding no_totals no_growth
+none_by_default t (read, (refused, (n, (b, (q, (depth, (nodes, (variables, (written, input))))))))) =
+    λ k. record {
+      read = read k;
+      refused = refused k;
+      n = n k;
+      b = b k;
+      q = q k;
+      depth = depth k;
+      nodes = nodes k;
+      variables = variables k;
+      most = record { written = written k; input = input k };
+    }
+
 pub totals_start : (ls : ℕ → Line) → totals ls 0 ≡ no_totals
 unfolding totals no_totals sum
 totals_start ls = rw most_start

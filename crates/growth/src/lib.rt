@@ -1,8 +1,7 @@
 // The totals of lines of figures (request S-13): files, sums, and the growth of the file that grew most.
 #![tactic(auto)]
 
-ghost use Rattle.std.specs.Prelude.{ℕ, ◌+◌, ◌*◌, ◌≤◌, ◌<◌, ◌≡◌, length, get_or, eqb};
-ghost use Rattle.lists.specs.Choice.{pick};
+ghost use Rattle.std.specs.Prelude.{ℕ, ◌+◌, ◌*◌, ◌≤◌, ◌<◌, ◌≡◌, length};
 ghost use Rattle.lists.specs.Parts.{overwrite};
 ghost use Rattle.refusals.specs.Verdict.{refusal};
 ghost use Rattle.refusals.specs.Outcome.{refused as refused_of};
@@ -47,7 +46,7 @@ pub struct Line {
 }
 
 // Written and input nodes.
-#[derive(Clone, Copy)]
+#[derive(Clone, Copy, Default)]
 pub struct Growth {
     pub written: u64,
     pub input: u64,
@@ -55,7 +54,7 @@ pub struct Growth {
 
 // How many files were read and how many refused, the sums of the six figures, and the growth of the file that grew
 // most.
-#[derive(Clone, Copy)]
+#[derive(Clone, Copy, Default)]
 pub struct Totals {
     pub read: u64,
     pub refused: u64,
@@ -96,39 +95,17 @@ fn refused(number: u32) -> Answer
     ensures { answer_of result ≡ refused_of (refusal number 0) no_totals }
 {
     let verdict = refusals::refusal(number, 0);
-    let totals = no_totals();
+    let totals = Totals::default();
     Answer { verdict, totals }
-}
-
-fn no_totals() -> Totals
-    ensures { result ≡ no_totals }
-{
-    let most = Growth {
-        written: 0,
-        input: 0,
-    };
-    Totals {
-        read: 0,
-        refused: 0,
-        n: 0,
-        b: 0,
-        q: 0,
-        depth: 0,
-        nodes: 0,
-        variables: 0,
-        most,
-    }
 }
 
 fn total_lines(lines: &[u32], count: usize) -> Totals
     requires { (line_width * count ≤ length lines.now) × (count ≤ 256) }
     ensures { result ≡ totals_of (line_at lines.now) count }
 {
-    let mut totals = no_totals();
-    let mut i = 0;
-    while i < count {
+    let mut totals = Totals::default();
+    for i in 0..count {
         totals = add_line(totals, line_at(lines, i));
-        i += 1;
     }
     totals
 }
@@ -141,8 +118,8 @@ fn add_line(t: Totals, line: Line) -> Totals
 {
     let most = more_grown(t.most, growth_of(line));
     Totals {
-        read: plus(t.read, one_unless(line.number, UNREADABLE)),
-        refused: plus(t.refused, one_unless(line.number, ACCEPTED)),
+        read: plus(t.read, u32::from(line.number != UNREADABLE)),
+        refused: plus(t.refused, u32::from(line.number != ACCEPTED)),
         n: plus(t.n, line.n),
         b: plus(t.b, line.b),
         q: plus(t.q, line.q),
@@ -158,16 +135,6 @@ fn plus(sum: u64, x: u32) -> u64
     ensures { (result ≡ sum + x) × (result ≤ sum + 4294967295) }
 {
     sum + x as u64
-}
-
-// 0 for this number, 1 for any other.
-fn one_unless(number: u32, this: u32) -> u32
-    ensures { result ≡ pick (eqb number this) 0 1 }
-{
-    if number == this {
-        return 0;
-    }
-    1
 }
 
 fn growth_of(line: Line) -> Growth
@@ -209,28 +176,21 @@ pub fn line_at(lines: &[u32], i: usize) -> Line
     requires { line_width * i + line_width ≤ length lines.now }
     ensures { result ≡ line_at lines.now i }
 {
-    let number = figure(lines, i, 0);
+    let at = LINE * i;
+    let words = &lines[at..at + LINE];
+    let number = words[0];
     if number != ACCEPTED {
         return refused_line(number);
     }
     Line {
         number,
-        n: figure(lines, i, 1),
-        b: figure(lines, i, 2),
-        q: figure(lines, i, 3),
-        depth: figure(lines, i, 4),
-        nodes: figure(lines, i, 5),
-        variables: figure(lines, i, 6),
+        n: words[1],
+        b: words[2],
+        q: words[3],
+        depth: words[4],
+        nodes: words[5],
+        variables: words[6],
     }
-}
-
-// Word k of line i.
-fn figure(lines: &[u32], i: usize, k: usize) -> u32
-    requires { (line_width * i + line_width ≤ length lines.now) × (k < line_width) }
-    ensures { result ≡ get_or lines.now (line_width * i + k) 0 }
-{
-    let at = LINE * i + k;
-    lines[at]
 }
 
 // The line of a refused file.
@@ -254,11 +214,13 @@ pub fn store_line(lines: &mut [u32], i: usize, line: Line)
     ensures { lines.new ≡ overwrite lines.old (line_width * i) (line_figures line) }
 {
     let at = LINE * i;
-    lines[at] = line.number;
-    lines[at + 1] = line.n;
-    lines[at + 2] = line.b;
-    lines[at + 3] = line.q;
-    lines[at + 4] = line.depth;
-    lines[at + 5] = line.nodes;
-    lines[at + 6] = line.variables;
+    lines[at..at + LINE].copy_from_slice(&[
+        line.number,
+        line.n,
+        line.b,
+        line.q,
+        line.depth,
+        line.nodes,
+        line.variables,
+    ]);
 }

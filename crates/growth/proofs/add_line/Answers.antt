@@ -1,10 +1,19 @@
 -- `growth::add_line` meets its contract.
 -- Assumes nothing.
-use mathlib.Core.Path.{ap, ◌∙◌}
+use mathlib.Core.Path.{◌≡◌, ap, ◌∙◌}
+use mathlib.Core.Bool.{Bool, true, false, not}
+use mir.Val.{bool_byte}
+use Rattle.lists.specs.Choice.{pick}
 use Prim.Native.Nat.{ℕ, ◌+◌, ◌≤◌}
 use native.Mathlib.Omega.{arith}
 use Rattle.growth.specs.Steps.{more_grown, with_line}
 use Rattle.growth.proofs.add_line.Goals as goal
+
+-- a test that fails counts one
+one_unless : (b : Bool) (x : ℕ) → x ≡ bool_byte (not b) → x ≡ pick b 0 1
+unfolding pick
+one_unless true x e = e
+one_unless false x e = e
 
 added : {r sum bound : ℕ} → r ≤ sum + 4294967295 → sum ≤ bound → r ≤ bound + 4294967295
 added h k = omega arith
@@ -47,8 +56,8 @@ returns c =
     let nodes = c.plus-7.ensures in
     let variables = c.plus-8.ensures in record {
       sums = λ k. record {
-        read = (read.0 ∙ ap (λ x. at.t.read + x) c.one_unless.ensures) k;
-        refused = (refused.0 ∙ ap (λ x. at.t.refused + x) c.one_unless-2.ensures) k;
+        read = (read.0 ∙ ap (λ x. at.t.read + x) (one_unless _ _ c.from.ensures)) k;
+        refused = (refused.0 ∙ ap (λ x. at.t.refused + x) (one_unless _ _ c.from-2.ensures)) k;
         n = n.0 k;
         b = b.0 k;
         q = q.0 k;

@@ -2,73 +2,41 @@
 -- Assumes nothing.
 use mathlib.Core.Path.{◌≡◌, sym, ap, ◌∙◌}
 use mathlib.Core.List.{List}
-use Prim.Native.Nat.{ℕ, ◌+◌, ◌*◌}
+use Prim.Native.Nat.{ℕ, ◌+◌, ◌*◌, ◌-◌, ◌<◌}
 use native.Mathlib.Omega.{arith}
-use lib.ListN.{get_or}
+use lib.ListN.{get_or, take, drop}
+use lib.Seq.{get_or-take, get_or-drop}
 use borrow.Author.Tests.{eq-eqb, ne_eqb}
 use Rattle.lists.specs.Choice.{pick_yes, pick_no}
-use Rattle.growth.specs.declared.Line.{Line}
 use Rattle.growth.specs.Lines.{line_width, refused_line, line_at}
 use Rattle.growth.proofs.line_at.Goals as goal
 
-line_refused : (ws : List ℕ) (i : ℕ) → (get_or ws (line_width * i + 0) 0 ≡ 0 → ⊥) → line_at ws i ≡ refused_line (get_or ws (line_width * i + 0) 0)
-unfolding line_at
-line_refused ws i n = pick_no _ _ _ (ne_eqb _ _ n)
-
-line-accepted : (ws : List ℕ) (i : ℕ) (l : Line) → get_or ws (line_width * i + 0) 0 ≡ 0
-    → l.number ≡ get_or ws (line_width * i + 0) 0
-    → l.n ≡ get_or ws (line_width * i + 1) 0
-    → l.b ≡ get_or ws (line_width * i + 2) 0
-    → l.q ≡ get_or ws (line_width * i + 3) 0
-    → l.depth ≡ get_or ws (line_width * i + 4) 0
-    → l.nodes ≡ get_or ws (line_width * i + 5) 0
-    → l.variables ≡ get_or ws (line_width * i + 6) 0
-    → l ≡ line_at ws i
-unfolding line_at
-line-accepted ws i l zero number n b q depth nodes variables =
-    (λ k. record { number = number k; n = n k; b = b k; q = q k; depth = depth k; nodes = nodes k; variables = variables k })
-    ∙ sym (pick_yes _ _ _ (eq-eqb _ _ zero))
-
-pub figure-number-requires : goal.figure-number-requires
-figure-number-requires c = (c.requires, omega arith)
+-- a word of a line
+word : (ws : List ℕ) (i k : ℕ) → k < line_width
+    → get_or (take (line_width * i + line_width - line_width * i) (drop (line_width * i) ws)) k 0 ≡ get_or ws (line_width * i + k) 0
+word ws i k h = get_or-take _ (drop (line_width * i) ws) k 0 (omega arith) ∙ get_or-drop (line_width * i) ws k 0
 
 pub returns-then-number-ne-ACCEPTED : goal.returns-then-number-ne-ACCEPTED
+unfolding line_at
 returns-then-number-ne-ACCEPTED c =
-    let number = c.figure-number.ensures in
+    let number = word c.args.lines.now c.args.i 0 (omega arith) in
     c.refused_line.ensures
     ∙ ap refused_line number
-    ∙ sym (line_refused _ _ (λ z. omega (arith, number, c.if-number-ne-ACCEPTED.true)))
-
-pub figure-requires : goal.figure-requires
-figure-requires c = (c.requires, omega arith)
-
-pub figure-requires-2 : goal.figure-requires-2
-figure-requires-2 c = (c.requires, omega arith)
-
-pub figure-requires-3 : goal.figure-requires-3
-figure-requires-3 c = (c.requires, omega arith)
-
-pub figure-requires-4 : goal.figure-requires-4
-figure-requires-4 c = (c.requires, omega arith)
-
-pub figure-requires-5 : goal.figure-requires-5
-figure-requires-5 c = (c.requires, omega arith)
-
-pub figure-requires-6 : goal.figure-requires-6
-figure-requires-6 c = (c.requires, omega arith)
+    ∙ sym (pick_no _ _ _ (ne_eqb _ _ (λ z. omega (arith, number, c.if-number-ne-ACCEPTED.true))))
 
 pub returns : goal.returns
+unfolding line_at
 returns c =
-    let number = c.figure-number.ensures in
-    line-accepted
-    _
-    _
-    _
-    (omega (arith, number, c.if-number-ne-ACCEPTED.false))
-    number
-    c.figure.ensures
-    c.figure-2.ensures
-    c.figure-3.ensures
-    c.figure-4.ensures
-    c.figure-5.ensures
-    c.figure-6.ensures
+    let at = c.args in
+    let ws = at.lines.now in
+    let number = word ws at.i 0 (omega arith) in
+    (λ k. record {
+      number = number k;
+      n = word ws at.i 1 (omega arith) k;
+      b = word ws at.i 2 (omega arith) k;
+      q = word ws at.i 3 (omega arith) k;
+      depth = word ws at.i 4 (omega arith) k;
+      nodes = word ws at.i 5 (omega arith) k;
+      variables = word ws at.i 6 (omega arith) k;
+    })
+    ∙ sym (pick_yes _ _ _ (eq-eqb _ _ (omega (arith, number, c.if-number-ne-ACCEPTED.false))))
