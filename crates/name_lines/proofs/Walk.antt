@@ -1,20 +1,22 @@
 -- The names of a text one after the other.
 -- Assumes nothing.
 use mathlib.Core.Path.{◌≡◌, refl, sym, ap, ◌∙◌}
-use mathlib.Core.Bool.{Bool, false, ◌||◌}
+use mathlib.Core.Bool.{Bool, true, false, ◌||◌}
 use mathlib.Core.List.{List, [], ◌∷◌, ◌++◌, append-nil}
-use Prim.Native.Nat.{ℕ, suc, ◌+◌, ◌-◌, ◌≤◌, ◌<◌}
+use Prim.Native.Nat.{ℕ, zero, suc, ◌+◌, ◌-◌, ◌≤◌, ◌<◌}
 use native.Mathlib.Numerals.{add-one}
+use native.Mathlib.Nat.{add-zero}
 use native.Mathlib.Omega.{arith}
 use lib.Dec.{ltb}
 use lib.ListN.{length, drop, get_or, length-drop, drop_of_length-le}
 use lib.Seq.{drop-cons, take-suc, get_or-drop, length-take-le}
 use borrow.Author.Tests.{eq-eqb, ne_eqb, ltb-true, ltb-false}
+use Rattle.std.specs.List.{AllWithin, HoldsAt}
 use Rattle.lists.proofs.Members.{or_group}
 use Rattle.lists.specs.Choice.{pick_yes, pick_no, Is, is_true, is_false, look}
 use Rattle.name_lines.specs.declared.Name.{Name}
 use Rattle.name_lines.specs.Names.{line_end, ended, names, names_from, some_long}
-use Rattle.name_lines.specs.Walk.{part, Skipped, LineEnds, NextName}
+use Rattle.name_lines.specs.Walk.{part, FirstFrom, NextName}
 use Rattle.name_lines.proofs.Readings.{or_false}
 
 at_cons : (text : List ℕ) (i : ℕ) → i < length text → drop i text ≡ get_or text i 0 ∷ drop (i + 1) text
@@ -75,6 +77,87 @@ begun_all text from i l b =
     let nothing : drop i text ≡ [] = drop_of_length-le text l in
     b ∙ ap (λ t. names_from (part text from i) t) nothing ∙ sym (append-nil (ended (part text from i)))
     ∙ ap (λ t. ended (part text from i) ++ names t) (sym nothing)
+
+-- Where the next name begins, or the text ends: nothing but LFs stands from a byte to there.
+pub record Skipped (text : List ℕ) (from r : ℕ) : Type 0 where
+  pub same : names (drop from text) ≡ names (drop r text)
+  pub after : from ≤ r
+  pub name : r < length text → get_or text r 0 ≡ line_end → ⊥
+
+-- Where the line that goes on at a byte ends.
+pub record LineEnds (text : List ℕ) (from r : ℕ) : Type 0 where
+  pub split : names (drop from text) ≡ ended (part text from r) ++ names (drop r text)
+  pub after : from ≤ r
+  pub within : r ≤ length text
+  pub end : r < length text → get_or text r 0 ≡ line_end
+
+-- What stands at the first byte that a search finds, and before it; or the text is searched to its end.
+module _ (Answers : ℕ → Bool → Type 0) (text : List ℕ) (from : ℕ) (inside : from ≤ length text) where
+  pub first_found : (k : ℕ)
+      → (k < length (drop from text)) × HoldsAt (λ b. Answers b true) (drop from text) k × AllWithin (λ b. Answers b false) (drop from text) 0 k
+      → FirstFrom Answers text from (from + k)
+  first_found k found =
+      record {
+        after = omega arith;
+        within = omega (arith, length-drop from text);
+        before = λ i low high.
+            let e : from + (i - from) ≡ i = omega arith in
+            rw (get_or-drop, e) at (found.2 (i - from) 0 (omega arith) (omega arith));
+        here = λ _. rw get_or-drop at (found.1 0);
+      }
+
+  pub first_none : AllWithin (λ b. Answers b false) (drop from text) 0 (length (drop from text)) → FirstFrom Answers text from (length text)
+  first_none none =
+      record {
+        after = inside;
+        within = omega arith;
+        before = λ i low high.
+            let e : from + (i - from) ≡ i = omega arith in
+            rw (get_or-drop, e) at (none (i - from) 0 (omega arith) (omega (arith, length-drop from text)));
+        here = λ l. absurd (omega arith);
+      }
+
+module _ (Answers : ℕ → Bool → Type 0) (text : List ℕ) (from r : ℕ) (first : FirstFrom Answers text from r) where
+  -- the first byte that is no LF
+  pub skipped : ((b : ℕ) → Answers b true → b ≡ line_end → ⊥) → ((b : ℕ) → Answers b false → b ≡ line_end) → Skipped text from r
+  skipped other same =
+      let e : from + (r - from) ≡ r = omega (arith, first.after) in
+      record {
+        same = rw e at (past (r - from) (omega arith));
+        after = first.after;
+        name = λ l. other _ (first.here l);
+      }
+    where
+      past : (n : ℕ) → from + n ≤ r → names (drop from text) ≡ names (drop (from + n) text)
+      past zero h = rw add-zero refl
+      past (suc n) h =
+          let e : from + suc n ≡ from + n + 1 = omega arith in
+          rw e (past n (omega arith)
+          ∙ skip_end text (from + n) (omega (arith, first.within)) (same _ (first.before (from + n) (omega arith) (omega arith))))
+
+  -- the first LF
+  pub line_ends : ((b : ℕ) → Answers b true → b ≡ line_end) → ((b : ℕ) → Answers b false → b ≡ line_end → ⊥) → LineEnds text from r
+  line_ends same other =
+      let e : from + (r - from) ≡ r = omega (arith, first.after) in
+      let begun : Begun text from r = rw e at (more (r - from) (omega arith)) in
+      record {
+        split = ends begun (look (ltb r (length text)));
+        after = first.after;
+        within = first.within;
+        end = λ l. same _ (first.here l);
+      }
+    where
+      more : (n : ℕ) → from + n ≤ r → Begun text from (from + n)
+      more zero h = rw add-zero (begun_start text from)
+      more (suc n) h =
+          let e : from + suc n ≡ from + n + 1 = omega arith in
+          rw e (begun_more text from (from + n) (omega arith) (omega (arith, first.within))
+          (other _ (first.before (from + n) (omega arith) (omega arith))) (more n (omega arith)))
+
+      ends : Begun text from r → Is (ltb r (length text)) → names (drop from text) ≡ ended (part text from r) ++ names (drop r text)
+      ends begun (is_true t) =
+          let l : r < length text = ltb-true r (length text) t in begun_end text from r l (same _ (first.here l)) begun
+      ends begun (is_false t) = begun_all text from r (ltb-false r (length text) t) begun
 
 -- the first name from a byte on
 pub past_end : (text : List ℕ) (from : ℕ) → length text < from → NextName text from (record { from = length text; end = length text })

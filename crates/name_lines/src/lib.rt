@@ -4,7 +4,7 @@
 
 ghost use Rattle.std.specs.Prelude.{ℕ, ◌+◌, ◌≤◌, ◌<◌, ◌≡◌, List, [], ◌++◌, length};
 ghost use Rattle.name_lines.specs.Names.{answer_of, counted, judged, line_end, names};
-ghost use Rattle.name_lines.specs.Walk.{LineEnds, NextName, Skipped};
+ghost use Rattle.name_lines.specs.Walk.{FirstFrom, NextName};
 ghost use Rattle.name_lines.specs.Kept.{
   HasRead,
   Holds,
@@ -26,7 +26,8 @@ const NAME: usize = 255;
 // Room for the names that are taken, each with an LF after it.
 pub const ROOM: usize = 65536;
 
-// Where a name stands: from its first byte to before its end.
+// Where a name stands: from its first byte to before its end. One without bytes tells that there is none, and not an
+// Option: `next_name` promises it so to callers.
 #[derive(Clone, Copy)]
 pub struct Name {
     pub from: usize,
@@ -69,7 +70,7 @@ pub fn check_names(text: &[u8]) -> Answer
     let mut name = next_name(text, 0);
     while name.from < name.end {
         count += 1;
-        long = long | (NAME < name.end - name.from);
+        long |= NAME < name.end - name.from;
         name = next_name(text, name.end);
     }
     let verdict = judge(count, long);
@@ -102,41 +103,21 @@ pub fn next_name(text: &[u8], from: usize) -> Name
         let end = text.len();
         return Name { from: end, end };
     }
-    let start = skip_line_ends(text, from);
-    Name {
-        from: start,
-        end: line_end(text, start),
-    }
+    let start = first_from(text, from, |byte| byte != LINE_END);
+    let end = first_from(text, start, |byte| byte == LINE_END);
+    Name { from: start, end }
 }
 
-// The first byte that is no LF, or the text's end.
-fn skip_line_ends(text: &[u8], from: usize) -> usize
-    requires { from ≤ length text.now }
-    ensures { (Skipped text.now from result) × (result ≤ length text.now) }
+// The first byte from an index on that passes the test, or the text's end.
+fn first_from<F: Fn(u8) -> bool>(text: &[u8], from: usize, test: F) -> usize
+    requires within { from ≤ length text.now }
+    requires callable { F.IsAlwaysCallable test }
+    ensures { FirstFrom (F.post test) text.now from result }
 {
-    let mut i = from;
-    while i < text.len() {
-        if text[i] != LINE_END {
-            return i;
-        }
-        i += 1;
+    match text[from..].iter().position(|byte| test(*byte)) {
+        Some(k) => from + k,
+        None => text.len(),
     }
-    i
-}
-
-// The first LF, or the text's end.
-fn line_end(text: &[u8], from: usize) -> usize
-    requires { from ≤ length text.now }
-    ensures { LineEnds text.now from result }
-{
-    let mut i = from;
-    while i < text.len() {
-        if text[i] == LINE_END {
-            return i;
-        }
-        i += 1;
-    }
-    i
 }
 
 // Nothing read yet.
@@ -157,10 +138,8 @@ pub fn read_on(state: State, part: &[u8], kept: &mut [u8]) -> State
         → HasRead (text ++ part.now) result kept.new }
 {
     let mut s = state;
-    let mut i = 0;
-    while i < part.len() {
-        s = step(s, part[i], kept);
-        i += 1;
+    for byte in part {
+        s = step(s, *byte, kept);
     }
     s
 }
@@ -219,10 +198,9 @@ fn end_line(s: State, kept: &mut [u8]) -> State
         return s;
     }
     State {
-        count: s.count,
         length: 0,
-        long: s.long,
         at: keep(kept, s.at, LINE_END),
+        ..s
     }
 }
 
@@ -233,8 +211,8 @@ fn begin_name(s: State, byte: u8, kept: &mut [u8]) -> State
     State {
         count: s.count + 1,
         length: 1,
-        long: s.long,
         at: keep(kept, s.at, byte),
+        ..s
     }
 }
 
@@ -246,10 +224,10 @@ fn go_on(s: State, byte: u8, kept: &mut [u8]) -> State
         return s;
     }
     State {
-        count: s.count,
         length: s.length + 1,
         long: s.long | (s.length == NAME),
         at: keep(kept, s.at, byte),
+        ..s
     }
 }
 
