@@ -8,7 +8,7 @@ use lib.Dec.{eqb}
 use lib.ListN.{length, get_or}
 use borrow.Author.Tests.{eqb-true, eqb-false}
 use Rattle.lists.specs.Choice.{pick, Is, is_true, is_false, look}
-use Rattle.qcir.specs.File.{Name, Literal, conjunction, junction_gate, xor_gate}
+use Rattle.qcir.specs.File.{Name, Literal, conjunction, junction_gate}
 use Rattle.qcir.specs.Spelling.{word, name, opening, comma, literal_signs, prefix_signs, output_signs, gate_signs, quantifier_word}
 use Rattle.texts.specs.Numerals.{digits}
 use Rattle.formula.specs.Node.{Quantifier}
@@ -17,7 +17,7 @@ use Rattle.texts.specs.Put.{Put}
 use Rattle.qcir_text.specs.Pieces.{named, literal_of, list_lines, inputs_text, names_text, open_text}
 use Rattle.texts.proofs.Lengths.{some_digit}
 use Rattle.texts.proofs.Put.{put_none, put_then, put_over, put_as, put_from}
-use Rattle.qcir_text.proofs.Texts.{end_signs, name_text_lem, literal_plus, literal_minus, output_text, constant_text, and_text, xor_text, line_text_lem, open_first, open_names, names_text_lem, further, further_one, further_next}
+use Rattle.qcir_text.proofs.Texts.{end_signs, name_text_lem, literal_plus, literal_minus, output_text, constant_text, line_text_lem, open_first, open_names, names_text_lem, further, further_one, further_next}
 
 -- a minus sign, and the number after it or over it
 pub put_signed : (c : ℕ) {before mid after : List ℕ} {at m n : ℕ} → Put before at (45 ∷ []) mid m → Put mid (at + c % 2) (digits (c / 2)) after n
@@ -39,16 +39,6 @@ pub put_inputs_line : (l r : Literal) {before a b c after : List ℕ} {at j k m 
     → Put before at (inputs_text l r) after n
 unfolding inputs_text signs_text sign_text word_text is_byte pick
 put_inputs_line l r p q s t = put_then p (put_then q (put_then s t))
-
-pub put_and_line : (g : Name) (l r : Literal) {before a b after : List ℕ} {at j k n : ℕ} → Put before at (digits g.number) a j
-    → Put a j (32 ∷ 61 ∷ 32 ∷ 97 ∷ 110 ∷ 100 ∷ 40 ∷ []) b k → Put b k (inputs_text l r) after n
-    → Put before at (signs_text (gate_signs (junction_gate conjunction g (l ∷ r ∷ [])))) after n
-put_and_line g l r p q s = put_as (and_text g l r) (put_then p (put_then q s))
-
-pub put_xor_line : (g : Name) (l r : Literal) {before a b after : List ℕ} {at j k n : ℕ} → Put before at (digits g.number) a j
-    → Put a j (32 ∷ 61 ∷ 32 ∷ 120 ∷ 111 ∷ 114 ∷ 40 ∷ []) b k → Put b k (inputs_text l r) after n
-    → Put before at (signs_text (gate_signs (xor_gate g l r))) after n
-put_xor_line g l r p q s = put_as (xor_text g l r) (put_then p (put_then q s))
 
 pub put_constant_line : (g : Name) {before a after : List ℕ} {at j n : ℕ} → Put before at (digits g.number) a j
     → Put a j (32 ∷ 61 ∷ 32 ∷ 97 ∷ 110 ∷ 100 ∷ 40 ∷ 41 ∷ 10 ∷ []) after n

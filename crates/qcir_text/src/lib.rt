@@ -22,6 +22,7 @@ ghost use Rattle.qcir.specs.Spelling.{
   prefix_signs,
 };
 ghost use Rattle.qcir_text.specs.Text.{signs_text};
+ghost use Rattle.texts.specs.Numerals.{digits};
 ghost use Rattle.texts.specs.Put.{Put};
 ghost use Rattle.qcir_text.specs.Pieces.{
   named,
@@ -123,10 +124,8 @@ fn put_names(text: &mut [u8], at: usize, names: &[u32]) -> usize
     ensures upper_bound { result ≤ at + 8 * length names.now }
 {
     let mut next = texts::put_number(text, at, names[0]);
-    let mut i: usize = 1;
-    while i < names.len() {
-        next = put_next_name(text, next, names[i]);
-        i += 1;
+    for x in &names[1..] {
+        next = put_next_name(text, next, *x);
     }
     next
 }
@@ -160,9 +159,7 @@ pub fn put_and(text: &mut [u8], at: usize, gate: u32, left: u32, right: u32) -> 
         (signs_text (gate_signs (junction_gate conjunction (named gate) (literal_of left ∷ literal_of right ∷ [])))) text.new result }
     ensures upper_bound { result ≤ at + 31 }
 {
-    let mut next = texts::put_number(text, at, gate);
-    next = texts::put_word(text, next, b" = and(");
-    put_inputs(text, next, left, right)
+    put_gate(text, at, gate, b" = and(", left, right)
 }
 
 // Puts the gate line of an `xor`.
@@ -172,8 +169,17 @@ pub fn put_xor(text: &mut [u8], at: usize, gate: u32, left: u32, right: u32) -> 
         (signs_text (gate_signs (xor_gate (named gate) (literal_of left) (literal_of right)))) text.new result }
     ensures upper_bound { result ≤ at + 31 }
 {
+    put_gate(text, at, gate, b" = xor(", left, right)
+}
+
+// Puts a gate's name, what stands between it and the inputs, and the two inputs with the end of their line.
+fn put_gate(text: &mut [u8], at: usize, gate: u32, between: &[u8], left: u32, right: u32) -> usize
+    requires { (at ≤ last_line) × (gate < number_bound) × (length between.now ≤ 7) × (left < 2 * number_bound) × (right < 2 * number_bound) }
+    ensures put { Put text.old at (digits gate ++ (between.now ++ inputs_text (literal_of left) (literal_of right))) text.new result }
+    ensures upper_bound { result ≤ at + 31 }
+{
     let mut next = texts::put_number(text, at, gate);
-    next = texts::put_word(text, next, b" = xor(");
+    next = texts::put_word(text, next, between);
     put_inputs(text, next, left, right)
 }
 

@@ -100,13 +100,11 @@ fn put_lines(out: &mut [u8], names: &[u8], lines: &[u32], count: usize) -> usize
 {
     let mut at = 0;
     let mut from = 0;
-    let mut i = 0;
-    while i < count {
+    for i in 0..count {
         let name = name_lines::next_name(names, from);
         let line = growth::line_at(lines, i);
         at = put_name_line(out, at, names, name, line);
         from = name.end;
-        i += 1;
     }
     at
 }
@@ -119,8 +117,6 @@ fn put_name_line(out: &mut [u8], at: usize, names: &[u8], name: Name, line: Line
         (line_text (part names.now name.from name.end) (line_figures line))
         out.new result) × (result ≤ at + most_line) }
 {
-    let from = name.from;
-    let end = name.end;
     let figures = [
         line.number as u64,
         line.n as u64,
@@ -130,7 +126,7 @@ fn put_name_line(out: &mut [u8], at: usize, names: &[u8], name: Name, line: Line
         line.nodes as u64,
         line.variables as u64,
     ];
-    put_line(out, at, &names[from..end], &figures)
+    put_line(out, at, &names[name.from..name.end], &figures)
 }
 
 fn put_total(out: &mut [u8], at: usize, t: Totals) -> usize
@@ -171,10 +167,8 @@ fn put_figures(out: &mut [u8], at: usize, figures: &[u64]) -> usize
         × (result ≤ at + 21 * length figures.now) }
 {
     let mut next = at;
-    let mut k = 0;
-    while k < figures.len() {
-        next = put_figure(out, next, figures[k]);
-        k += 1;
+    for x in figures {
+        next = put_figure(out, next, *x);
     }
     next
 }

@@ -1,12 +1,9 @@
 -- `qcir_text::put_and` meets its contract.
 -- Assumes nothing.
 use native.Mathlib.Omega.{arith}
-use Rattle.qcir_text.proofs.Lines.{put_and_line}
+use Rattle.texts.proofs.Put.{put_as}
+use Rattle.qcir_text.proofs.Texts.{and_text}
 use Rattle.qcir_text.proofs.put_and.Goals as goal
 
 pub returns : goal.returns
-returns c =
-    record {
-      put = put_and_line _ _ _ c.put_number-next.ensures.put c.put_word-next.ensures c.put_inputs.ensures.put;
-      upper_bound = omega arith;
-    }
+returns c = record { put = put_as (and_text _ _ _) c.put_gate.ensures.put; upper_bound = omega arith }

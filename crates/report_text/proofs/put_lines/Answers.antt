@@ -14,7 +14,7 @@ use Rattle.report_text.proofs.Lines.{few_names, lines_none, name_short, lines_ne
 use Rattle.report_text.proofs.put_lines.Goals as goal
 
 pub loop-i-init : goal.loop-i-init
-loop-i-init c = (lines_none _ _ _ _ c.requires, omega arith)
+loop-i-init c = lines_none _ _ _ _ c.requires
 
 pub line_at-line-requires : goal.line_at-line-requires
 line_at-line-requires c = omega (arith, c.requires.lines, c.loop-i-test.true)
@@ -26,10 +26,10 @@ put_name_line-at-requires c =
     let next = c.next_name-name.ensures in
     let left : turn.i < length (names_of c.args.names.now) =
     omega (arith, pre.number, c.loop-i-test.true) in (
-      omega (arith, (few_names _ _ _ pre).0, turn.invariant.0.room, turn.invariant.1),
+      omega (arith, (few_names _ _ _ pre).0, turn.invariant.room),
       next.order,
       next.within,
-      name_short _ _ _ _ _ _ _ turn.invariant.0 _ next left,
+      name_short _ _ _ _ _ _ _ turn.invariant _ next left,
     )
 
 pub loop-i-preserved : goal.loop-i-preserved
@@ -39,14 +39,12 @@ loop-i-preserved c =
     let put = c.put_name_line-at.ensures in
     let left : turn.i < length (names_of c.args.names.now) =
     omega (arith, c.requires.number, c.loop-i-test.true) in
-    let this : List ℕ = part c.args.names.now c.next_name-name.result.from c.next_name-name.result.end in (
-      lines_next _ _ _ _ _ _ _ turn.invariant.0 _ c.next_name-name.ensures left _ _
-          (put_as (ap (λ l. line_text this (line_figures l)) (sym line)) put.0) put.1,
-      omega arith,
-    )
+    let this : List ℕ = part c.args.names.now c.next_name-name.result.from c.next_name-name.result.end in
+    lines_next _ _ _ _ _ _ _ turn.invariant _ c.next_name-name.ensures left _ _
+    (put_as (ap (λ l. line_text this (line_figures l)) (sym line)) put.0) put.1
 
 pub shape_of-out : goal.shape_of-out
-shape_of-out c = c.loop-i.invariant.0.put.kept
+shape_of-out c = c.loop-i.invariant.put.kept
 
 pub returns : goal.returns
 returns c =
@@ -54,4 +52,4 @@ returns c =
     let turn = c.loop-i in
     let end : length (names_of c.args.names.now) ≤ turn.i =
     omega (arith, pre.number, c.loop-i-test.false) in
-    (lines_all turn.invariant.0 end, omega (arith, (few_names _ _ _ pre).0, turn.invariant.0.room, turn.invariant.1))
+    (lines_all turn.invariant end, omega (arith, (few_names _ _ _ pre).0, turn.invariant.room))
