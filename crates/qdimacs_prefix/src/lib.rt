@@ -81,10 +81,8 @@ fn put_free(names: &[u8], highest: u32, text: &mut [u8], line: Line) -> Line
     ensures at_bound { result.at ≤ line.at + 11 * 77824 }
 {
     let mut next = line;
-    let mut x: u32 = 0;
-    while x <= highest {
-        next = put_free_name(names[x as usize], x, text, next);
-        x += 1;
+    for (x, flag) in names[..highest as usize + 1].iter().enumerate() {
+        next = put_free_name(*flag, x as u32, text, next);
     }
     next
 }
@@ -152,10 +150,8 @@ fn put_prefix(prefix: &[u32], variables: &[u32], text: &mut [u8], line: Line) ->
 {
     let blocks = prefix.len() / PREFIX_WIDTH;
     let mut next = line;
-    let mut j: usize = 0;
-    while j < blocks {
+    for j in 0..blocks {
         next = put_prefix_block(prefix, variables, j, text, next);
-        j += 1;
     }
     next
 }
@@ -207,10 +203,8 @@ fn put_names(text: &mut [u8], at: usize, names: &[u32]) -> usize
     ensures upper_bound { result ≤ at + 7 * length names.now }
 {
     let mut next = at;
-    let mut i: usize = 0;
-    while i < names.len() {
-        next = qdimacs_words::put_name(text, next, names[i]);
-        i += 1;
+    for name in names {
+        next = qdimacs_words::put_name(text, next, *name);
     }
     next
 }
@@ -242,10 +236,8 @@ fn put_numbers(text: &mut [u8], at: usize, first: u32, end: u32) -> usize
     ensures upper_bound { result ≤ at + 7 * (end - first) }
 {
     let mut next = at;
-    let mut x = first;
-    while x < end {
+    for x in first..end {
         next = qdimacs_words::put_name(text, next, x);
-        x += 1;
     }
     next
 }
