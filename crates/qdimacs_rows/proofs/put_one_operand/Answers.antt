@@ -1,9 +1,8 @@
 -- `qdimacs_rows::put_one_operand` meets its contract: both rows are stored, or only counted.
 -- Assumes nothing.
-use mathlib.Core.Bool.{true, false}
 use native.Mathlib.Omega.{arith}
 use Rattle.qdimacs_words.proofs.Loose.{loose_then, loose_as, loose_counted}
-use Rattle.qdimacs_rows.proofs.Lines.{one_lines, one_sizes}
+use Rattle.qdimacs_rows.proofs.Lines.{one_lines, one_sizes, says}
 use Rattle.qdimacs_rows.proofs.put_one_operand.Goals as goal
 
 pub overflow_add-next : goal.overflow_add-next
@@ -71,8 +70,8 @@ returns-then-next-text c =
     let q = c.literal-second.ensures.by_index in record {
       by_index = λ g a f w u d e. loose_as (one_lines g f a)
           (loose_then
-          (c.store_two-middle.ensures.by_index _ _ (l a u.writable u.word_of).0 (o g (f false) w d))
-          (c.store_two.ensures.by_index _ _ (t a u.writable u.word_of).0 (q g (f true) w e)));
+          (c.store_two-middle.ensures.by_index _ _ (l a u.writable u.word_of).0 (says _ d (o g w)))
+          (c.store_two.ensures.by_index _ _ (t a u.writable u.word_of).0 (says _ e (q g w))));
       upper_bound = omega (arith, (l p.1.0 p.1.1.writable p.1.1.word_of).1, (t p.1.0 p.1.1.writable p.1.1.word_of).1);
     }
 
@@ -89,8 +88,8 @@ returns c =
             one_sizes g f a,
             (l a u.writable u.word_of).0.sized,
             (t a u.writable u.word_of).0.sized,
-            (o g (f false) w d).sized,
-            (q g (f true) w e).sized,
+            (says _ d (o g w)).sized,
+            (says _ e (q g w)).sized,
           ))
           (omega arith);
       upper_bound = omega (arith, (l p.1.0 p.1.1.writable p.1.1.word_of).1, (t p.1.0 p.1.1.writable p.1.1.word_of).1);
