@@ -27,16 +27,16 @@ pub fn put_no_operand(text: &mut [u8], at: usize, gate: u64, value: bool) -> usi
     next
 }
 
-// The literal of a gate that says that it has this value.
-fn literal(gate: u64, value: bool) -> Piece
-    requires { SomeWord gate }
-    ensures by_index { (g : ℕ) → IsWord gate g → PieceHolds result (literal_text (has_value g value)) }
+// The literal that says that a variable, a gate's or an operand's, has this value.
+fn literal(word: u64, value: bool) -> Piece
+    requires { SomeWord word }
+    ensures by_index { (x : ℕ) → IsWord word x → PieceHolds result (literal_text (has_value x value)) }
     ensures length_bound { result.length ≤ 8 }
 {
     if value {
-        return qdimacs_words::positive(gate);
+        return qdimacs_words::positive(word);
     }
-    qdimacs_words::negative(gate)
+    qdimacs_words::negative(word)
 }
 
 // Puts the clauses of a gate with one operand: the gate's value is `off` where the operand is false, and `on` where
@@ -47,8 +47,8 @@ pub fn put_one_operand(text: &mut [u8], at: usize, gate: u64, x: u64, off: bool,
         → Loose text.old at (lines_text (one_operand g f a)) text.new result }
     ensures upper_bound { result ≤ at + 36 }
 {
-    let operand = qdimacs_words::positive(x);
-    let turned = qdimacs_words::negative(x);
+    let operand = literal(x, true);
+    let turned = literal(x, false);
     let first = literal(gate, off);
     let second = literal(gate, on);
     let next = at + operand.length + first.length + turned.length + second.length + 4;
@@ -109,10 +109,10 @@ fn store_rows(text: &mut [u8], at: usize, gate: u64, table: u32, x: u64, y: u64)
     ensures { (g a b : ℕ) → IsWord gate g → IsWord x a → IsWord y b
         → Loose text.old at (lines_text (two_operands g (operator_value table) a b)) text.new result }
 {
-    let left = qdimacs_words::positive(x);
-    let right = qdimacs_words::positive(y);
-    let turned_left = qdimacs_words::negative(x);
-    let turned_right = qdimacs_words::negative(y);
+    let left = literal(x, true);
+    let right = literal(y, true);
+    let turned_left = literal(x, false);
+    let turned_right = literal(y, false);
     let none = literal(gate, table % 2 == 1);
     let right_only = literal(gate, table / 2 % 2 == 1);
     let left_only = literal(gate, table / 4 % 2 == 1);
