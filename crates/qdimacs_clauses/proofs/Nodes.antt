@@ -3,7 +3,7 @@
 use mathlib.Core.Path.{◌≡◌, refl, sym, ◌∙◌, ap, subst}
 use mathlib.Core.Bool.{true, not}
 use mathlib.Core.List.{List, [], ◌∷◌, flat_map}
-use Prim.Native.Nat.{ℕ, suc, ◌-◌, ◌<◌, ◌≤◌}
+use Prim.Native.Nat.{ℕ, suc, ◌-◌, ◌<◌}
 use native.Mathlib.Omega.{arith}
 use lib.Dec.{eqb, leb}
 use lib.ListN.{get_or}
@@ -71,11 +71,11 @@ module _ (ns : List ℕ) (ok : AcceptedWithin form_limits ns []) (i : ℕ) (h : 
       go (formed_for_all e p) = clash p refl
 
   -- What is none of the others is a constant.
-  pub else_constant : (w.kind ≡ 2 → ⊥) → (w.kind ≡ 4 → ⊥) → (w.kind ≡ 3 → ⊥) → (w.kind ≡ 1) × (w.a ≤ 1)
+  pub else_constant : (w.kind ≡ 2 → ⊥) → (w.kind ≡ 4 → ⊥) → (w.kind ≡ 3 → ⊥) → w.kind ≡ 1
   else_constant n2 n4 n3 = go formed
     where
-      go : Formed form_limits w → (w.kind ≡ 1) × (w.a ≤ 1)
-      go (formed_constant e l _ _) = (e, l)
+      go : Formed form_limits w → w.kind ≡ 1
+      go (formed_constant e _ _ _) = e
       go (formed_variable e _ _ _) = absurd (n2 e)
       go (formed_negation e _ _) = absurd (n3 e)
       go (formed_operator e _) = absurd (n4 e)

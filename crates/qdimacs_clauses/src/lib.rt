@@ -33,10 +33,8 @@ pub fn put_gates(nodes: &[u32], words: &[u64], text: &mut [u8], at: usize) -> us
 {
     let last = nodes.len() / formula::WIDTH - 1;
     let mut next = at;
-    let mut i: usize = 0;
-    while i < last {
+    for i in 0..last {
         next = put_gate(nodes, words, i, text, next);
-        i += 1;
     }
     next
 }
@@ -63,9 +61,9 @@ fn put_gate(nodes: &[u32], words: &[u64], i: usize, text: &mut [u8], at: usize) 
     }
     if node.kind == formula::NEGATION {
         let operand = node.a as usize;
-        return qdimacs_rows::put_one_operand(text, at, gate, words[operand], 1, 0);
+        return qdimacs_rows::put_one_operand(text, at, gate, words[operand], true, false);
     }
-    qdimacs_rows::put_no_operand(text, at, gate, node.a)
+    qdimacs_rows::put_no_operand(text, at, gate, node.a == 1)
 }
 
 // Puts the clauses of the root's gate and the root's own, exactly: what was put before may have spoilt bytes behind
@@ -82,7 +80,7 @@ pub fn put_root(nodes: &[u32], words: &[u64], text: &mut [u8], at: usize) -> usi
     let root = nodes.len() / formula::WIDTH - 1;
     let mut local = [0u8; ROOT_ROOM];
     let gate = put_root_gate(nodes, words, root, &mut local);
-    let end = qdimacs_rows::put_no_operand(&mut local, gate, words[root], 1);
+    let end = qdimacs_rows::put_no_operand(&mut local, gate, words[root], true);
     texts::put_word(text, at, &local[..end])
 }
 
@@ -99,7 +97,7 @@ fn put_root_gate(nodes: &[u32], words: &[u64], root: usize, text: &mut [u8]) -> 
     let node = formula::node_at(nodes, root);
     if node.kind == formula::VARIABLE {
         let word = qdimacs_words::numeral_word(node.a);
-        return qdimacs_rows::put_one_operand(text, 0, words[root], word, 0, 1);
+        return qdimacs_rows::put_one_operand(text, 0, words[root], word, false, true);
     }
     put_gate(nodes, words, root, text, 0)
 }
@@ -114,7 +112,7 @@ fn put_operator(text: &mut [u8], at: usize, gate: u64, table: u32, x: u64, y: u6
     ensures upper_bound { result ≤ at + 104 }
 {
     if x == y {
-        return qdimacs_rows::put_one_operand(text, at, gate, x, table % 2, table / 8);
+        return qdimacs_rows::put_one_operand(text, at, gate, x, table % 2 == 1, table / 8 == 1);
     }
     qdimacs_rows::put_two_operands(text, at, gate, table, x, y)
 }

@@ -24,10 +24,8 @@ pub fn flag_free(nodes: &[u32], names: &mut [u8]) -> u32
 {
     let n = nodes.len() / formula::WIDTH;
     let mut highest: u32 = 0;
-    let mut k: usize = 0;
-    while k < n {
+    for k in 0..n {
         highest = flag_node(nodes, names, k, highest);
-        k += 1;
     }
     highest
 }
@@ -71,10 +69,8 @@ pub fn number_nodes(nodes: &[u32], first: u32, words: &mut [u64]) -> Numbering
         next: first,
         clauses: 1,
     };
-    let mut i: usize = 0;
-    while i < n {
+    for i in 0..n {
         numbering = number_node(nodes, words, i, numbering);
-        i += 1;
     }
     numbering
 }

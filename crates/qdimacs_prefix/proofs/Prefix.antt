@@ -17,13 +17,18 @@ use Rattle.form_check.specs.Verdict.{names_before}
 use Rattle.form_check.proofs.Names.{names_none, names_next, names_are}
 use Rattle.form_check.proofs.Entries.{read_names, read_names_lem}
 use Rattle.qdimacs_prefix.specs.declared.Line.{Line}
-use Rattle.qdimacs_prefix.specs.Lines.{added_text, kind_after, run_text, run_kind, Goes, PrefixHeld}
+use Rattle.qdimacs_prefix.specs.Lines.{line_kind, added_text, kind_after, run_text, run_kind, Goes, PrefixHeld}
 use Rattle.qdimacs_prefix.proofs.Steps.{goes_none, goes_as, goes_run, goes_block}
 
 -- A block's kind is that of its quantifier.
 kind_read : (k : ℕ) → is_block_kind k ≡ true → kind_of (quantifier_of k) ≡ k
 unfolding is_block_kind kind_of quantifier_of pick
 kind_read k h = or_cases (eqb k 5) (eqb k 6) h (λ e. rw (eqb-true k 5 e)) (λ e. rw (eqb-true k 6 e))
+
+-- A block's kind that is not 5 is 6.
+pub other_kind : (k : ℕ) → is_block_kind k ≡ true → (k ≡ 5 → ⊥) → 6 ≡ k
+unfolding is_block_kind
+other_kind k h n = or_cases (eqb k 5) (eqb k 6) h (λ e. absurd (n (eqb-true k 5 e))) (λ e. sym (eqb-true k 6 e))
 
 module _ (ps xs : List ℕ) where
   -- Blocks from one on, and one block more.
@@ -49,13 +54,13 @@ module _ (ps xs : List ℕ) where
   more_names_lem j = rw add-one (ap length (names_next ps xs j) ∙ length-append (names_before ps xs j) (block_at ps xs j).variables)
 
   -- Putting none of them, one more, and all.
-  pub blocks_none : {before : List ℕ} {l : Line} → Goes before l (run_text l.kind (blocks_from ps xs 0 0)) (run_kind l.kind (blocks_from ps xs 0 0)) before l
+  pub blocks_none : {before : List ℕ} {l : Line} → Goes before l (run_text (line_kind l) (blocks_from ps xs 0 0)) (run_kind (line_kind l) (blocks_from ps xs 0 0)) before l
   unfolding run_text run_kind blocks_from
   blocks_none = goes_none
 
   pub blocks_next : {before mid after : List ℕ} {l m n : Line} (k j : ℕ)
       → Goes before l (run_text k (blocks_from ps xs 0 j)) (run_kind k (blocks_from ps xs 0 j)) mid m
-      → Goes mid m (run_text m.kind (block_at ps xs j ∷ [])) (run_kind m.kind (block_at ps xs j ∷ [])) after n
+      → Goes mid m (run_text (line_kind m) (block_at ps xs j ∷ [])) (run_kind (line_kind m) (block_at ps xs j ∷ [])) after n
       → Goes before l (run_text k (blocks_from ps xs 0 (j + 1))) (run_kind k (blocks_from ps xs 0 (j + 1))) after n
   blocks_next k j a b =
       let e : j + 0 ≡ j = omega arith in

@@ -10,14 +10,14 @@ use borrow.Author.Tests.{eq-eqb, ne_eqb, eqb-true, eqb-false}
 use Rattle.lists.specs.Choice.{pick, pick_yes, pick_no}
 use Rattle.lists.proofs.Parts.{flat_map_append}
 use Rattle.formula.specs.Node.{Quantifier, exists, for_all}
-use Rattle.formula.specs.Form.{Block, quantifier_of, kind_of}
+use Rattle.formula.specs.Form.{Block, kind_of}
 use Rattle.formula.proofs.Prefix.{quantifier_read}
 use Rattle.texts.specs.Numerals.{digits}
 use Rattle.qdimacs.specs.Spelling.{quantifier_word}
 use Rattle.qdimacs.proofs.Lines.{block_text_lem}
 use Rattle.qdimacs_form.specs.Clauses.{filled_blocks, same_kind, joined_to, joined_blocks}
 use Rattle.qdimacs_form.proofs.Sound.{pick_cases}
-use Rattle.qdimacs_prefix.specs.Lines.{blocks_text, names_text, end_text, turn_text, added_text, kind_after, run_text, run_kind}
+use Rattle.qdimacs_prefix.specs.Lines.{blocks_text, names_text, end_text, start_text, turn_text, added_text, kind_after, run_text, run_kind}
 
 -- Names one after the other.
 pub names_append : (xs ys : List ℕ) → names_text (xs ++ ys) ≡ names_text xs ++ names_text ys
@@ -43,7 +43,7 @@ pub turn_same : (k m : ℕ) → k ≡ m → turn_text k m ≡ []
 unfolding turn_text
 turn_same k m e = pick_yes (eqb k m) _ _ (eq-eqb k m e)
 
-pub turn_other : (k m : ℕ) → (k ≡ m → ⊥) → turn_text k m ≡ end_text k ++ (quantifier_word (quantifier_of m) ++ (32 ∷ []))
+pub turn_other : (k m : ℕ) → (k ≡ m → ⊥) → turn_text k m ≡ end_text k ++ start_text m
 unfolding turn_text
 turn_other k m n = pick_no (eqb k m) _ _ (ne_eqb k m n)
 
@@ -124,7 +124,7 @@ blocks_first b bs =
 
 -- After a turn, that is the end of the line before and the lines of the blocks;
 rest_turned : (k : ℕ) (b : Block) (bs : List Block) → (k ≡ kind_of b.quantifier → ⊥) → rest_text k (b ∷ bs) ≡ end_text k ++ blocks_text (b ∷ bs)
-unfolding rest_text
+unfolding rest_text start_text
 rest_turned k b bs n =
     let word = quantifier_word b.quantifier in
     let tail = names_text b.variables ++ (48 ∷ 10 ∷ blocks_text bs) in

@@ -14,7 +14,10 @@ ghost use Rattle.qdimacs_words.specs.Words.{Loose};
 ghost use Rattle.qdimacs_prefix.specs.Lines.{
   blocks_text,
   names_text,
+  quantifier_kind,
+  line_kind,
   end_text,
+  start_text,
   turn_text,
   added_text,
   kind_after,
@@ -28,11 +31,42 @@ use form_check::PREFIX_WIDTH;
 use formula::EXISTS_BLOCK;
 use name_flags::FREE;
 
-// Where a line goes on, and the kind of its blocks; 0 if no line has begun.
+// The quantifier of a block.
+#[derive(Clone, Copy, PartialEq, Eq)]
+pub enum Quantifier {
+    Exists,
+    ForAll,
+}
+
+impl Quantifier {
+    // The quantifier of a block of this kind.
+    fn of(kind: u32) -> Quantifier
+        requires { is_block_kind kind ≡ true }
+        ensures { quantifier_kind result ≡ kind }
+    {
+        if kind == EXISTS_BLOCK {
+            Quantifier::Exists
+        } else {
+            Quantifier::ForAll
+        }
+    }
+
+    // What its lines begin with.
+    fn line_start(self) -> [u8; 2]
+        ensures { result ≡ start_text (quantifier_kind self) }
+    {
+        match self {
+            Quantifier::Exists => *b"e ",
+            Quantifier::ForAll => *b"a ",
+        }
+    }
+}
+
+// Where a line goes on, and the quantifier of its blocks; None if no line has begun.
 #[derive(Clone, Copy)]
 pub struct Line {
     pub at: usize,
-    pub kind: u32,
+    pub quantifier: Option<Quantifier>,
 }
 
 // The gate variables: from `first` on, up to `end`.
@@ -65,7 +99,10 @@ pub fn put_blocks(
         text.new result }
     ensures upper_bound { result ≤ last_line }
 {
-    let mut line = Line { at, kind: 0 };
+    let mut line = Line {
+        at,
+        quantifier: None,
+    };
     line = put_free(names, highest, text, line);
     line = put_prefix(prefix, variables, text, line);
     line = put_gates(gates, text, line);
@@ -76,15 +113,13 @@ pub fn put_blocks(
 fn put_free(names: &[u8], highest: u32, text: &mut [u8], line: Line) -> Line
     requires { (highest < length names.now) × (length names.now ≤ 77824) × (line.at ≤ 64) }
     ensures goes { Goes text.old line
-        (added_text line.kind 5 (flagged_below names.now (suc highest)))
-        (kind_after line.kind 5 (flagged_below names.now (suc highest))) text.new result }
+        (added_text (line_kind line) 5 (flagged_below names.now (suc highest)))
+        (kind_after (line_kind line) 5 (flagged_below names.now (suc highest))) text.new result }
     ensures at_bound { result.at ≤ line.at + 11 * 77824 }
 {
     let mut next = line;
-    let mut x: u32 = 0;
-    while x <= highest {
-        next = put_free_name(names[x as usize], x, text, next);
-        x += 1;
+    for (x, flag) in names[..highest as usize + 1].iter().enumerate() {
+        next = put_free_name(*flag, x as u32, text, next);
     }
     next
 }
@@ -93,52 +128,47 @@ fn put_free(names: &[u8], highest: u32, text: &mut [u8], line: Line) -> Line
 fn put_free_name(flag: u8, x: u32, text: &mut [u8], line: Line) -> Line
     requires { (x < number_bound) × (line.at ≤ last_line) }
     ensures goes { Goes text.old line
-        (added_text line.kind 5 (pick (eqb flag 2) (x ∷ []) []))
-        (kind_after line.kind 5 (pick (eqb flag 2) (x ∷ []) [])) text.new result }
+        (added_text (line_kind line) 5 (pick (eqb flag 2) (x ∷ []) []))
+        (kind_after (line_kind line) 5 (pick (eqb flag 2) (x ∷ []) [])) text.new result }
     ensures at_bound { result.at ≤ line.at + 11 }
 {
     if flag != FREE {
         return line;
     }
-    let next = turn_line(text, line, EXISTS_BLOCK);
+    let next = turn_line(text, line, Quantifier::Exists);
     Line {
         at: qdimacs_words::put_name(text, next.at, x),
-        kind: next.kind,
+        quantifier: next.quantifier,
     }
 }
 
-// Ends a line of another kind and begins one of this.
-fn turn_line(text: &mut [u8], line: Line, kind: u32) -> Line
+// Ends a line of another quantifier and begins one of this.
+fn turn_line(text: &mut [u8], line: Line, quantifier: Quantifier) -> Line
     requires { line.at ≤ last_piece }
-    ensures goes { Goes text.old line (turn_text line.kind kind) kind text.new result }
+    ensures goes { Goes text.old line (turn_text (line_kind line) (quantifier_kind quantifier))
+        (quantifier_kind quantifier) text.new result }
     ensures at_bound { result.at ≤ line.at + 4 }
 {
-    if line.kind == kind {
+    if line.quantifier == Some(quantifier) {
         return line;
     }
     let end = end_line(text, line);
-    if kind == EXISTS_BLOCK {
-        return Line {
-            at: texts::put_word(text, end, b"e "),
-            kind,
-        };
-    }
     Line {
-        at: texts::put_word(text, end, b"a "),
-        kind,
+        at: texts::put_word(text, end, &quantifier.line_start()),
+        quantifier: Some(quantifier),
     }
 }
 
 // Ends a line, if one has begun.
 fn end_line(text: &mut [u8], line: Line) -> usize
     requires { line.at ≤ last_piece }
-    ensures loose { Loose text.old line.at (end_text line.kind) text.new result }
+    ensures loose { Loose text.old line.at (end_text (line_kind line)) text.new result }
     ensures upper_bound { result ≤ line.at + 2 }
 {
-    if line.kind == 0 {
-        return line.at;
+    match line.quantifier {
+        Some(_) => texts::put_word(text, line.at, b"0\n"),
+        None => line.at,
     }
-    texts::put_word(text, line.at, b"0\n")
 }
 
 // Puts the prefix blocks.
@@ -146,16 +176,14 @@ fn put_prefix(prefix: &[u32], variables: &[u32], text: &mut [u8], line: Line) ->
     requires prefix_held { PrefixHeld prefix.now variables.now }
     requires at_bound { line.at ≤ 2147483648 }
     ensures goes { Goes text.old line
-        (run_text line.kind (blocks_of prefix.now variables.now))
-        (run_kind line.kind (blocks_of prefix.now variables.now)) text.new result }
+        (run_text (line_kind line) (blocks_of prefix.now variables.now))
+        (run_kind (line_kind line) (blocks_of prefix.now variables.now)) text.new result }
     ensures at_bound_2 { result.at ≤ line.at + 11 * 77824 }
 {
     let blocks = prefix.len() / PREFIX_WIDTH;
     let mut next = line;
-    let mut j: usize = 0;
-    while j < blocks {
+    for j in 0..blocks {
         next = put_prefix_block(prefix, variables, j, text, next);
-        j += 1;
     }
     next
 }
@@ -173,30 +201,31 @@ fn put_prefix_block(
     requires j_in_bounds { get_or prefix.now (prefix_width * j + 1) 0 + get_or prefix.now (prefix_width * j + 2) 0 ≤ length variables.now }
     requires all_writable { AllWritable (block_at prefix.now variables.now j).variables }
     ensures goes { Goes text.old line
-        (run_text line.kind (block_at prefix.now variables.now j ∷ []))
-        (run_kind line.kind (block_at prefix.now variables.now j ∷ [])) text.new result }
+        (run_text (line_kind line) (block_at prefix.now variables.now j ∷ []))
+        (run_kind (line_kind line) (block_at prefix.now variables.now j ∷ [])) text.new result }
     ensures at_bound { result.at ≤ line.at + 11 * length (block_at prefix.now variables.now j).variables }
 {
     let word = PREFIX_WIDTH * j;
     let first = prefix[word + 1] as usize;
     let end = first + prefix[word + 2] as usize;
-    put_block(text, line, prefix[word], &variables[first..end])
+    let quantifier = Quantifier::of(prefix[word]);
+    put_block(text, line, quantifier, &variables[first..end])
 }
 
-// Puts a block of this kind with these names.
-fn put_block(text: &mut [u8], line: Line, kind: u32, names: &[u32]) -> Line
+// Puts a block of this quantifier with these names.
+fn put_block(text: &mut [u8], line: Line, quantifier: Quantifier, names: &[u32]) -> Line
     requires { (line.at ≤ last_line) × (length names.now ≤ last_line) × AllWritable names.now }
-    ensures goes { Goes text.old line (added_text line.kind kind names.now)
-        (kind_after line.kind kind names.now) text.new result }
+    ensures goes { Goes text.old line (added_text (line_kind line) (quantifier_kind quantifier) names.now)
+        (kind_after (line_kind line) (quantifier_kind quantifier) names.now) text.new result }
     ensures at_bound { result.at ≤ line.at + 11 * length names.now }
 {
-    if names.len() == 0 {
+    if names.is_empty() {
         return line;
     }
-    let next = turn_line(text, line, kind);
+    let next = turn_line(text, line, quantifier);
     Line {
         at: put_names(text, next.at, names),
-        kind: next.kind,
+        quantifier: next.quantifier,
     }
 }
 
@@ -207,10 +236,8 @@ fn put_names(text: &mut [u8], at: usize, names: &[u32]) -> usize
     ensures upper_bound { result ≤ at + 7 * length names.now }
 {
     let mut next = at;
-    let mut i: usize = 0;
-    while i < names.len() {
-        next = qdimacs_words::put_name(text, next, names[i]);
-        i += 1;
+    for name in names {
+        next = qdimacs_words::put_name(text, next, *name);
     }
     next
 }
@@ -219,8 +246,8 @@ fn put_names(text: &mut [u8], at: usize, names: &[u32]) -> usize
 fn put_gates(gates: Gates, text: &mut [u8], line: Line) -> Line
     requires { (gates.first ≤ gates.end) × (gates.end ≤ number_bound) × (line.at ≤ last_line) }
     ensures goes { Goes text.old line
-        (added_text line.kind 5 (numbers gates.first (gates.end - gates.first)))
-        (kind_after line.kind 5 (numbers gates.first (gates.end - gates.first))) text.new result }
+        (added_text (line_kind line) 5 (numbers gates.first (gates.end - gates.first)))
+        (kind_after (line_kind line) 5 (numbers gates.first (gates.end - gates.first))) text.new result }
     ensures at_bound { result.at ≤ line.at + 4 + 7 * (gates.end - gates.first) }
 {
     let first = gates.first;
@@ -228,10 +255,10 @@ fn put_gates(gates: Gates, text: &mut [u8], line: Line) -> Line
     if first == end {
         return line;
     }
-    let start = turn_line(text, line, EXISTS_BLOCK);
+    let start = turn_line(text, line, Quantifier::Exists);
     Line {
         at: put_numbers(text, start.at, first, end),
-        kind: start.kind,
+        quantifier: start.quantifier,
     }
 }
 
@@ -242,10 +269,8 @@ fn put_numbers(text: &mut [u8], at: usize, first: u32, end: u32) -> usize
     ensures upper_bound { result ≤ at + 7 * (end - first) }
 {
     let mut next = at;
-    let mut x = first;
-    while x < end {
+    for x in first..end {
         next = qdimacs_words::put_name(text, next, x);
-        x += 1;
     }
     next
 }

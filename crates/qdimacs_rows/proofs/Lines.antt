@@ -90,8 +90,26 @@ unfolding digit
 value_length g true = omega (arith, positive_length g)
 value_length g false = omega (arith, minus_length g)
 
--- A word that is 0 or 1 is a value's digit.
-pub binary : (n : ℕ) → n ≤ 1 → n ≡ digit (eqb n 1)
+-- The bits of a truth table are the values of its rows.
+module _ (table : ℕ) where
+  pub bit_none : eqb (table % 2) 1 ≡ operator_value table false false
+  unfolding operator_value bit digit
+  bit_none = let e : table ≡ table / 1 = omega arith in ap (λ n. eqb (n % 2) 1) e
+
+  pub bit_right : eqb (table / 2 % 2) 1 ≡ operator_value table false true
+  unfolding operator_value bit digit
+  bit_right = refl
+
+  pub bit_left : eqb (table / 4 % 2) 1 ≡ operator_value table true false
+  unfolding operator_value bit digit
+  bit_left = refl
+
+  pub bit_both : table < 16 → eqb (table / 8) 1 ≡ operator_value table true true
+  unfolding operator_value bit digit
+  bit_both h = let e : table / 8 ≡ table / 8 % 2 = omega arith in ap (λ n. eqb n 1) e
+
+-- A word that is 0 or 1 is the digit of its test.
+binary : (n : ℕ) → n ≤ 1 → n ≡ digit (eqb n 1)
 unfolding digit
 binary n h = go (look (eqb n 1))
   where
@@ -99,26 +117,8 @@ binary n h = go (look (eqb n 1))
     go (is_true t) = eqb-true n 1 t ∙ rw t refl
     go (is_false t) = let z : n ≡ 0 = omega (arith, eqb-false n 1 t) in z ∙ rw t refl
 
-parity : (n : ℕ) → n % 2 ≡ digit (eqb (n % 2) 1)
-parity n = binary (n % 2) (omega arith)
-
--- The bits of a truth table are the values of its rows.
-module _ (table : ℕ) where
-  pub bit_none : table % 2 ≡ digit (operator_value table false false)
-  unfolding operator_value bit digit
-  bit_none = let e : table ≡ table / 1 = omega arith in parity table ∙ ap (λ n. digit (eqb (n % 2) 1)) e
-
-  pub bit_right : table / 2 % 2 ≡ digit (operator_value table false true)
-  unfolding operator_value bit digit
-  bit_right = parity (table / 2)
-
-  pub bit_left : table / 4 % 2 ≡ digit (operator_value table true false)
-  unfolding operator_value bit digit
-  bit_left = parity (table / 4)
-
-  pub bit_both : table < 16 → table / 8 ≡ digit (operator_value table true true)
-  unfolding operator_value bit digit
-  bit_both h = let e : table / 8 ≡ table / 8 % 2 = omega arith in e ∙ parity (table / 8)
+bit_digit : {n : ℕ} {b : Bool} → n ≤ 1 → eqb n 1 ≡ b → n ≡ digit b
+bit_digit {n} h e = binary n h ∙ ap digit e
 
 -- How long the lines are, by their literals.
 pub none_size : (g : ℕ) (c : Bool) → length (lines_text (no_operand g c)) ≡ length (literal_text (has_value g c)) + 2
@@ -146,10 +146,10 @@ two_length table g x y h =
     omega (
       arith,
       s,
-      bit_none table,
-      bit_right table,
-      bit_left table,
-      bit_both table h,
+      bit_digit (omega arith) (bit_none table),
+      bit_digit (omega arith) (bit_right table),
+      bit_digit (omega arith) (bit_left table),
+      bit_digit (omega arith) (bit_both table h),
       value_length g (f false false),
       value_length g (f false true),
       value_length g (f true false),
@@ -161,15 +161,6 @@ two_length table g x y h =
       minus_length y,
     )
 
--- What a gate's value makes of its literal.
-pub says_true : {p : Piece} {v : ℕ} (g : ℕ) (c : Bool) → v ≡ digit c → v ≡ 1 → PieceHolds p (literal_text (false_at g false))
-    → PieceHolds p (literal_text (has_value g c))
-unfolding digit
-says_true g true d e h = h
-says_true g false d e h = absurd (omega arith)
-
-pub says_false : {p : Piece} {v : ℕ} (g : ℕ) (c : Bool) → v ≡ digit c → (v ≡ 1 → ⊥) → PieceHolds p (literal_text (false_at g true))
-    → PieceHolds p (literal_text (has_value g c))
-unfolding digit
-says_false g true d n h = absurd (n d)
-says_false g false d n h = h
+-- A literal of a value by another name of it.
+pub says : {p : Piece} (g : ℕ) {b c : Bool} → b ≡ c → PieceHolds p (literal_text (has_value g b)) → PieceHolds p (literal_text (has_value g c))
+says g e h = rw (← e) h

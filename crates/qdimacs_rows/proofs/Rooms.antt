@@ -42,7 +42,3 @@ pub two_room : (text : List ℕ) (g : ℕ) (f : Bool → Bool → Bool) (x y at 
     → at + length (lines_text (two_operands g f x y)) + 8 ≤ length text
     → Room text at (two_row g f x y false false ++ (two_row g f x y false true ++ (two_row g f x y true false ++ two_row g f x y true true)))
 two_room text g f x y at h = record { enough = rw (two_lines g f x y) at h }
-
--- Seven bytes are stored as eight.
-pub short : {n : ℕ} → n ≤ 7 → n ≤ 8
-short h = omega arith

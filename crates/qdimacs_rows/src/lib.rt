@@ -3,7 +3,7 @@
 #![tactic(auto)]
 
 ghost use Rattle.std.specs.Prelude.{Bool, true, false, List, [], ◌∷◌, ◌++◌, ◌≡◌, ℕ, ◌+◌, ◌<◌, ◌≤◌, length};
-ghost use Rattle.formula.specs.Truth.{digit, operator_value};
+ghost use Rattle.formula.specs.Truth.{operator_value};
 ghost use Rattle.texts.specs.Bounds.{last_piece};
 ghost use Rattle.qdimacs_form.specs.Clauses.{has_value, no_operand, one_operand, two_operands};
 ghost use Rattle.qdimacs_words.specs.Words.{literal_text, PieceHolds, Loose};
@@ -12,10 +12,10 @@ ghost use Rattle.qdimacs_rows.specs.Rows.{lines_text, IsWord, SomeWord};
 use qdimacs_words::{Piece, STORED};
 
 // Puts the clauses of a gate without operands.
-pub fn put_no_operand(text: &mut [u8], at: usize, gate: u64, value: u32) -> usize
-    requires { SomeWord gate × (value ≤ 1) × (at ≤ last_piece + 104) }
-    ensures by_index { (g : ℕ) (c : Bool) → IsWord gate g → value ≡ digit c
-        → Loose text.old at (lines_text (no_operand g c)) text.new result }
+pub fn put_no_operand(text: &mut [u8], at: usize, gate: u64, value: bool) -> usize
+    requires { SomeWord gate × (at ≤ last_piece + 104) }
+    ensures by_index { (g : ℕ) → IsWord gate g
+        → Loose text.old at (lines_text (no_operand g value)) text.new result }
     ensures upper_bound { result ≤ at + 10 }
 {
     let own = literal(gate, value);
@@ -27,28 +27,28 @@ pub fn put_no_operand(text: &mut [u8], at: usize, gate: u64, value: u32) -> usiz
     next
 }
 
-// The literal of a gate that says that it has this value.
-fn literal(gate: u64, value: u32) -> Piece
-    requires { SomeWord gate × (value ≤ 1) }
-    ensures by_index { (g : ℕ) (c : Bool) → IsWord gate g → value ≡ digit c → PieceHolds result (literal_text (has_value g c)) }
+// The literal that says that a variable, a gate's or an operand's, has this value.
+fn literal(word: u64, value: bool) -> Piece
+    requires { SomeWord word }
+    ensures by_index { (x : ℕ) → IsWord word x → PieceHolds result (literal_text (has_value x value)) }
     ensures length_bound { result.length ≤ 8 }
 {
-    if value == 1 {
-        return qdimacs_words::positive(gate);
+    if value {
+        return qdimacs_words::positive(word);
     }
-    qdimacs_words::negative(gate)
+    qdimacs_words::negative(word)
 }
 
 // Puts the clauses of a gate with one operand: the gate's value is `off` where the operand is false, and `on` where
 // it is true.
-pub fn put_one_operand(text: &mut [u8], at: usize, gate: u64, x: u64, off: u32, on: u32) -> usize
-    requires { SomeWord gate × SomeWord x × (off ≤ 1) × (on ≤ 1) × (at ≤ last_piece) }
-    ensures by_index { (g a : ℕ) (f : Bool → Bool) → IsWord gate g → IsWord x a → off ≡ digit (f false) → on ≡ digit (f true)
+pub fn put_one_operand(text: &mut [u8], at: usize, gate: u64, x: u64, off: bool, on: bool) -> usize
+    requires { SomeWord gate × SomeWord x × (at ≤ last_piece) }
+    ensures by_index { (g a : ℕ) (f : Bool → Bool) → IsWord gate g → IsWord x a → off ≡ f false → on ≡ f true
         → Loose text.old at (lines_text (one_operand g f a)) text.new result }
     ensures upper_bound { result ≤ at + 36 }
 {
-    let operand = qdimacs_words::positive(x);
-    let turned = qdimacs_words::negative(x);
+    let operand = literal(x, true);
+    let turned = literal(x, false);
     let first = literal(gate, off);
     let second = literal(gate, on);
     let next = at + operand.length + first.length + turned.length + second.length + 4;
@@ -109,20 +109,18 @@ fn store_rows(text: &mut [u8], at: usize, gate: u64, table: u32, x: u64, y: u64)
     ensures { (g a b : ℕ) → IsWord gate g → IsWord x a → IsWord y b
         → Loose text.old at (lines_text (two_operands g (operator_value table) a b)) text.new result }
 {
-    let left = qdimacs_words::positive(x);
-    let right = qdimacs_words::positive(y);
-    let turned_left = qdimacs_words::negative(x);
-    let turned_right = qdimacs_words::negative(y);
-    let mut next = store_three(text, at, left, right, literal(gate, table % 2));
-    next = store_three(text, next, left, turned_right, literal(gate, table / 2 % 2));
-    next = store_three(text, next, turned_left, right, literal(gate, table / 4 % 2));
-    store_three(
-        text,
-        next,
-        turned_left,
-        turned_right,
-        literal(gate, table / 8),
-    )
+    let left = literal(x, true);
+    let right = literal(y, true);
+    let turned_left = literal(x, false);
+    let turned_right = literal(y, false);
+    let none = literal(gate, table % 2 == 1);
+    let right_only = literal(gate, table / 2 % 2 == 1);
+    let left_only = literal(gate, table / 4 % 2 == 1);
+    let both = literal(gate, table / 8 == 1);
+    let mut next = store_three(text, at, left, right, none);
+    next = store_three(text, next, left, turned_right, right_only);
+    next = store_three(text, next, turned_left, right, left_only);
+    store_three(text, next, turned_left, turned_right, both)
 }
 
 // Stores a clause of three literals.

@@ -4,10 +4,12 @@ use mathlib.Core.Bool.{true, false}
 use mathlib.Core.List.{List, [], ◌∷◌, ◌++◌, append_assoc}
 use mathlib.Core.Path.{◌≡◌, refl, sym, ◌∙◌, ap}
 use Prim.Native.Nat.{ℕ, zero, suc, ◌+◌, ◌*◌, ◌-◌, ◌/◌, ◌%◌, ◌≤◌, ◌<◌}
-use native.Mathlib.Numerals.{add-one, add-two, add-three, add-four, add_five, add_six, add_seven}
+use native.Mathlib.Numerals.{add-one}
 use native.Mathlib.Omega.{arith}
 use lib.ListN.{length, set, take, drop, length-append, length-take}
-use lib.Seq.{take_at}
+use lib.Seq.{take_at, drop-drop}
+use borrow.Rule.Slice.PartMut.{put_mid}
+use Rattle.std.specs.Int.{w64, to_le_bytes}
 use Rattle.lists.specs.Choice.{pick_yes, pick_no}
 use Rattle.lists.specs.Parts.{overwrite}
 use Rattle.lists.proofs.Overwrite.{length_overwrite, drop_overwrite, sets_overwrite}
@@ -62,39 +64,22 @@ module _ (x : ℕ) (writable : x < number_bound) (word : ℕ) (same : word ≡ n
       })
 
 -- The eight bytes of a word, each by one division.
-eight_bytes : (w : ℕ) → w < 18446744073709551616 → low_bytes 8 w
-    ≡ w % 256
-    ∷ w / 256 % 256
-    ∷ w / 65536 % 256
-    ∷ w / 16777216 % 256
-    ∷ w / 4294967296 % 256
-    ∷ w / 1099511627776 % 256
-    ∷ w / 281474976710656 % 256
-    ∷ w / 72057594037927936
-    ∷ []
+eight_bytes : (w : ℕ) → low_bytes 8 w ≡ to_le_bytes w64 w
 unfolding low_bytes
-eight_bytes w h =
+eight_bytes w =
     let b2 : w / 256 / 256 ≡ w / 65536 = omega arith in
     let b3 : w / 256 / 256 / 256 ≡ w / 16777216 = omega arith in
     let b4 : w / 256 / 256 / 256 / 256 ≡ w / 4294967296 = omega arith in
     let b5 : w / 256 / 256 / 256 / 256 / 256 ≡ w / 1099511627776 = omega arith in
     let b6 : w / 256 / 256 / 256 / 256 / 256 / 256 ≡ w / 281474976710656 = omega arith in
-    let b7 : w / 256 / 256 / 256 / 256 / 256 / 256 / 256 % 256 ≡ w / 72057594037927936 = omega arith in
-    λ i. w % 256 ∷ w / 256 % 256 ∷ b2 i % 256 ∷ b3 i % 256 ∷ b4 i % 256 ∷ b5 i % 256 ∷ b6 i % 256 ∷ b7 i ∷ []
+    let b7 : w / 256 / 256 / 256 / 256 / 256 / 256 / 256 ≡ w / 72057594037927936 = omega arith in
+    λ i. w % 256 ∷ w / 256 % 256 ∷ b2 i % 256 ∷ b3 i % 256 ∷ b4 i % 256 ∷ b5 i % 256 ∷ b6 i % 256 ∷ b7 i % 256 ∷ []
 
--- eight stores in a row
-pub set_eight : (out : List ℕ) (at a b c d e f g h : ℕ) → at + 8 ≤ length out
-    → set (set (set (set (set (set (set (set out at a) (at + 1) b) (at + 2) c) (at + 3) d) (at + 4) e) (at + 5) f) (at + 6) g) (at + 7) h
-    ≡ overwrite out at (a ∷ b ∷ c ∷ d ∷ e ∷ f ∷ g ∷ h ∷ [])
-set_eight out at a b c d e f g h fits =
-    rw (add-one, add-two, add-three, add-four, add_five, add_six, add_seven)
-    (sets_overwrite out at (a ∷ b ∷ c ∷ d ∷ e ∷ f ∷ g ∷ h ∷ []) fits)
-
-pub set_bytes : (out : List ℕ) (at w : ℕ) → at + 8 ≤ length out → w < 18446744073709551616
-    → set (set (set (set (set (set (set (set out at (w % 256)) (at + 1) (w / 256 % 256)) (at + 2) (w / 65536 % 256)) (at + 3) (w / 16777216 % 256))
-    (at + 4) (w / 4294967296 % 256)) (at + 5) (w / 1099511627776 % 256)) (at + 6) (w / 281474976710656 % 256)) (at + 7) (w / 72057594037927936)
-    ≡ overwrite out at (low_bytes 8 w)
-set_bytes out at w fits h = set_eight out at _ _ _ _ _ _ _ _ fits ∙ ap (overwrite out at) (sym (eight_bytes w h))
+-- eight bytes in the place of eight
+pub word_stored : (out part : List ℕ) (at k w : ℕ) → k ≡ 8 → part ≡ to_le_bytes w64 w → put_mid at k out part ≡ overwrite out at (low_bytes 8 w)
+unfolding overwrite
+word_stored out part at k w n e =
+    rw (e, n, eight_bytes w) (ap (λ t. take at out ++ (to_le_bytes w64 w ++ t)) (drop-drop 8 at out))
 
 -- two stores in a row
 pub end_stored : (out : List ℕ) (at a b : ℕ) → at + 10 ≤ length out

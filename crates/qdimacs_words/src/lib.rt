@@ -28,7 +28,8 @@ pub struct Piece {
     pub length: usize,
 }
 
-// The word of a number: its digits and a space from the lowest byte up, and their count in the highest.
+// The word of a number: its digits and a space from the lowest byte up, and their count in the highest. It is one
+// number and no Piece, since the writer's memory is fixed and holds one for each node.
 pub fn numeral_word(x: u32) -> u64
     requires { x < number_bound }
     ensures { result ≡ numeral_word x }
@@ -71,14 +72,7 @@ fn store_eight(text: &mut [u8], at: usize, word: u64)
     requires { at + 8 ≤ length text.old }
     ensures { text.new ≡ overwrite text.old at (low_bytes 8 word) }
 {
-    text[at] = (word % 256) as u8;
-    text[at + 1] = (word / 256 % 256) as u8;
-    text[at + 2] = (word / 65536 % 256) as u8;
-    text[at + 3] = (word / 16777216 % 256) as u8;
-    text[at + 4] = (word / 4294967296 % 256) as u8;
-    text[at + 5] = (word / 1099511627776 % 256) as u8;
-    text[at + 6] = (word / 281474976710656 % 256) as u8;
-    text[at + 7] = (word / HIGHEST_BYTE) as u8;
+    text[at..at + STORED].copy_from_slice(&word.to_le_bytes());
 }
 
 // Stores a piece where it fits with eight bytes behind it, and hands back the index after it.

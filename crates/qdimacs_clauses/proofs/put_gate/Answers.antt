@@ -4,10 +4,8 @@ use mathlib.Core.Path.{refl, sym, ◌∙◌, ap}
 use mathlib.Core.Bool.{not}
 use native.Mathlib.Omega.{arith}
 use Rattle.formula.specs.declared.NodeWords.{NodeWords}
-use Rattle.formula.specs.Truth.{digit}
 use Rattle.qdimacs_words.proofs.Loose.{loose_as}
 use Rattle.qdimacs_rows.specs.Rows.{lines_text}
-use Rattle.qdimacs_rows.proofs.Lines.{binary}
 use Rattle.qdimacs_clauses.proofs.Nodes.{table_low, else_constant, left_low, right_low, only_low, no_clauses, constant_clauses, operator_clauses, negation_clauses, left_above, right_above, word_at, some_word, nothing_put}
 use Rattle.qdimacs_clauses.proofs.put_gate.Goals as goal
 
@@ -86,13 +84,10 @@ put_one_operand-requires c =
     let k = c.if-node-eq-NEGATION.true in (
       some_word ns ws c.requires.words_held c.args.i h,
       some_word ns ws c.requires.words_held _ (only_low ns c.requires.accepted_within c.args.i h _ e k),
-      omega arith,
-      omega arith,
       c.requires.i_bound.2,
     )
 
 pub returns-then-node-eq-NEGATION : goal.returns-then-node-eq-NEGATION
-unfolding digit
 returns-then-node-eq-NEGATION c =
     let ns = c.args.nodes.now in
     let ws = c.args.words.now in
@@ -115,7 +110,6 @@ put_no_operand-requires c =
     let h = c.requires.i_bound.0 in
     let e = c.node_at-node.ensures in (
       some_word ns ws c.requires.words_held c.args.i h,
-      (else_constant ns c.requires.accepted_within c.args.i h _ e c.if-node-eq-VARIABLE.false c.if-node-eq-OPERATOR.false c.if-node-eq-NEGATION.false).1,
       omega (arith, c.requires.i_bound.2),
     )
 
@@ -126,7 +120,7 @@ returns c =
     let h = c.requires.i_bound.0 in
     let e = c.node_at-node.ensures in
     let k = else_constant ns c.requires.accepted_within c.args.i h _ e c.if-node-eq-VARIABLE.false c.if-node-eq-OPERATOR.false c.if-node-eq-NEGATION.false in record {
-      loose = λ held. loose_as (ap lines_text (constant_clauses ns c.requires.accepted_within c.args.i h _ e held.variables k.0))
-          (c.put_no_operand.ensures.by_index (held.variables c.args.i) _ (word_at ns ws held c.args.i h) (binary _ k.1));
+      loose = λ held. loose_as (ap lines_text (constant_clauses ns c.requires.accepted_within c.args.i h _ e held.variables k))
+          (c.put_no_operand.ensures.by_index (held.variables c.args.i) (word_at ns ws held c.args.i h));
       upper_bound = omega arith;
     }

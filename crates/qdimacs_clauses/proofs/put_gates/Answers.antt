@@ -1,6 +1,6 @@
 -- `qdimacs_clauses::put_gates` meets its contract. The invariant: the lines of the nodes below i are put, 104 bytes each at most.
 -- Assumes nothing.
-use mathlib.Core.Path.{◌≡◌, refl, sym, ◌∙◌, ap}
+use mathlib.Core.Path.{◌≡◌, sym, ap}
 use mathlib.Core.List.{[]}
 use Prim.Native.Nat.{◌-◌}
 use native.Mathlib.Omega.{arith}
@@ -15,33 +15,27 @@ unfolding table_of
 overflow_sub-last c = omega (arith, c.requires.accepted_within.proper.tree.nonempty)
 
 pub loop-i-init : goal.loop-i-init
-loop-i-init c = (omega arith, refl, omega arith, λ held. below_none _ _)
+loop-i-init c = record { bound = omega arith; put = λ held. below_none _ _ }
 
 pub put_gate-next-requires : goal.put_gate-next-requires
 put_gate-next-requires c =
-    let l = c.loop-i in
-    let h = c.loop-i-test.true in record {
+    record {
       accepted_within = c.requires.accepted_within;
       words_held = c.requires.words_held;
-      i_bound = (omega (arith, h), λ k. omega (arith, h), omega (arith, h, l.invariant.2, c.requires.at_le_last_line, c.requires.accepted_within.nodes_limit));
+      i_bound = (omega arith, λ k. omega arith, omega (arith, c.requires.accepted_within.nodes_limit));
     }
 
 pub loop-i-preserved : goal.loop-i-preserved
 loop-i-preserved c =
-    let l = c.loop-i in (
-      omega (arith, c.loop-i-test.true),
-      (c.put_gate-next.ensures.loose c.requires.words_held).kept ∙ l.invariant.1,
-      omega (arith, l.invariant.2, c.put_gate-next.ensures.upper_bound),
-      λ held. below_next _ _ l.i (l.invariant.3 held) (c.put_gate-next.ensures.loose held),
-    )
-
-pub shape_of-text : goal.shape_of-text
-shape_of-text c = c.loop-i.invariant.1
+    record {
+      bound = omega arith;
+      put = λ held. below_next _ _ c.loop-i.i (c.loop-i.invariant.put held) (c.put_gate-next.ensures.loose held);
+    }
 
 pub returns : goal.returns
 returns c =
     let l = c.loop-i in
-    let e : l.i ≡ node_count c.args.nodes.now - 1 = omega (arith, l.invariant.0, c.loop-i-test.false) in record {
-      loose = λ held. loose_as (ap (lines_below (table_of c.args.nodes.now []) held.variables) (sym e)) (l.invariant.3 held);
-      upper_bound = omega (arith, l.invariant.2);
+    let e : l.i ≡ node_count c.args.nodes.now - 1 = omega arith in record {
+      loose = λ held. loose_as (ap (lines_below (table_of c.args.nodes.now []) held.variables) (sym e)) (l.invariant.put held);
+      upper_bound = omega arith;
     }

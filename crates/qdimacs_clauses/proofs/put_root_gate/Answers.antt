@@ -5,7 +5,6 @@ use Prim.Native.Nat.{◌<◌}
 use native.Mathlib.Omega.{arith}
 use Rattle.formula.specs.declared.NodeWords.{NodeWords}
 use Rattle.formula.specs.Words.{node_count}
-use Rattle.formula.specs.Truth.{digit}
 use Rattle.qdimacs_words.proofs.Loose.{loose_as}
 use Rattle.qdimacs_rows.specs.Rows.{lines_text}
 use Rattle.qdimacs_clauses.proofs.Nodes.{variable_low, root_clauses, word_at, some_word}
@@ -29,12 +28,9 @@ put_one_operand-requires c =
       some_word ns ws c.requires.words_held c.args.root h,
       (_, record { word_of = c.numeral_word-word.ensures; writable = low }),
       omega arith,
-      omega arith,
-      omega arith,
     )
 
 pub returns-then-node-eq-VARIABLE : goal.returns-then-node-eq-VARIABLE
-unfolding digit
 returns-then-node-eq-VARIABLE c =
     let ns = c.args.nodes.now in
     let ws = c.args.words.now in

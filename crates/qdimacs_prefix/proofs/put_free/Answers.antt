@@ -1,24 +1,27 @@
 -- `qdimacs_prefix::put_free` meets its contract. The invariant: the names below x that have the flag 2 are put.
 -- Assumes nothing.
 use mathlib.Core.Path.{◌≡◌}
-use Prim.Native.Nat.{suc}
+use Prim.Native.Nat.{suc, ◌+◌}
 use native.Mathlib.Omega.{arith}
+use lib.ListN.{get_or, take, length-take}
+use Rattle.std.proofs.lemmas.Grind.{common_steps}
 use Rattle.qdimacs_prefix.proofs.Steps.{free_none, free_next}
 use Rattle.qdimacs_prefix.proofs.put_free.Goals as goal
 
 pub loop-x-init : goal.loop-x-init
-loop-x-init c = (omega arith, omega arith, search free_none)
-
-pub put_free_name-next-requires : goal.put_free_name-next-requires
-put_free_name-next-requires c = (omega arith, omega arith)
+loop-x-init c = record { bound = omega arith; goes = search free_none }
 
 pub loop-x-preserved : goal.loop-x-preserved
-loop-x-preserved c = (omega arith, omega arith, search free_next)
+loop-x-preserved c =
+    let names = c.args.names.now in
+    let same : get_or (take (c.args.highest + 1) names) c.loop-x.x 0 ≡ get_or names c.loop-x.x 0 = grind (arith, common_steps) in record {
+      bound = omega arith;
+      goes = free_next _ 5 names c.loop-x.x c.loop-x.invariant.goes (rw same at c.put_free_name-next.ensures.goes);
+    }
 
 pub returns : goal.returns
 returns c =
-    let l = c.loop-x in
-    let e : l.x ≡ suc c.args.highest = omega (arith, l.invariant.0, c.loop-x-test.false) in record {
-      goes = rw e at l.invariant.2;
-      at_bound = omega (arith, e, l.invariant.1, c.requires.0, c.requires.1);
+    let e : c.loop-x.x ≡ suc c.args.highest = omega (arith, length-take (c.args.highest + 1) c.args.names.now) in record {
+      goes = rw e at c.loop-x.invariant.goes;
+      at_bound = omega (arith, e, c.loop-x.invariant.bound);
     }

@@ -6,18 +6,18 @@ use Rattle.qdimacs_prefix.proofs.Steps.{numbers_none, numbers_next}
 use Rattle.qdimacs_prefix.proofs.put_numbers.Goals as goal
 
 pub loop-x-init : goal.loop-x-init
-loop-x-init c = (omega arith, omega arith, omega arith, search numbers_none)
+loop-x-init c = record { bound = omega arith; put = search numbers_none }
 
 pub put_name-next-requires : goal.put_name-next-requires
 put_name-next-requires c = (omega arith, omega arith)
 
 pub loop-x-preserved : goal.loop-x-preserved
-loop-x-preserved c = (omega arith, omega arith, omega arith, search numbers_next)
+loop-x-preserved c = record { bound = omega arith; put = search numbers_next }
 
 pub returns : goal.returns
 returns c =
     let l = c.loop-x in
-    let e : l.x ≡ c.args.end = omega (arith, l.invariant.1, c.loop-x-test.false) in record {
-      loose = rw e at l.invariant.3;
-      upper_bound = omega (arith, e, l.invariant.2);
+    let e : l.x ≡ c.args.end = omega arith in record {
+      loose = rw e at l.invariant.put;
+      upper_bound = omega (arith, e, l.invariant.bound);
     }

@@ -7,7 +7,8 @@ use Rattle.qdimacs_prefix.specs.Lines.{names_text}
 use Rattle.qdimacs_prefix.proofs.put_numbers.Given as goal
 
 abbrev pub invariant-loop-x : goal.invariant-loop-x
-invariant-loop-x l = (l.first ≤ l.x) × (l.x ≤ l.end) × (l.next ≤ l.at + 7 * (l.x - l.first)) × Loose l.initial.text l.at (names_text (numbers l.first (l.x - l.first))) l.text l.next
-
-abbrev pub decreases-loop-x : goal.decreases-loop-x
-decreases-loop-x l = l.end - l.x
+invariant-loop-x l =
+    record {
+      bound : l.next ≤ l.at + 7 * (l.x - l.first);
+      put : Loose l.initial.text l.at (names_text (numbers l.first (l.x - l.first))) l.text l.next;
+    }

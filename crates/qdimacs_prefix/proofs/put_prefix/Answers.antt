@@ -9,15 +9,15 @@ use Rattle.qdimacs_prefix.proofs.Prefix.{no_names, more_names_lem, begun_few, bl
 use Rattle.qdimacs_prefix.proofs.put_prefix.Goals as goal
 
 pub loop-j-init : goal.loop-j-init
-loop-j-init c = (omega arith, omega (arith, no_names c.args.prefix.now c.args.variables.now), blocks_none c.args.prefix.now c.args.variables.now)
+loop-j-init c = record { bound = omega (arith, no_names c.args.prefix.now c.args.variables.now); goes = blocks_none c.args.prefix.now c.args.variables.now }
 
 pub put_prefix_block-next-requires : goal.put_prefix_block-next-requires
 put_prefix_block-next-requires c =
     let l = c.loop-j in
     let j = l.j in
     let h = c.loop-j-test.true in
-    let w = begun_few c.args.prefix.now c.args.variables.now j c.requires.prefix_held l.invariant.0 in record {
-      prefix_width_in_bounds = (omega (arith, h), omega (arith, w, l.invariant.1, c.requires.at_bound));
+    let w = begun_few c.args.prefix.now c.args.variables.now j c.requires.prefix_held (omega arith) in record {
+      prefix_width_in_bounds = (omega (arith, h), omega (arith, w, l.invariant.bound, c.requires.at_bound));
       j_value = c.requires.prefix_held.kinds j h;
       j_in_bounds = c.requires.prefix_held.fits j h;
       all_writable = c.requires.prefix_held.writable j h;
@@ -26,13 +26,13 @@ put_prefix_block-next-requires c =
 pub loop-j-preserved : goal.loop-j-preserved
 loop-j-preserved c =
     let m = more_names_lem c.args.prefix.now c.args.variables.now c.loop-j.j in
-    (omega arith, omega arith, search blocks_next)
+    record { bound = omega arith; goes = search blocks_next }
 
 pub returns : goal.returns
 returns c =
     let l = c.loop-j in
-    let e : l.j ≡ length c.args.prefix.now / prefix_width = omega (arith, l.invariant.0, c.loop-j-test.false) in
-    let w = begun_few c.args.prefix.now c.args.variables.now l.j c.requires.prefix_held l.invariant.0 in record {
-      goes = blocks_all c.args.prefix.now c.args.variables.now _ l.j e l.invariant.2;
-      at_bound_2 = omega (arith, w, l.invariant.1);
+    let e : l.j ≡ length c.args.prefix.now / prefix_width = omega arith in
+    let w = begun_few c.args.prefix.now c.args.variables.now l.j c.requires.prefix_held (omega arith) in record {
+      goes = blocks_all c.args.prefix.now c.args.variables.now _ l.j e l.invariant.goes;
+      at_bound_2 = omega (arith, w, l.invariant.bound);
     }

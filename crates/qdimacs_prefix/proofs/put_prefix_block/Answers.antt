@@ -19,6 +19,6 @@ put_block-requires c =
 pub returns : goal.returns
 returns c =
     let l = ap length (read_names_lem c.args.prefix.now c.args.variables.now c.args.j) in record {
-      goes = search block_read;
+      goes = block_read c.args.prefix.now c.args.variables.now _ c.args.j c.requires.j_value (rw c.of-quantifier.ensures at c.put_block.ensures.goes);
       at_bound = omega arith;
     }

@@ -1,27 +1,22 @@
 -- `qdimacs_prefix::turn_line` meets its contract.
 -- Assumes nothing.
-use mathlib.Core.Path.{◌≡◌}
+use mathlib.Core.Path.{refl, sym, ◌∙◌}
 use native.Mathlib.Omega.{arith}
-use Rattle.qdimacs_prefix.proofs.Steps.{goes_same, turned_exists, turned_for_all}
+use Rattle.qdimacs_prefix.proofs.Steps.{goes_same, goes_turned, tested_true, tested_false}
 use Rattle.qdimacs_prefix.proofs.turn_line.Goals as goal
 
-pub returns-then-line-kind : goal.returns-then-line-kind
-returns-then-line-kind c =
-    let same : c.args.line.kind ≡ c.args.kind = omega arith in record {
-      goes = search goes_same;
-      at_bound = omega arith;
-    }
-
-pub returns-then-kind-eq-EXISTS_BLOCK : goal.returns-then-kind-eq-EXISTS_BLOCK
-returns-then-kind-eq-EXISTS_BLOCK c =
-    let other : c.args.line.kind ≡ c.args.kind → ⊥ = λ z. omega arith in record {
-      goes = search turned_exists;
+pub returns-then-eq : goal.returns-then-eq
+returns-then-eq c =
+    record {
+      goes = goes_same c.args.quantifier (tested_true _ _ _ refl refl (sym c.eq.ensures ∙ c.if-eq.true));
       at_bound = omega arith;
     }
 
 pub returns : goal.returns
 returns c =
-    let other : c.args.line.kind ≡ c.args.kind → ⊥ = λ z. omega arith in record {
-      goes = search turned_for_all;
+    record {
+      goes = goes_turned c.args.quantifier (tested_false _ _ _ refl refl (sym c.eq.ensures ∙ c.if-eq.false))
+          c.end_line-end.ensures.loose
+          (rw c.line_start.ensures at c.put_word.ensures);
       at_bound = omega arith;
     }

@@ -8,14 +8,14 @@ use Rattle.qdimacs_rows.proofs.put_no_operand.Goals as goal
 pub returns-then-next-text : goal.returns-then-next-text
 returns-then-next-text c =
     record {
-      by_index = λ g b w d. loose_as (none_lines g b)
-          (loose_then (c.store_piece-end.ensures.by_index _ (c.literal-own.ensures.by_index g b w d)) c.store_end.ensures.loose);
+      by_index = λ g w. loose_as (none_lines g _)
+          (loose_then (c.store_piece-end.ensures.by_index _ (c.literal-own.ensures.by_index g w)) c.store_end.ensures.loose);
       upper_bound = omega arith;
     }
 
 pub returns : goal.returns
 returns c =
     record {
-      by_index = λ g b w d. loose_counted (omega (arith, (c.literal-own.ensures.by_index g b w d).sized, none_size g b)) (omega arith);
+      by_index = λ g w. loose_counted (omega (arith, (c.literal-own.ensures.by_index g w).sized, none_size g c.args.value)) (omega arith);
       upper_bound = omega arith;
     }

@@ -1,30 +1,9 @@
 -- `qdimacs_words::store_eight` meets its contract.
 -- Assumes nothing.
+use mathlib.Core.Path.{◌∙◌}
 use native.Mathlib.Omega.{arith}
-use lib.ListN.{length-set}
-use Rattle.qdimacs_words.proofs.Pieces.{set_bytes}
+use Rattle.qdimacs_words.proofs.Pieces.{word_stored}
 use Rattle.qdimacs_words.proofs.store_eight.Goals as goal
 
-pub bounds-text-at-2 : goal.bounds-text-at-2
-bounds-text-at-2 c = simp length-set (omega arith)
-
-pub bounds-text-at-3 : goal.bounds-text-at-3
-bounds-text-at-3 c = simp length-set (omega arith)
-
-pub bounds-text-at-4 : goal.bounds-text-at-4
-bounds-text-at-4 c = simp length-set (omega arith)
-
-pub bounds-text-at-5 : goal.bounds-text-at-5
-bounds-text-at-5 c = simp length-set (omega arith)
-
-pub bounds-text-at-6 : goal.bounds-text-at-6
-bounds-text-at-6 c = simp length-set (omega arith)
-
-pub bounds-text-at-7 : goal.bounds-text-at-7
-bounds-text-at-7 c = simp length-set (omega arith)
-
-pub bounds-text-at-8 : goal.bounds-text-at-8
-bounds-text-at-8 c = simp length-set (omega arith)
-
 pub returns : goal.returns
-returns c = set_bytes c.args.text.now c.args.at c.args.word c.requires (omega arith)
+returns c = word_stored c.args.text.now _ c.args.at _ c.args.word (omega arith) (c.copy_from_slice.ensures.after ∙ c.to_le_bytes.ensures)
