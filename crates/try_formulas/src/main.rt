@@ -61,12 +61,12 @@ fn show_words(rt: &impl Print, name: &str, words: &[u32], list: &[u32]) -> io::R
 fn show_answer(rt: &impl Print, name: &str, answer: Answer) -> io::Result<()> {
     let Answer { verdict, sizes } = answer;
     match verdict.number {
-        ACCEPTED => println!(
-            rt; "{name}: n {}, b {}, q {}, depth {}; form of {} nodes, {} prefix blocks, {} prefix variables",
+        ACCEPTED => println!(rt;
+            "{name}: n {}, b {}, q {}, depth {}; form of {} nodes, {} prefix blocks, {} prefix variables",
             sizes.n, sizes.b, sizes.q, sizes.depth, sizes.nodes, sizes.blocks, sizes.entries
         ),
-        NOT_A_TREE => println!(
-            rt; "{name}: refused, {NOT_A_TREE} at {}, named by {} and {}",
+        NOT_A_TREE => println!(rt;
+            "{name}: refused, {NOT_A_TREE} at {}, named by {} and {}",
             verdict.position, verdict.users.first, verdict.users.second
         ),
         number => println!(rt; "{name}: refused, {number} at {}", verdict.position),
@@ -115,8 +115,18 @@ fn many_variables(rt: &impl Print) -> io::Result<()> {
     for (entry, x) in list.iter_mut().zip(1..2050) {
         *entry = x;
     }
-    show_nodes(rt, "two blocks of 2,048", "2 1, 5 0 2048 0, 5 0 2048 1", &list)?;
-    show_nodes(rt, "two blocks of 2,049", "2 1, 5 0 2049 0, 5 0 2049 1", &list)
+    show_nodes(
+        rt,
+        "two blocks of 2,048",
+        "2 1, 5 0 2048 0, 5 0 2048 1",
+        &list,
+    )?;
+    show_nodes(
+        rt,
+        "two blocks of 2,049",
+        "2 1, 5 0 2049 0, 5 0 2049 1",
+        &list,
+    )
 }
 
 // Variable 1 under as many not nodes as there is room for.
