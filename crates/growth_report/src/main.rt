@@ -59,7 +59,7 @@ fn run(rt: &HostRuntime, kept: &mut [u8]) -> io::Result<()>
 
 // All that a reader gives, in parts: what is found of this text, and where reading did not fail, none is left.
 // What standard input gives no contract tells. A proved loop has to end, and nothing says that standard input
-// does: so the loop counts its turns down, from a number that no run uses up.
+// does: so the loop has a number of turns that no run uses up.
 fn read_names<R: Read>(from: &mut R, kept: &mut [u8]) -> Given
     requires { 65536 ≤ length kept.old }
     ensures found { (result.found.bytes ≤ length kept.new)
@@ -68,16 +68,14 @@ fn read_names<R: Read>(from: &mut R, kept: &mut [u8]) -> Given
     ensures end { IsNone result.failed → IsAtEnd (R.remaining from.new) }
 {
     let mut p = read_part(from, name_lines::start(kept), kept);
-    let mut turns = u64::MAX;
-    while p.more {
-        if turns == 0 {
-            let endless = io::Error::other("no end was found");
-            return names_given(p.state, Some(endless), kept);
+    for _ in 0..u64::MAX {
+        if !p.more {
+            return names_given(p.state, p.failed, kept);
         }
-        turns -= 1;
         p = read_part(from, p.state, kept);
     }
-    names_given(p.state, p.failed, kept)
+    let endless = io::Error::other("no end was found");
+    names_given(p.state, Some(endless), kept)
 }
 
 fn names_given(s: State, failed: Option<io::Error>, kept: &mut [u8]) -> Given
@@ -148,17 +146,15 @@ fn measure_files(rt: &HostRuntime, names: &[u8], lines: &mut [u32]) -> usize
     ensures { (result ≤ 256) × (length (names_of names.now) ≤ 256 → result ≡ length (names_of names.now)) }
 {
     let mut from = 0;
-    let mut i = 0;
-    while i < LINES {
+    for i in 0..LINES {
         let name = name_lines::next_name(names, from);
         if name.end <= name.from {
             return i;
         }
         growth::store_line(lines, i, measure_name(rt, names, name));
         from = name.end;
-        i += 1;
     }
-    i
+    LINES
 }
 
 // The line of the file with the name that stands there.

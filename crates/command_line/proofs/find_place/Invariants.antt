@@ -1,14 +1,11 @@
--- `command_line::find_place` meets its contract. The loop keeps the place of the byte at `at`.
+-- `command_line::find_place` meets its contract. The loop keeps the place of the byte after those passed.
 -- Assumes nothing.
-use Prim.Native.Nat.{◌≤◌, ◌-◌, ◌+◌}
+use Prim.Native.Nat.{◌≤◌, ◌+◌}
 use mathlib.Core.Path.{◌≡◌}
-use lib.ListN.{length, take}
+use lib.ListN.{take}
 use Rattle.command_line.specs.Place.{line, column}
 use Rattle.command_line.proofs.find_place.Given as goal
 
-abbrev pub invariant-loop-at : goal.invariant-loop-at
-invariant-loop-at l = (l.here.line ≡ line (take l.at l.text)) × (l.here.column ≡ column (take l.at l.text))
-    × (l.at ≤ length l.text) × (l.at ≤ l.position) × (l.here.line ≤ l.at + 1) × (l.here.column ≤ l.at + 1)
-
-abbrev pub decreases-loop-at : goal.decreases-loop-at
-decreases-loop-at l = length l.text - l.at
+abbrev pub invariant-loop-byte : goal.invariant-loop-byte
+invariant-loop-byte l = (l.here.line ≡ line (take l.byte-index l.text)) × (l.here.column ≡ column (take l.byte-index l.text))
+    × (l.here.line ≤ l.byte-index + 1) × (l.here.column ≤ l.byte-index + 1)
