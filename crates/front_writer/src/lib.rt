@@ -50,10 +50,8 @@ pub fn write_front(
         blocks: 0,
         names: 0,
     };
-    let mut left = taken;
-    while left > 0 {
-        at = write_block(words, list, standing, prefix, variables, at, taken - left);
-        left -= 1;
+    for k in 0..taken {
+        at = write_block(words, list, standing, prefix, variables, at, k);
     }
 }
 
@@ -103,12 +101,9 @@ fn write_names(names: &[u32], standing: &[bool], out: &mut [u32]) -> usize
     ensures value { result ≡ length (keep (λ x. get_or standing.now x false) names.now) }
 {
     let mut at: usize = 0;
-    let mut e: usize = 0;
-    while e < names.len() {
-        let x = names[e];
+    for &x in names {
         let flag = standing[x as usize];
         at = write_name(out, at, flag, x);
-        e += 1;
     }
     at
 }
@@ -132,10 +127,8 @@ pub fn move_ranges(prefix: &mut [u32], blocks: usize, by: usize)
     requires { Movable blocks by prefix.old }
     ensures { prefix.new ≡ overwrite prefix.old 0 (moved blocks by prefix.old) }
 {
-    let mut j: usize = 0;
-    while j < blocks {
+    for j in 0..blocks {
         move_range(prefix, j, by);
-        j += 1;
     }
 }
 

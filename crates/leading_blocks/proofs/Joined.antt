@@ -16,7 +16,7 @@ use Rattle.kept_prefix.specs.Blocks.{keep}
 use Rattle.lists.proofs.Members.{mem_one, mem_head, times_at_most, times_append, times_positive, distinct_append}
 use Rattle.kept_prefix.proofs.Keep.{keep_append, length_keep}
 use Rattle.leading_blocks.specs.Flags.{Flags, one_of}
-use Rattle.leading_blocks.specs.Front.{Added}
+use Rattle.leading_blocks.specs.Front.{Fresh}
 use Rattle.leading_blocks.proofs.Flags.{flags_join}
 
 -- a list in which an element of the front stands again
@@ -74,16 +74,12 @@ module _ (names : List ℕ) (e : ℕ) (h : e < length names) where
         let q : before ++ names ≡ xs ++ drop e names = ap (λ ys. before ++ ys) (sym (take-append-drop e names)) ∙ sym (append_assoc before (take e names) (drop e names)) in
         ap distinct q ∙ repeats xs (drop e names) x (sym (j.used_are.flag_is x) ∙ t) (ap (mem x) (drop-cons names e 0 h) ∙ mem_head x _)
 
-module _ (before names : List ℕ) (standing used : List Bool) where
-  pub added_none : distinct (before ++ names) ≡ false → Added before names standing used (record { fresh = false; standing = 0 })
-  added_none e = record { fresh_is = sym e; used_are = λ t. clash t refl; standing_is = λ t. clash t refl }
-
-  pub added_all : (e count : ℕ) → length names ≤ e → Joining (before ++ take e names) used
-      → count ≡ length (keep (λ x. get_or standing x false) (take e names)) → Added before names standing used (record { fresh = true; standing = count })
-  added_all e count h j c =
-      let all : take e names ≡ names = take_all e names h in
-      let i = rw all at j in
-      record { fresh_is = sym i.apart; used_are = λ t. i.used_are; standing_is = λ t. rw all at c }
+pub added_all : (before names : List ℕ) (standing used : List Bool) (e count : ℕ) → length names ≤ e → Joining (before ++ take e names) used
+    → count ≡ length (keep (λ x. get_or standing x false) (take e names)) → Fresh before names standing used count
+added_all before names standing used e count h j c =
+    let all : take e names ≡ names = take_all e names h in
+    let i = rw all at j in
+    record { apart = i.apart; used_are = i.used_are; standing_is = rw all at c }
 
 pub joining_start : (before names : List ℕ) (used : List Bool) → Flags (one_of before) used → distinct before ≡ true → Joining (before ++ take 0 names) used
 joining_start before names used f d = rw append-nil (record { used_are = f; apart = d })

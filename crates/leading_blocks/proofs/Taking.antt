@@ -9,7 +9,7 @@ use lib.Dec.{ltb}
 use lib.ListN.{length, get_or, take, drop, length-drop}
 use lib.Seq.{length-take-le}
 use mir.Val.{bool_byte}
-use Rattle.lists.specs.Choice.{or_left, or_right, or_neither, clash}
+use Rattle.lists.specs.Choice.{or_left, or_right, or_neither}
 use Rattle.lists.specs.Search.{lowest}
 use Rattle.lists.specs.Members.{mem, distinct}
 use Rattle.kept_prefix.specs.Blocks.{keep, prefix_names}
@@ -28,9 +28,8 @@ use Rattle.kept_prefix.specs.Leading.{from_root, outermost, stops, leading_count
 use Rattle.kept_prefix.specs.Kept.{stands}
 use Rattle.kept_prefix.proofs.Leading.{names_next, names_one_more}
 use Rattle.leading_blocks.specs.Flags.{Flags, none}
-use Rattle.leading_blocks.specs.Front.{FrontTo, Taken, Numbered, Added, Stepped}
+use Rattle.leading_blocks.specs.Front.{FrontTo, Taken, Numbered, Fresh}
 use Rattle.leading_blocks.specs.declared.Front.{Front}
-use Rattle.leading_blocks.specs.declared.Names.{Names}
 use Rattle.leading_blocks.proofs.Fronts.{front_none, front_more}
 
 -- A block's range, as the code lends it.
@@ -49,9 +48,6 @@ module _ (t : Table) (k : ℕ) where
   goes : is_block (from_root t k) ≡ true → distinct (prefix_names (outermost t k) ++ bound (from_root t k)) ≡ true → stops t k ≡ false
   unfolding stops
   goes b e = or_neither _ _ (ap not b) (ap not (ap distinct (names_next t k) ∙ e))
-
-  stepped_stop : (front : Front) (used : List Bool) → stops t k ≡ true → Stepped t k front used (record { taken = false; front = front })
-  stepped_stop front used e = record { stops_there = λ f. (e, refl); goes_on = λ f. clash f refl }
 
   -- what the search comes to: it stops at node k, or nowhere
   pub leading_stops : k < t.size → ((j : ℕ) → j < k → stops t j ≡ false) → stops t k ≡ true → (f : Front) → FrontTo t k f → FrontTo t (leading_count t) f
@@ -75,8 +71,8 @@ module _ (ws ls : List ℕ) (a : Accepted ws ls) (k : ℕ) (h : k < node_count w
   block_here = ap is_block here ∙ is_block_lem ws ls (node_count ws - 1 - k) ∙ sym (ap (λ (v : NodeWords). is_block_kind v.kind) e)
 
   -- a node that is no block
-  pub step_plain : is_block_kind w.kind ≡ false → (front : Front) (used : List Bool) → Stepped (table_of ws ls) k front used (record { taken = false; front = front })
-  step_plain n front used = stepped_stop (table_of ws ls) k front used (plain_stops (table_of ws ls) k (block_here ∙ n))
+  pub step_plain : is_block_kind w.kind ≡ false → stops (table_of ws ls) k ≡ true
+  step_plain n = plain_stops (table_of ws ls) k (block_here ∙ n)
 
   module _ (b : is_block_kind w.kind ≡ true) where
     -- its range in the list
@@ -108,38 +104,31 @@ module _ (ws ls : List ℕ) (a : Accepted ws ls) (k : ℕ) (h : k < node_count w
         let m : mem (get_or xs j 0) (bound (from_root (table_of ws ls) k)) ≡ true = ap (mem (get_or xs j 0)) (sym part_is) ∙ mem-get_or xs j 0 l in
         omega (arith, highest_limit ws ls a, bound_le (table_of ws ls) (node_count ws - suc k) (get_or xs j 0) (omega arith) m)
 
-    module _ (standing used used' : List Bool) (front : Front) (r : Names) (s : Flags (stands (table_of ws ls)) standing) (p : Taken (table_of ws ls) k front used)
-        (d : Added (prefix_names (outermost (table_of ws ls) k)) (lent ls w) standing used' r) where
-      joined_is : distinct (prefix_names (outermost (table_of ws ls) k) ++ bound (from_root (table_of ws ls) k)) ≡ r.fresh
-      joined_is = sym (d.fresh_is ∙ ap (λ xs. distinct (prefix_names (outermost (table_of ws ls) k) ++ xs)) part_is)
+    joined_is : distinct (prefix_names (outermost (table_of ws ls) k) ++ lent ls w) ≡ distinct (prefix_names (outermost (table_of ws ls) k) ++ bound (from_root (table_of ws ls) k))
+    joined_is = ap (λ xs. distinct (prefix_names (outermost (table_of ws ls) k) ++ xs)) part_is
 
-      -- a name repeats
-      pub step_repeats : r.fresh ≡ false → Stepped (table_of ws ls) k front used' (record { taken = false; front = front })
-      step_repeats n = stepped_stop (table_of ws ls) k front used' (repeat_stops (table_of ws ls) k (joined_is ∙ n))
+    -- a name repeats
+    pub step_repeats : distinct (prefix_names (outermost (table_of ws ls) k) ++ lent ls w) ≡ false → stops (table_of ws ls) k ≡ true
+    step_repeats n = repeat_stops (table_of ws ls) k (sym joined_is ∙ n)
 
-      module _ (n : r.fresh ≡ true) where
-        kept_is : r.standing ≡ length (keep (stands (table_of ws ls)) (bound (from_root (table_of ws ls) k)))
-        kept_is = d.standing_is n ∙ ap length (keep_cong _ _ _ s.flag_is ∙ ap (keep (stands (table_of ws ls))) part_is)
+    module _ (standing used used' : List Bool) (front : Front) (kept : ℕ) (s : Flags (stands (table_of ws ls)) standing) (p : Taken (table_of ws ls) k front used)
+        (d : Fresh (prefix_names (outermost (table_of ws ls) k)) (lent ls w) standing used' kept) where
+      kept_is : kept ≡ length (keep (stands (table_of ws ls)) (bound (from_root (table_of ws ls) k)))
+      kept_is = d.standing_is ∙ ap length (keep_cong _ _ _ s.flag_is ∙ ap (keep (stands (table_of ws ls))) part_is)
 
-        pub kept_low : r.standing ≤ w.b
-        kept_low = omega (arith, kept_is, count_is, length_keep (stands (table_of ws ls)) (bound (from_root (table_of ws ls) k)))
+      pub kept_low : kept ≤ w.b
+      kept_low = omega (arith, kept_is, count_is, length_keep (stands (table_of ws ls)) (bound (from_root (table_of ws ls) k)))
 
-        -- none does
-        pub step_taken : Stepped (table_of ws ls) k front used' (record {
-          taken = true;
-          front = record { taken = front.taken + 1; bound = front.bound + w.b; blocks = front.blocks + bool_byte (ltb 0 r.standing); names = front.names + r.standing };
-        })
-        step_taken =
-            let t : Table = table_of ws ls in
-            let q : prefix_names (outermost t k) ++ lent ls w ≡ prefix_names (outermost t (k + 1)) = ap (λ xs. prefix_names (outermost t k) ++ xs) part_is ∙ sym (names_one_more t k) in
+      -- none does
+      pub step_taken : (stops (table_of ws ls) k ≡ false) × Taken (table_of ws ls) (k + 1)
+          (record { taken = front.taken + 1; bound = front.bound + w.b; blocks = front.blocks + bool_byte (ltb 0 kept); names = front.names + kept }) used'
+      step_taken =
+          let t : Table = table_of ws ls in
+          let q : prefix_names (outermost t k) ++ lent ls w ≡ prefix_names (outermost t (k + 1)) = ap (λ xs. prefix_names (outermost t k) ++ xs) part_is ∙ sym (names_one_more t k) in (
+            goes t k (block_here ∙ b) (sym joined_is ∙ d.apart),
             record {
-              stops_there = λ f. clash refl f;
-              goes_on = λ f. (
-                goes t k (block_here ∙ b) (joined_is ∙ n),
-                record {
-                  front_is = front_more t k w.b r.standing front p.front_is count_is kept_is;
-                  used_are = rw q at (d.used_are n);
-                  apart = ap distinct (sym q) ∙ sym d.fresh_is ∙ n;
-                },
-              );
-            }
+              front_is = front_more t k w.b kept front p.front_is count_is kept_is;
+              used_are = rw q at d.used_are;
+              apart = ap distinct (sym q) ∙ d.apart;
+            },
+          )

@@ -27,30 +27,14 @@ pub struct Front {
     pub names: usize,
 }
 
-// Whether one more block was taken off, and what has been taken off then.
-#[derive(Clone, Copy)]
-struct Step {
-    taken: bool,
-    front: Front,
-}
-
-// Whether no name repeats, and how many of the names stand at a variable node.
-#[derive(Clone, Copy)]
-struct Names {
-    fresh: bool,
-    standing: usize,
-}
-
 // Sets the flag of each number that stands at a variable node.
 pub fn flag_standing(words: &[u32], list: &[u32], standing: &mut [bool])
     requires list_value { verdict words.now list.now ≡ accepted }
     requires flags { Flags none standing.old }
     ensures { Flags (stands (table_of words.now list.now)) standing.new }
 {
-    let mut i: usize = 0;
-    while i < words.len() / WIDTH {
+    for i in 0..words.len() / WIDTH {
         flag_node(words, list, standing, i);
-        i += 1;
     }
 }
 
@@ -97,19 +81,16 @@ fn take_blocks(words: &[u32], list: &[u32], standing: &[bool], used: &mut [bool]
         blocks: 0,
         names: 0,
     };
-    let mut k: usize = 0;
-    while k < words.len() / WIDTH {
-        let step = take_block(words, list, standing, used, front, k);
-        front = step.front;
-        if !step.taken {
+    for k in 0..words.len() / WIDTH {
+        let Some(more) = take_block(words, list, standing, used, front, k) else {
             return front;
-        }
-        k += 1;
+        };
+        front = more;
     }
     front
 }
 
-// Takes node k from the root down off, if it is a block and no name of it repeats.
+// What is taken off with node k from the root down, if that is a block and no name of it repeats.
 fn take_block(
     words: &[u32],
     list: &[u32],
@@ -117,66 +98,44 @@ fn take_block(
     used: &mut [bool],
     front: Front,
     k: usize,
-) -> Step
+) -> Option<Front>
     requires list_value { verdict words.now list.now ≡ accepted }
     requires flags { Flags (stands (table_of words.now list.now)) standing.now }
     requires k_bound { k < node_count words.now }
     requires taken { Taken (table_of words.now list.now) k front used.old }
-    ensures { Stepped (table_of words.now list.now) k front used.new result }
+    ensures { Stepped (table_of words.now list.now) k used.new result }
 {
     let node = formula::node_at(words, words.len() / WIDTH - 1 - k);
     if !formula::is_block_kind(node.kind) {
-        return Step {
-            taken: false,
-            front,
-        };
+        return None;
     }
     let first = node.a as usize;
     let count = node.b as usize;
     let end = first + count;
-    let names = use_names(&list[first..end], standing, used);
-    if !names.fresh {
-        return Step {
-            taken: false,
-            front,
-        };
-    }
-    let kept = names.standing;
-    let more = Front {
+    let kept = use_names(&list[first..end], standing, used)?;
+    Some(Front {
         taken: front.taken + 1,
         bound: front.bound + count,
         blocks: front.blocks + (0 < kept) as usize,
         names: front.names + kept,
-    };
-    Step {
-        taken: true,
-        front: more,
-    }
+    })
 }
 
-// Sets the flags of names, none of which may have one, and counts those that stand at a variable node.
-fn use_names(names: &[u32], standing: &[bool], used: &mut [bool]) -> Names
+// Sets the flags of names, and counts those that stand at a variable node. None if one has its flag already.
+fn use_names(names: &[u32], standing: &[bool], used: &mut [bool]) -> Option<usize>
     requires numbered { Numbered names.now }
     requires standing_len { (length standing.now ≡ 65536) × (length used.old ≡ 65536) }
     ensures { (before : List ℕ) → Flags (one_of before) used.old → distinct before ≡ true
         → Added before names.now standing.now used.new result }
 {
     let mut standing_names: usize = 0;
-    let mut e: usize = 0;
-    while e < names.len() {
-        let x = names[e] as usize;
+    for name in names {
+        let x = *name as usize;
         if used[x] {
-            return Names {
-                fresh: false,
-                standing: 0,
-            };
+            return None;
         }
         used[x] = true;
         standing_names += standing[x] as usize;
-        e += 1;
     }
-    Names {
-        fresh: true,
-        standing: standing_names,
-    }
+    Some(standing_names)
 }

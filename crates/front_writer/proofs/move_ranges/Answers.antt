@@ -1,7 +1,6 @@
--- `front_writer::move_ranges` meets its contract. The loop's invariant: the ranges of the blocks passed are moved. The measure is how many
--- blocks are left.
+-- `front_writer::move_ranges` meets its contract. The loop's invariant: the ranges of the blocks passed are moved.
 -- Assumes nothing.
-use mathlib.Core.Path.{◌≡◌, refl, sym, ◌∙◌}
+use mathlib.Core.Path.{◌≡◌, sym}
 use native.Mathlib.Omega.{arith}
 use Rattle.lists.proofs.Overwrite.{overwrite_nil}
 use Rattle.front_writer.specs.Written.{moved}
@@ -10,26 +9,23 @@ use Rattle.front_writer.proofs.move_ranges.Goals as goal
 
 pub loop-j-init : goal.loop-j-init
 unfolding moved
-loop-j-init c = (omega arith, refl, sym (overwrite_nil c.args.prefix.now 0))
+loop-j-init c = sym (overwrite_nil c.args.prefix.now 0)
 
 pub move_range-requires : goal.move_range-requires
 move_range-requires c =
     let l = c.loop-j in
     let h = c.loop-j-test.true in record {
-      prefix_width_in_bounds = omega (arith, c.requires.blocks_there, l.invariant.1);
-      by_bound = move_fits _ _ _ _ _ c.requires h l.invariant.2;
+      prefix_width_in_bounds = omega (arith, c.requires.blocks_there, c.loop-j.auto.prefix);
+      by_bound = move_fits _ _ _ _ _ c.requires h l.invariant;
     }
 
 pub loop-j-preserved : goal.loop-j-preserved
 loop-j-preserved c =
     let l = c.loop-j in
     let h = c.loop-j-test.true in
-    (omega arith, c.move_range.auto.prefix ∙ l.invariant.1, moved_turn _ _ _ _ _ c.requires h l.invariant.2 _ c.move_range.ensures)
-
-pub shape_of-prefix : goal.shape_of-prefix
-shape_of-prefix c = c.loop-j.invariant.1
+    moved_turn _ _ _ _ _ c.requires h l.invariant _ c.move_range.ensures
 
 pub returns : goal.returns
 returns c =
-    let all : c.args.blocks ≡ c.loop-j.j = omega (arith, c.loop-j-test.false, c.loop-j.invariant.0) in
-    rw all c.loop-j.invariant.2
+    let all : c.args.blocks ≡ c.loop-j.j = omega (arith, c.loop-j-test.false, c.loop-j.auto.j-end) in
+    rw all c.loop-j.invariant

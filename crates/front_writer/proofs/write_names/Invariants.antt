@@ -1,16 +1,12 @@
 -- `front_writer::write_names` meets its contract. The loop's invariant: the names passed whose flag is set stand at the start of the buffer,
--- and `at` is behind them. The measure is how many names are left.
+-- and `at` is behind them.
 -- Assumes nothing.
 use mathlib.Core.Path.{◌≡◌}
 use mathlib.Core.Bool.{false}
-use Prim.Native.Nat.{◌-◌, ◌≤◌}
 use lib.ListN.{length, get_or, take}
 use Rattle.kept_prefix.specs.Blocks.{keep}
 use Rattle.lists.specs.Parts.{overwrite}
 use Rattle.front_writer.proofs.write_names.Given as goal
 
-abbrev pub invariant-loop-e : goal.invariant-loop-e
-invariant-loop-e l = (l.e ≤ length l.names) × (length l.out ≡ length l.initial.out) × (l.at ≡ length (keep (λ x. get_or l.standing x false) (take l.e l.names))) × (l.out ≡ overwrite l.initial.out 0 (keep (λ x. get_or l.standing x false) (take l.e l.names)))
-
-abbrev pub decreases-loop-e : goal.decreases-loop-e
-decreases-loop-e l = length l.names - l.e
+abbrev pub invariant-loop-x : goal.invariant-loop-x
+invariant-loop-x l = (l.at ≡ length (keep (λ x. get_or l.standing x false) (take l.x-index l.names))) × (l.out ≡ overwrite l.initial.out 0 (keep (λ x. get_or l.standing x false) (take l.x-index l.names)))

@@ -2,16 +2,12 @@
 -- Assumes nothing.
 use mathlib.Core.Path.{◌≡◌}
 use mathlib.Core.Bool.{false}
-use Prim.Native.Nat.{ℕ, ◌-◌, ◌≤◌, ◌<◌}
-use lib.ListN.{length}
-use Rattle.formula.specs.Words.{node_count, table_of}
+use Prim.Native.Nat.{ℕ, ◌<◌}
+use Rattle.formula.specs.Words.{table_of}
 use Rattle.kept_prefix.specs.Leading.{stops}
 use Rattle.leading_blocks.specs.Front.{Taken}
 use Rattle.leading_blocks.proofs.take_blocks.Given as goal
 
 abbrev pub invariant-loop-k : goal.invariant-loop-k
-invariant-loop-k l = (l.k ≤ node_count l.words) × (length l.used ≡ length l.initial.used) × ((j : ℕ) → j < l.k → stops (table_of l.words l.list) j ≡ false)
+invariant-loop-k l = ((j : ℕ) → j < l.k → stops (table_of l.words l.list) j ≡ false)
     × Taken (table_of l.words l.list) l.k l.front l.used
-
-abbrev pub decreases-loop-k : goal.decreases-loop-k
-decreases-loop-k l = node_count l.words - l.k

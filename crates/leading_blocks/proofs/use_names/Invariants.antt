@@ -4,7 +4,7 @@
 use mathlib.Core.Path.{◌≡◌}
 use mathlib.Core.Bool.{true, false}
 use mathlib.Core.List.{List, ◌++◌}
-use Prim.Native.Nat.{ℕ, ◌-◌, ◌≤◌}
+use Prim.Native.Nat.{ℕ}
 use lib.ListN.{length, get_or, take}
 use Rattle.lists.specs.Members.{distinct}
 use Rattle.kept_prefix.specs.Blocks.{keep}
@@ -12,10 +12,6 @@ use Rattle.leading_blocks.specs.Flags.{Flags, one_of}
 use Rattle.leading_blocks.proofs.Joined.{Joining}
 use Rattle.leading_blocks.proofs.use_names.Given as goal
 
-abbrev pub invariant-loop-e : goal.invariant-loop-e
-invariant-loop-e l = (l.e ≤ length l.names) × (length l.used ≡ length l.initial.used)
-    × (l.standing_names ≡ length (keep (λ x. get_or l.standing x false) (take l.e l.names)))
-    × ((before : List ℕ) → Flags (one_of before) l.initial.used → distinct before ≡ true → Joining (before ++ take l.e l.names) l.used)
-
-abbrev pub decreases-loop-e : goal.decreases-loop-e
-decreases-loop-e l = length l.names - l.e
+abbrev pub invariant-loop-name : goal.invariant-loop-name
+invariant-loop-name l = (l.standing_names ≡ length (keep (λ x. get_or l.standing x false) (take l.name-index l.names)))
+    × ((before : List ℕ) → Flags (one_of before) l.initial.used → distinct before ≡ true → Joining (before ++ take l.name-index l.names) l.used)
