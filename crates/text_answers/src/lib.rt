@@ -28,13 +28,6 @@ pub struct Answer {
     pub sizes: Sizes,
 }
 
-// The format that a number names.
-#[derive(Clone, Copy)]
-pub enum Asked {
-    Known(Format),
-    Unknown,
-}
-
 // A refusal handed on, with sizes of 0.
 pub fn refused(verdict: Verdict) -> Answer
     ensures { answer_of result ≡ refused_of verdict no_text_sizes }
@@ -64,13 +57,13 @@ pub fn of_writing(written: Writing, sizes: Sizes) -> Answer
 }
 
 // The format with this number, if there is one.
-pub fn format_of(number: u32) -> Asked
+pub fn format_of(number: u32) -> Option<Format>
     ensures { Numbers number result }
 {
     match number {
-        QCIR => Asked::Known(Format::Qcir),
-        QDIMACS => Asked::Known(Format::Qdimacs),
-        _ => Asked::Unknown,
+        QCIR => Some(Format::Qcir),
+        QDIMACS => Some(Format::Qdimacs),
+        _ => None,
     }
 }
 

@@ -12,8 +12,6 @@ ghost use Rattle.lift_text.specs.Measuring.{MeasuresText};
 ghost use Rattle.text_answers.specs.Words.{measure_answer, outcome_of};
 ghost use Rattle.text_answers.specs.Formats.{InFormat};
 
-use text_answers::Asked;
-
 // Lifts a QCIR text to a text: number, position, bytes written and the seven sizes. A number that names
 // no format is refused by 23.
 //
@@ -32,8 +30,8 @@ pub extern "C" fn wakubinryo_lift_text(
 {
     let asked = text_answers::format_of(format);
     match asked {
-        Asked::Known(f) => text_answers::put_lift(answer, lift_text::lift_text(text, f, out)),
-        Asked::Unknown => text_answers::put_lift(answer, text_answers::unknown_format()),
+        Some(f) => text_answers::put_lift(answer, lift_text::lift_text(text, f, out)),
+        None => text_answers::put_lift(answer, text_answers::unknown_format()),
     }
 }
 
@@ -57,11 +55,11 @@ pub extern "C" fn wakubinryo_lift_text_in(
 {
     let asked = text_answers::format_of(format);
     match asked {
-        Asked::Known(f) => text_answers::put_lift(
+        Some(f) => text_answers::put_lift(
             answer,
             lift_text::lift_text_in(text, f, nodes, out),
         ),
-        Asked::Unknown => text_answers::put_lift(answer, text_answers::unknown_format()),
+        None => text_answers::put_lift(answer, text_answers::unknown_format()),
     }
 }
 

@@ -8,13 +8,13 @@ use Rattle.wakubinryo_texts.proofs.wakubinryo_lift_text.Goals as goal
 pub put_lift-requires : goal.put_lift-requires
 put_lift-requires c = lifting_plain _ _ _ _ c.lift_text.ensures.outcome
 
-pub put_lift-requires-in-Unknown : goal.put_lift-requires-in-Unknown
-put_lift-requires-in-Unknown c = unknown_plain _ c.unknown_format.ensures
+pub put_lift-requires-in-None : goal.put_lift-requires-in-None
+put_lift-requires-in-None c = unknown_plain _ c.unknown_format.ensures
 
-pub returns-in-Known : goal.returns-in-Known
-returns-in-Known c =
-    in_format c.args.format _ c.format_of-asked.ensures _ c.lift_text.result _ c.put_lift.ensures _ c.in-Known.is
+pub returns-in-Some : goal.returns-in-Some
+returns-in-Some c =
+    in_format c.args.format _ c.format_of-asked.ensures _ c.lift_text.result _ c.put_lift.ensures _ c.in-Some.is
     (λ f o. LiftsText f c.args.text.now c.args.out.now o) _ c.lift_text.ensures
 
-pub returns-in-Unknown : goal.returns-in-Unknown
-returns-in-Unknown c = in_none c.args.format _ c.format_of-asked.ensures c.args.out.now c.unknown_format.result _ c.put_lift-in-Unknown.ensures c.in-Unknown.is _ c.unknown_format.ensures
+pub returns-in-None : goal.returns-in-None
+returns-in-None c = in_none c.args.format _ c.format_of-asked.ensures c.args.out.now c.unknown_format.result _ c.put_lift-in-None.ensures c.in-None.is _ c.unknown_format.ensures
