@@ -41,12 +41,12 @@ struct Place {
 // Reads the file that the program's only argument names; if that is `-` or there is none, standard
 // input. How many bytes were read; none if that failed. What goes wrong is said here, the program's
 // usage among it; an error is one of saying it.
-pub fn read_input(rt: &HostRuntime, usage: &str, text: &mut [u8]) -> io::Result<Option<usize>>
+pub fn read_input(rt: &HostRuntime, usage: &[u8], text: &mut [u8]) -> io::Result<Option<usize>>
     ensures ok { IfOk result (λ read. IfSome read (λ n. IsPrefixLen n text.new)) }
     ensures err { OnErr result (length text.new ≡ length text.old) }
 {
     if is_given(rt, 2) {
-        eprint!(rt; "{usage}")?;
+        say(rt, usage)?;
         return Ok(None);
     }
     let mut path = [0u8; NAME];

@@ -15,7 +15,7 @@ const STACK: u64 = 4608 * 1024;
 //
 // `lift_input` is not to be put in line, and two calls of it keep a compiler from that which takes no
 // such hint: the stack that it takes would then be taken before the test.
-pub fn run(rt: &HostRuntime, usage: &str, format: Format) -> io::Result<()> {
+pub fn run(rt: &HostRuntime, usage: &[u8], format: Format) -> io::Result<()> {
     let limit = stack_limit::stack_limit(rt);
     if limit == NO_LIMIT {
         return lift_input(rt, usage, format);
@@ -27,7 +27,7 @@ pub fn run(rt: &HostRuntime, usage: &str, format: Format) -> io::Result<()> {
 }
 
 #[inline(never)]
-fn lift_input(rt: &HostRuntime, usage: &str, format: Format) -> io::Result<()> {
+fn lift_input(rt: &HostRuntime, usage: &[u8], format: Format) -> io::Result<()> {
     let mut text = [0u8; command_line::ROOM];
     if let Some(length) = command_line::read_input(rt, usage, &mut text)? {
         lift_and_print(rt, &text[..length], format)?;

@@ -6,5 +6,5 @@ use form_writer::Format;
 use std::io;
 
 fn main(rt: HostRuntime) -> io::Result<()> {
-    lift_program::run(&rt, "usage: lift_qcir [FILE]\n", Format::Qcir)
+    lift_program::run(&rt, b"usage: lift_qcir [FILE]\n", Format::Qcir)
 }

@@ -6,5 +6,5 @@ use form_writer::Format;
 use std::io;
 
 fn main(rt: HostRuntime) -> io::Result<()> {
-    lift_program::run(&rt, "usage: lift_qdimacs [FILE]\n", Format::Qdimacs)
+    lift_program::run(&rt, b"usage: lift_qdimacs [FILE]\n", Format::Qdimacs)
 }

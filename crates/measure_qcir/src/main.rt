@@ -8,7 +8,11 @@ use std::io;
 
 fn main(rt: HostRuntime) -> io::Result<()> {
     let mut text = [0u8; command_line::ROOM];
-    if let Some(length) = command_line::read_input(&rt, "usage: measure_qcir [FILE]\n", &mut text)? {
+    if let Some(length) = command_line::read_input(
+        &rt,
+        b"usage: measure_qcir [FILE]\n",
+        &mut text,
+    )? {
         show_answer(&rt, &text[..length])?;
     }
     Ok(())
@@ -24,11 +28,11 @@ fn show_answer(rt: &HostRuntime, text: &[u8]) -> io::Result<()> {
 }
 
 fn show_sizes(rt: &HostRuntime, s: Sizes) -> io::Result<()> {
-    printing::figure(rt, "nodes", s.n)?;
-    printing::figure(rt, "blocks", s.b)?;
-    printing::figure(rt, "bound variables", s.q)?;
-    printing::figure(rt, "quantifier depth", s.depth)?;
-    printing::figure(rt, "lifted: nodes", s.nodes)?;
-    printing::figure(rt, "lifted: blocks", s.blocks)?;
-    printing::figure(rt, "lifted: variables", s.entries)
+    printing::figure(rt, b"nodes", s.n)?;
+    printing::figure(rt, b"blocks", s.b)?;
+    printing::figure(rt, b"bound variables", s.q)?;
+    printing::figure(rt, b"quantifier depth", s.depth)?;
+    printing::figure(rt, b"lifted: nodes", s.nodes)?;
+    printing::figure(rt, b"lifted: blocks", s.blocks)?;
+    printing::figure(rt, b"lifted: variables", s.entries)
 }

@@ -1,6 +1,4 @@
 // Tables and their prenex forms, worked out by hand from document 01 ("Names", "The written form").
-ghost use Rattle.std.specs.Prelude.{◌<◌};
-
 use crate::notation::read;
 use formula::WIDTH;
 use prefix_writer::PREFIX_WIDTH;
@@ -127,9 +125,7 @@ fn is_as(
     rows: &str,
     width: usize,
     written: &[u32],
-) -> io::Result<bool>
-    requires { 0 < width }
-{
+) -> io::Result<bool> {
     let mut words = [0u32; FORM];
     let expected = read(rows, width, &mut words);
     for (place, is) in written.iter().enumerate() {

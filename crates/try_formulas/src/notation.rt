@@ -1,12 +1,9 @@
 // Numbers in rows, written as document 01 writes nodes: "kind and fields, unused zeros left out".
 
-ghost use Rattle.std.specs.Prelude.{◌<◌};
-
-// Reads rows, as in "2 1, 4 8 0 1", into words that hold zeros, so many words to a row, as long as there is
-// room. The words of these rows.
-pub fn read<'a>(text: &str, width: usize, words: &'a mut [u32]) -> &'a [u32]
-    requires { 0 < width }
-{
+// Reads rows, as in "2 1, 4 8 0 1", into words that hold zeros, so many words to a row (one at least), as long
+// as there is room. The words of these rows.
+pub fn read<'a>(text: &str, width: usize, words: &'a mut [u32]) -> &'a [u32] {
+    let width = width.max(1);
     let rows = if text.is_empty() {
         0
     } else {
