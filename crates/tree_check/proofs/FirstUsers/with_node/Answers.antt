@@ -1,8 +1,8 @@
--- `tree_check::with_node` meets its contract: the fields that name node x, by the node's kind.
+-- `tree_check::FirstUsers::with_node` meets its contract: the fields that name node x, by the node's kind.
 -- Assumes nothing.
 use mathlib.Core.Path.{◌∙◌}
 use Rattle.tree_check.proofs.Users.{node_put}
-use Rattle.tree_check.proofs.with_node.Goals as goal
+use Rattle.tree_check.proofs.FirstUsers.with_node.Goals as goal
 
 pub returns : goal.returns
 returns c =
