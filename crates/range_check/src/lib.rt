@@ -42,12 +42,10 @@ pub fn good_range(
     ensures value { result ≡ good_range list.now first count }
     ensures earlier_2 { result ≡ true → Earlier heads.new prevs.new (before + count) }
 {
-    let mut k = 0;
-    while k < count {
+    for k in 0..count {
         if !enter(list, heads, prevs, before, first, k) {
             return false;
         }
-        k += 1;
     }
     true
 }
