@@ -1,13 +1,13 @@
 // The table checker: which formula tables are accepted, and the exact refusal of every other.
 #![tactic(auto)]
 
-ghost use Rattle.std.specs.Prelude.{true, ◌≡◌, ℕ, ◌+◌, ◌≤◌, ◌<◌, get_or};
+ghost use Rattle.std.specs.Prelude.{true, ◌&&◌, ◌≡◌, ℕ, ◌+◌, ◌≤◌, ◌<◌, eqb, get_or};
+ghost use Rattle.lists.specs.Choice.{pick};
 ghost use Rattle.lists.specs.Members.{times};
 ghost use Rattle.lists.specs.Parts.{sum};
 ghost use Rattle.formula.specs.Words.{node_count, is_block_kind};
 ghost use Rattle.acceptance.specs.Limits.{limit, table_limits, tables_with};
 ghost use Rattle.acceptance.specs.Verdict.{
-  partial_node,
   count_at,
   node_fault,
   verdict_within,
@@ -58,7 +58,7 @@ pub fn check_stored(words: &[u32], list: &[u32]) -> Verdict
 fn check_with(words: &[u32], list: &[u32], empty: bool) -> Verdict
     ensures { result ≡ verdict_within (tables_with empty) words.now list.now }
 {
-    if partial_node(words) {
+    if acceptance::partial_node(words) {
         return refusals::refusal(PARTIAL_NODE, 0);
     }
     if (LIMIT < words.len() / formula::WIDTH) | (LIMIT < list.len()) {
@@ -70,12 +70,6 @@ fn check_with(words: &[u32], list: &[u32], empty: bool) -> Verdict
         return nodes;
     }
     tree_check::check_tree(words, &named)
-}
-
-fn partial_node(words: &[u32]) -> bool
-    ensures { result ≡ partial_node words.now }
-{
-    (words.len() == 0) | !(words.len() % formula::WIDTH == 0)
 }
 
 // Refusals 3 to 7 and 16. Where none applies, `named` holds how often each node is named.
@@ -104,15 +98,12 @@ fn check_each_node(
     ensures value { result ≡ nodes_verdict (tables_with empty) words.now list.now }
     ensures counted_2 { result.number ≡ 0 → Counted words.now named.new (node_count words.now) }
 {
-    let n = words.len() / formula::WIDTH;
     let mut before: usize = 0;
-    let mut i: usize = 0;
-    while i < n {
+    for i in 0..words.len() / formula::WIDTH {
         let fault = node_fault(words, list, heads, prevs, named, &mut before, i);
         if refuses(fault, empty) {
             return refusals::refusal(fault, i as u32);
         }
-        i += 1;
     }
     refusals::accepted()
 }
@@ -147,7 +138,7 @@ fn node_fault(
 {
     let node = formula::node_at(words, i);
     if node.kind == formula::VARIABLE {
-        return variable_fault(node);
+        return leaf_fault(node, range_check::is_number(node.a));
     }
     if node.kind == formula::OPERATOR {
         return operator_fault(i, node, named);
@@ -161,29 +152,21 @@ fn node_fault(
         return negation_fault(i, node, named);
     }
     if node.kind == formula::CONSTANT {
-        return constant_fault(node);
+        return leaf_fault(node, node.a <= 1);
     }
     MALFORMED_NODE
 }
 
-fn variable_fault(node: NodeWords) -> u32
-    requires { node.kind ≡ 2 }
-    ensures { (i : ℕ) → result ≡ words_fault i node }
+// Refusal 3 of a variable or a constant, whose number or value is in its range or is not: the other fields
+// are unused.
+fn leaf_fault(node: NodeWords, in_range: bool) -> u32
+    ensures { result ≡ pick (in_range && eqb node.b 0 && eqb node.c 0) 0 3 }
 {
-    if range_check::is_number(node.a) & (node.b == 0) & (node.c == 0) {
-        return ACCEPTED;
+    if in_range & (node.b == 0) & (node.c == 0) {
+        ACCEPTED
+    } else {
+        MALFORMED_NODE
     }
-    MALFORMED_NODE
-}
-
-fn constant_fault(node: NodeWords) -> u32
-    requires { node.kind ≡ 1 }
-    ensures { (i : ℕ) → result ≡ words_fault i node }
-{
-    if (node.a <= 1) & (node.b == 0) & (node.c == 0) {
-        return ACCEPTED;
-    }
-    MALFORMED_NODE
 }
 
 fn operator_fault(i: usize, node: NodeWords, named: &mut [u16]) -> u32

@@ -16,9 +16,6 @@ block_fault-fault-requires c =
       room = c.requires.room;
     }
 
-pub shape_of-named-then-fault-ne-ACCEPTED : goal.shape_of-named-then-fault-ne-ACCEPTED
-shape_of-named-then-fault-ne-ACCEPTED c = c.block_fault-fault.auto.named
-
 pub returns-then-fault-ne-ACCEPTED : goal.returns-then-fault-ne-ACCEPTED
 returns-then-fault-ne-ACCEPTED c =
     let a = c.args in
@@ -40,15 +37,6 @@ good_range-requires c =
       earlier = c.requires.earlier;
     }
 
-pub shape_of-heads-then-not-good_range : goal.shape_of-heads-then-not-good_range
-shape_of-heads-then-not-good_range c = c.good_range.auto.heads
-
-pub shape_of-prevs-then-not-good_range : goal.shape_of-prevs-then-not-good_range
-shape_of-prevs-then-not-good_range c = c.good_range.auto.prevs
-
-pub shape_of-named-then-not-good_range : goal.shape_of-named-then-not-good_range
-shape_of-named-then-not-good_range c = c.block_fault-fault.auto.named
-
 pub returns-then-not-good_range : goal.returns-then-not-good_range
 returns-then-not-good_range c =
     let e = sym c.block_fault-fault.ensures.value ∙ c.if-fault-ne-ACCEPTED.false in
@@ -57,15 +45,6 @@ returns-then-not-good_range c =
       earlier_2 = λ p. clash p refl;
       x_after = λ p. clash p refl;
     }
-
-pub shape_of-heads : goal.shape_of-heads
-shape_of-heads c = c.good_range.auto.heads
-
-pub shape_of-prevs : goal.shape_of-prevs
-shape_of-prevs c = c.good_range.auto.prevs
-
-pub shape_of-named : goal.shape_of-named
-shape_of-named c = c.block_fault-fault.auto.named
 
 pub returns : goal.returns
 returns c =

@@ -1,6 +1,5 @@
 -- `table_check::check_each_node` meets its contract: the loop's invariant is `Checked`, of the nodes passed so far, with the chains of the
--- entries that they cover and the counts of the nodes that they name; a fault makes the node the lowest with one. The measure is what is
--- left of the nodes.
+-- entries that they cover and the counts of the nodes that they name; a fault makes the node the lowest with one.
 -- Assumes nothing.
 use mathlib.Core.Path.{◌≡◌, sym, ◌∙◌, ap}
 use Rattle.formula.specs.Words.{node_count}
@@ -11,32 +10,23 @@ use native.Mathlib.Omega.{arith}
 use Rattle.table_check.proofs.check_each_node.Goals as goal
 
 pub loop-i-init : goal.loop-i-init
-loop-i-init c = (omega arith, checked_none _ _ _, c.requires.earlier, c.requires.counted)
+loop-i-init c = (checked_none _ _ _, c.requires.earlier, c.requires.counted)
 
 pub node_fault-fault-requires : goal.node_fault-fault-requires
 node_fault-fault-requires c =
     let inv = c.loop-i.invariant in record {
       i_bound = (c.loop-i-test.true, c.requires.words_bound);
-      before_value = (inv.1.counted, inv.1.few);
-      earlier = inv.2;
-      counted = inv.3;
+      before_value = (inv.0.counted, inv.0.few);
+      earlier = inv.1;
+      counted = inv.2;
     }
-
-pub shape_of-heads-then-refuses : goal.shape_of-heads-then-refuses
-shape_of-heads-then-refuses c = c.node_fault-fault.auto.heads ∙ c.loop-i.invariant.2.heads_wide ∙ sym c.requires.earlier.heads_wide
-
-pub shape_of-prevs-then-refuses : goal.shape_of-prevs-then-refuses
-shape_of-prevs-then-refuses c = c.node_fault-fault.auto.prevs ∙ c.loop-i.invariant.2.prevs_wide ∙ sym c.requires.earlier.prevs_wide
-
-pub shape_of-named-then-refuses : goal.shape_of-named-then-refuses
-shape_of-named-then-refuses c = c.node_fault-fault.auto.named ∙ c.loop-i.invariant.3.wide ∙ sym c.requires.counted.wide
 
 pub returns-then-refuses : goal.returns-then-refuses
 unfolding refusal
 returns-then-refuses c =
     let e = c.node_fault-fault.ensures.value in
     let f = rw e at (sym c.refuses.ensures ∙ c.if-refuses.true) in
-    let r = checked_refused _ _ _ _ c.loop-i.i c.loop-i-test.true c.loop-i.invariant.1 f in record {
+    let r = checked_refused _ _ _ _ c.loop-i.i c.loop-i-test.true c.loop-i.invariant.0 f in record {
       value = c.refusal.ensures ∙ ap (λ f. refusal f c.loop-i.i) e ∙ sym r.0;
       counted_2 = λ z. absurd (r.1 (sym e ∙ sym (ap (λ (v : Verdict). v.number) c.refusal.ensures) ∙ z));
     }
@@ -47,21 +37,12 @@ loop-i-preserved c =
     let inv = c.loop-i.invariant in
     let f = sym c.refuses.ensures ∙ c.if-refuses.false in
     let p = (not_refused c.args.empty c.node_fault-fault.result f).0 in
-    (omega arith, checked_more _ _ _ _ _ _ inv.1 (rw r.value at f) (r.before_after p), r.earlier_2 p, r.counted_2 p)
-
-pub shape_of-heads : goal.shape_of-heads
-shape_of-heads c = c.loop-i.invariant.2.heads_wide ∙ sym c.requires.earlier.heads_wide
-
-pub shape_of-prevs : goal.shape_of-prevs
-shape_of-prevs c = c.loop-i.invariant.2.prevs_wide ∙ sym c.requires.earlier.prevs_wide
-
-pub shape_of-named : goal.shape_of-named
-shape_of-named c = c.loop-i.invariant.3.wide ∙ sym c.requires.counted.wide
+    (checked_more _ _ _ _ _ _ inv.0 (rw r.value at f) (r.before_after p), r.earlier_2 p, r.counted_2 p)
 
 pub returns : goal.returns
 returns c =
     let l = c.loop-i in
     let all : node_count c.args.words.now ≡ l.i = omega arith in record {
-      value = c.accepted.ensures ∙ sym (nodes_passed _ _ _ (rw all l.invariant.1.faultless));
-      counted_2 = λ z. rw all l.invariant.3;
+      value = c.accepted.ensures ∙ sym (nodes_passed _ _ _ (rw all l.invariant.0.faultless));
+      counted_2 = λ z. rw all l.invariant.2;
     }

@@ -6,7 +6,7 @@ use Prim.Native.Nat.{ℕ, ◌+◌}
 use Rattle.lists.specs.Choice.{clash}
 use Rattle.formula.specs.Words.{is_block_kind}
 use Rattle.formula.specs.declared.NodeWords.{NodeWords}
-use Rattle.table_check.proofs.Faults.{fault_words, fault_block, fault_no_kind, words_passed, binds_none}
+use Rattle.table_check.proofs.Faults.{fault_words, fault_block, fault_no_kind, words_passed, binds_none, variable_words, constant_words}
 use Rattle.acceptance.proofs.Accepted.{count_block}
 use Rattle.tree_check.proofs.Named.{names_none, counted_room, counted_more, counted_still}
 use native.Mathlib.Omega.{arith}
@@ -17,16 +17,13 @@ use Rattle.table_check.proofs.node_fault.Goals as goal
 abbrev kind_of : NodeWords → ℕ
 kind_of w = w.kind
 
-pub variable_fault-requires : goal.variable_fault-requires
-variable_fault-requires c = c.if-node-eq-VARIABLE.true
-
 pub returns-then-node-eq-VARIABLE : goal.returns-then-node-eq-VARIABLE
 unfolding is_block_kind
 returns-then-node-eq-VARIABLE c =
     let a = c.args in
     let e = c.node_at-node.ensures in
     let k = sym (ap kind_of e) ∙ c.if-node-eq-VARIABLE.true in
-    let r = rw e at (c.variable_fault.ensures a.i) in
+    let r = rw (c.is_number.ensures, e) at c.leaf_fault.ensures ∙ sym (variable_words a.i _ k) in
     let f = r ∙ sym (fault_words a.words.now a.list.now a.i (rw k refl)) in
     let bound = sym (binds_none a.words.now a.i a.before.now (rw k refl)) in record {
       value = f;
@@ -41,9 +38,6 @@ operator_fault-requires c =
       kind_value = c.if-node-eq-OPERATOR.true;
       room = counted_room _ _ _ (omega (arith, c.requires.i_bound)) c.requires.counted;
     }
-
-pub shape_of-named-then-node-eq-OPERATOR : goal.shape_of-named-then-node-eq-OPERATOR
-shape_of-named-then-node-eq-OPERATOR c = c.operator_fault.auto.named
 
 pub returns-then-node-eq-OPERATOR : goal.returns-then-node-eq-OPERATOR
 unfolding is_block_kind
@@ -72,15 +66,6 @@ block_node_fault-fault-requires c =
 pub overflow_add-before : goal.overflow_add-before
 overflow_add-before c = omega (arith, c.requires.before_value.1, c.node_at-node.type_inv)
 
-pub shape_of-heads-then-is_block_kind : goal.shape_of-heads-then-is_block_kind
-shape_of-heads-then-is_block_kind c = c.block_node_fault-fault.auto.heads
-
-pub shape_of-prevs-then-is_block_kind : goal.shape_of-prevs-then-is_block_kind
-shape_of-prevs-then-is_block_kind c = c.block_node_fault-fault.auto.prevs
-
-pub shape_of-named-then-is_block_kind : goal.shape_of-named-then-is_block_kind
-shape_of-named-then-is_block_kind c = c.block_node_fault-fault.auto.named
-
 pub returns-then-is_block_kind : goal.returns-then-is_block_kind
 returns-then-is_block_kind c =
     let a = c.args in
@@ -103,9 +88,6 @@ negation_fault-requires c =
       room = counted_room _ _ _ (omega (arith, c.requires.i_bound)) c.requires.counted;
     }
 
-pub shape_of-named-then-node-eq-NEGATION : goal.shape_of-named-then-node-eq-NEGATION
-shape_of-named-then-node-eq-NEGATION c = c.negation_fault.auto.named
-
 pub returns-then-node-eq-NEGATION : goal.returns-then-node-eq-NEGATION
 unfolding is_block_kind
 returns-then-node-eq-NEGATION c =
@@ -121,16 +103,13 @@ returns-then-node-eq-NEGATION c =
       counted_2 = λ p. counted_more _ _ _ _ c.negation_fault.auto.named c.requires.counted (r.x_after (words_passed _ _ _ r.value p));
     }
 
-pub constant_fault-requires : goal.constant_fault-requires
-constant_fault-requires c = c.if-node-eq-CONSTANT.true
-
 pub returns-then-node-eq-CONSTANT : goal.returns-then-node-eq-CONSTANT
 unfolding is_block_kind
 returns-then-node-eq-CONSTANT c =
     let a = c.args in
     let e = c.node_at-node.ensures in
     let k = sym (ap kind_of e) ∙ c.if-node-eq-CONSTANT.true in
-    let r = rw e at (c.constant_fault.ensures a.i) in
+    let r = rw e at c.leaf_fault-then-node-eq-CONSTANT.ensures ∙ sym (constant_words a.i _ k) in
     let f = r ∙ sym (fault_words a.words.now a.list.now a.i (rw k refl)) in
     let bound = sym (binds_none a.words.now a.i a.before.now (rw k refl)) in record {
       value = f;
