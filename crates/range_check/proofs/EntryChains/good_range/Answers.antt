@@ -1,4 +1,4 @@
--- `range_check::good_range` meets its contract: the loop's invariant is that the entries passed so far are good and chained; an entry that is not new spoils the range.
+-- `range_check::EntryChains::good_range` meets its contract: the loop's invariant is that the entries passed so far are good and chained; an entry that is not new spoils the range.
 -- Assumes nothing.
 use mathlib.Core.Bool.{true}
 use mathlib.Core.Path.{◌≡◌, refl, sym, ◌∙◌}
@@ -6,16 +6,17 @@ use native.Mathlib.Omega.{arith}
 use Rattle.lists.specs.Choice.{clash}
 use Rattle.range_check.proofs.Chains.{chains_none, chains_earlier}
 use Rattle.range_check.proofs.Ranges.{good_none, good_more, good_fails}
-use Rattle.range_check.proofs.good_range.Goals as goal
+use Rattle.range_check.proofs.EntryChains.good_range.Goals as goal
 
 pub loop-k-init : goal.loop-k-init
-loop-k-init c = (good_none _ _, chains_none _ _ _ _ _ c.requires.earlier)
+loop-k-init c = (good_none _ _, chains_none _ _ _ _ _ c.requires.ready)
 
 pub returns-then-not-enter : goal.returns-then-not-enter
 returns-then-not-enter c =
     let r = sym c.enter.ensures.value ∙ c.if-not-enter.true in record {
       value = sym (good_fails _ _ _ _ c.loop-k-test.true c.requires.count_bound.1 r);
-      earlier_2 = λ t. clash t refl;
+      entries = λ t. clash t refl;
+      ready_2 = λ t. clash t refl;
     }
 
 pub loop-k-preserved : goal.loop-k-preserved
@@ -29,5 +30,6 @@ returns c =
     let inv = c.loop-k.invariant in
     let e : c.loop-k.k ≡ c.args.count = omega arith in record {
       value = rw (← e) (sym inv.0);
-      earlier_2 = λ t. rw (← e) (chains_earlier _ _ _ _ _ _ inv.1);
+      entries = λ t. refl;
+      ready_2 = λ t. rw (← e) (chains_earlier _ _ _ _ _ _ inv.1);
     }

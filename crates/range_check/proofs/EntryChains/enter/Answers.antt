@@ -1,4 +1,4 @@
--- `range_check::enter` meets its contract: the walk starts at the head of the variable's chain, and meets the variable exactly if an entry of the block before it is
+-- `range_check::EntryChains::enter` meets its contract: the walk starts at the head of the variable's chain, and meets the variable exactly if an entry of the block before it is
 -- the same; the push is the one that `chains_more` speaks of.
 -- Assumes nothing.
 use mathlib.Core.Bool.{true, false, not}
@@ -9,8 +9,8 @@ use native.Mathlib.Omega.{arith}
 use Rattle.lists.specs.Choice.{clash}
 use Rattle.acceptance.specs.Verdict.{is_number}
 use Rattle.range_check.proofs.Chains.{chain_of, new_is, chains_more}
-use Rattle.range_check.proofs.enter.Goals.{Else-not-is_number}
-use Rattle.range_check.proofs.enter.Goals as goal
+use Rattle.range_check.proofs.EntryChains.enter.Goals.{Else-not-is_number}
+use Rattle.range_check.proofs.EntryChains.enter.Goals as goal
 
 pub returns-then-not-is_number : goal.returns-then-not-is_number
 returns-then-not-is_number c =

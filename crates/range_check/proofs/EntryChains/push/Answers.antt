@@ -1,7 +1,7 @@
--- `range_check::push` meets its contract: its stores are the two that it speaks of.
+-- `range_check::EntryChains::push` meets its contract: its stores are the two that it speaks of.
 -- Assumes nothing.
 use mathlib.Core.Path.{refl}
-use Rattle.range_check.proofs.push.Goals as goal
+use Rattle.range_check.proofs.EntryChains.push.Goals as goal
 
 pub returns : goal.returns
 returns c =
