@@ -1,19 +1,19 @@
 -- Laws of refusal 15's steps: the flags of names, a block's tests, and the verdict on the prefix by its pass.
 -- Assumes nothing.
-use mathlib.Core.Path.{◌≡◌, refl, sym, ◌∙◌, ap, subst}
+use mathlib.Core.Path.{◌≡◌, refl, sym, ◌∙◌, ap}
 use mathlib.Core.Bool.{Bool, true, false, not, ◌&&◌, ◌||◌}
 use mathlib.Core.List.{List, [], ◌∷◌, ◌++◌, append-nil}
-use Prim.Native.Nat.{ℕ, suc, ◌+◌, ◌-◌, ◌/◌, ◌%◌, ◌≤◌, ◌<◌, max}
+use Prim.Native.Nat.{ℕ, ◌+◌, ◌-◌, ◌/◌, ◌%◌, ◌≤◌, ◌<◌, max}
 use native.Mathlib.Numerals.{add-one}
 use native.Mathlib.Omega.{arith}
 use lib.Dec.{eqb, leb, ltb}
-use lib.ListN.{length, get_or, set, take, drop, length-set}
+use lib.ListN.{length, get_or, set, take, drop, drop_of_length-le, length-set}
 use lib.Seq.{drop-cons}
 use borrow.Author.Tests.{eq-eqb, ne_eqb, ltb-false, lt-ltb, le-ltb, leb-true, not-true}
 use Rattle.lists.specs.Choice.{pick_yes, pick_no, Is, is_true, is_false, look, and_right, and_off_left}
 use Rattle.lists.specs.Search.{lowest}
 use Rattle.lists.specs.Members.{mem, all, maximum}
-use Rattle.lists.proofs.Search.{lowest_le}
+use Rattle.lists.proofs.Search.{lowest_none}
 use Rattle.lists.proofs.Stores.{set_cases}
 use Rattle.formula.specs.Words.{is_block_kind, range, block_words}
 use Rattle.formula.specs.Form.{Block, prefix_width, block_at, blocks_of, binds}
@@ -111,55 +111,44 @@ pub name_below : (x : ℕ) → is_number_to 77823 x ≡ true → x < 77824
 unfolding is_number_to
 name_below x h = omega (arith, leb-true x 77823 (and_right (leb 1 x) _ h))
 
--- A list's names, from the first on.
-module _ (xs : List ℕ) (k end : ℕ) where
-  pub range_next : k < end → end ≤ length xs → range xs k (end - k) ≡ get_or xs k 0 ∷ range xs (k + 1) (end - (k + 1))
-  unfolding range
-  range_next l h =
-      let e : end - k ≡ suc (end - (k + 1)) = omega arith in
-      ap (λ n. take n (drop k xs)) e ∙ ap (take (suc (end - (k + 1)))) (drop-cons xs k 0 (omega arith)) ∙ rw add-one refl
-
-  pub range_empty : end ≤ k → range xs k (end - k) ≡ []
-  unfolding range
-  range_empty h = let e : end - k ≡ 0 = omega arith in ap (λ n. take n (drop k xs)) e
-
--- How far the names of a list, from index `first` up to `end`, are flagged: those before index k, after the names `before`. The answer for
--- the whole list is the answer from here.
-pub record Reached (xs before : List ℕ) (first end : ℕ) (bound : List ℕ) (highest k : ℕ) : Type 0 where
+-- How far the names of a list are flagged: those before index k, after the names `before`. The answer for the whole list is the answer
+-- from here.
+pub record Reached (xs before bound : List ℕ) (highest k : ℕ) : Type 0 where
   pub so_far : List ℕ
   pub flagged : NamesFlagged so_far bound highest
-  pub same_new : new_names before (range xs first (end - first)) ≡ new_names so_far (range xs k (end - k))
-  pub same_pushed : pushed before (range xs first (end - first)) ≡ pushed so_far (range xs k (end - k))
+  pub same_new : new_names before xs ≡ new_names so_far (drop k xs)
+  pub same_pushed : pushed before xs ≡ pushed so_far (drop k xs)
 
-pub reached_start : (xs before : List ℕ) (first end : ℕ) (bound : List ℕ) (highest : ℕ) → NamesFlagged before bound highest
-    → Reached xs before first end bound highest first
-reached_start xs before first end bound highest f =
+pub reached_start : (xs before bound : List ℕ) (highest : ℕ) → NamesFlagged before bound highest → Reached xs before bound highest 0
+reached_start xs before bound highest f =
     record { so_far = before; flagged = f; same_new = refl; same_pushed = refl }
 
-module _ (xs before : List ℕ) (first end : ℕ) (bound : List ℕ) (highest k : ℕ) (p : Reached xs before first end bound highest k) where
-  pub reached_bad : k < end → end ≤ length xs → new_name p.so_far (get_or xs k 0) ≡ false → false ≡ new_names before (range xs first (end - first))
-  unfolding new_names
-  reached_bad l h n =
-      sym (p.same_new ∙ ap (new_names p.so_far) (range_next xs k end l h) ∙ and_off_left _ _ n)
+module _ (xs before bound : List ℕ) (highest k : ℕ) (p : Reached xs before bound highest k) where
+  next_is : k < length xs → drop k xs ≡ get_or xs k 0 ∷ drop (k + 1) xs
+  next_is l = drop-cons xs k 0 l ∙ rw add-one refl
 
-  pub reached_next : k < end → end ≤ length xs → new_name p.so_far (get_or xs k 0) ≡ true → (next : List ℕ) (top : ℕ)
-      → NamesFlagged (get_or xs k 0 ∷ p.so_far) next top → Reached xs before first end next top (k + 1)
+  pub reached_bad : k < length xs → new_name p.so_far (get_or xs k 0) ≡ false → false ≡ new_names before xs
+  unfolding new_names
+  reached_bad l n = sym (p.same_new ∙ ap (new_names p.so_far) (next_is l) ∙ and_off_left _ _ n)
+
+  pub reached_next : k < length xs → new_name p.so_far (get_or xs k 0) ≡ true → (next : List ℕ) (top : ℕ)
+      → NamesFlagged (get_or xs k 0 ∷ p.so_far) next top → Reached xs before next top (k + 1)
   unfolding new_names pushed
-  reached_next l h n next top f =
+  reached_next l n next top f =
       record {
         so_far = get_or xs k 0 ∷ p.so_far;
         flagged = f;
-        same_new = p.same_new ∙ ap (new_names p.so_far) (range_next xs k end l h) ∙ ap (λ t. t && new_names (get_or xs k 0 ∷ p.so_far) (range xs (k + 1) (end - (k + 1)))) n;
-        same_pushed = p.same_pushed ∙ ap (pushed p.so_far) (range_next xs k end l h);
+        same_new = p.same_new ∙ ap (new_names p.so_far) (next_is l) ∙ ap (λ t. t && new_names (get_or xs k 0 ∷ p.so_far) (drop (k + 1) xs)) n;
+        same_pushed = p.same_pushed ∙ ap (pushed p.so_far) (next_is l);
       }
 
-  pub reached_new : end ≤ k → true ≡ new_names before (range xs first (end - first))
+  pub reached_new : length xs ≤ k → true ≡ new_names before xs
   unfolding new_names
-  reached_new l = sym (p.same_new ∙ ap (new_names p.so_far) (range_empty xs k end l))
+  reached_new l = sym (p.same_new ∙ ap (new_names p.so_far) (drop_of_length-le xs l))
 
-  pub reached_flagged : end ≤ k → NamesFlagged (pushed before (range xs first (end - first))) bound highest
+  pub reached_flagged : length xs ≤ k → NamesFlagged (pushed before xs) bound highest
   unfolding pushed
-  reached_flagged l = rw (p.same_pushed, range_empty xs k end l) p.flagged
+  reached_flagged l = rw (p.same_pushed, drop_of_length-le xs l) p.flagged
 
 -- a block's names pass both tests exactly if they are new one by one
 new_names_lem : (before xs : List ℕ) → new_names before xs ≡ (all (is_number_to 77823) xs && not (repeats before xs))
@@ -195,8 +184,12 @@ fitting_le b entries h = ltb-false _ _ (not-true _ (and_right (is_block_kind b.k
 
 -- Block j, by its words.
 module _ (ps xs : List ℕ) (j : ℕ) (b : BlockWords) (e : b ≡ block_words_at ps j) where
-  block_names : range xs b.first (b.first + b.count - b.first) ≡ (block_at ps xs j).variables
-  unfolding block_at
+  -- the block's stretch of the list
+  abbrev stretch : List ℕ
+  stretch = take (b.first + b.count - b.first) (drop b.first xs)
+
+  block_names : stretch ≡ (block_at ps xs j).variables
+  unfolding block_at range
   block_names =
       let s : b.first + b.count - b.first ≡ b.count = omega arith in
       ap (range xs b.first) s ∙ ap (λ (b : BlockWords). range xs b.first b.count) e
@@ -205,14 +198,14 @@ module _ (ps xs : List ℕ) (j : ℕ) (b : BlockWords) (e : b ≡ block_words_at
   block_unfit h = sym (good_is ps xs j ∙ and_off_left _ _ (ap (λ b. fitting_block b (length xs)) (sym e) ∙ h))
 
   pub block_good : fitting_block b (length xs) ≡ true → (r : Bool)
-      → r ≡ new_names (names_before ps xs j) (range xs b.first (b.first + b.count - b.first)) → r ≡ not (bad_block form_limits ps xs j)
+      → r ≡ new_names (names_before ps xs j) stretch → r ≡ not (bad_block form_limits ps xs j)
   block_good h r n =
       n ∙ ap (new_names (names_before ps xs j)) block_names
       ∙ sym (good_is ps xs j ∙ ap (λ t. t && new_names (names_before ps xs j) (block_at ps xs j).variables) (ap (λ b. fitting_block b (length xs)) (sym e) ∙ h))
 
   -- the flags once the block's names are pushed
   pub block_flagged : (bound : List ℕ) (highest : ℕ)
-      → NamesFlagged (pushed (names_before ps xs j) (range xs b.first (b.first + b.count - b.first))) bound highest
+      → NamesFlagged (pushed (names_before ps xs j) stretch) bound highest
       → NamesFlagged (names_before ps xs (j + 1)) bound highest
   block_flagged bound highest f =
       rw (add-one, names_next ps xs j)
@@ -236,19 +229,18 @@ module _ (ps xs : List ℕ) where
   unfolding prefix_verdict
   prefix_ragged t = sym (pick_yes _ _ _ t)
 
-  -- the pass ends at block j
-  module _ (whole : ragged ≡ false) (j : ℕ) (first_is : j ≡ lowest (bad_block form_limits ps xs) (length ps / prefix_width)) where
-    pub prefix_bad : j < length ps / prefix_width → refusal 15 j ≡ prefix_verdict form_limits ps xs
-    unfolding prefix_verdict
-    prefix_bad l = rw first_is (sym (pick_no _ _ _ whole ∙ pick_yes _ _ _ (lt-ltb _ _ (rw first_is at l))))
+  pub prefix_bad : ragged ≡ false → (j : ℕ) → j < length ps / prefix_width → j ≡ lowest (bad_block form_limits ps xs) (length ps / prefix_width)
+      → refusal 15 j ≡ prefix_verdict form_limits ps xs
+  unfolding prefix_verdict
+  prefix_bad whole j l first_is = rw first_is (sym (pick_no _ _ _ whole ∙ pick_yes _ _ _ (lt-ltb _ _ (rw first_is at l))))
 
-    pub prefix_passed : length ps / prefix_width ≤ j → refusal 0 0 ≡ prefix_verdict form_limits ps xs
-    unfolding prefix_verdict refusal accepted
-    prefix_passed l = sym (pick_no _ _ _ whole ∙ pick_no _ _ _ (le-ltb _ _ (rw first_is at l)))
+  pub prefix_passed : ragged ≡ false → ((j : ℕ) → j < length ps / prefix_width → bad_block form_limits ps xs j ≡ false)
+      → refusal 0 0 ≡ prefix_verdict form_limits ps xs
+  unfolding prefix_verdict refusal accepted
+  prefix_passed whole good =
+      sym (pick_no _ _ _ whole ∙ pick_no _ _ _ (le-ltb _ _ (omega (arith, lowest_none (bad_block form_limits ps xs) (length ps / prefix_width) good))))
 
-    -- past the last: the names of all blocks are flagged
-    pub prefix_flagged : length ps / prefix_width ≤ j → (bound : List ℕ) (highest : ℕ)
-        → (j ≡ length ps / prefix_width → NamesFlagged (names_before ps xs j) bound highest) → NamesFlagged (prefix_names (blocks_of ps xs)) bound highest
-    prefix_flagged l bound highest f =
-        let all : j ≡ length ps / prefix_width = omega (arith, lowest_le (bad_block form_limits ps xs) (length ps / prefix_width)) in
-        rw (names_are ps xs) (subst (λ k. NamesFlagged (names_before ps xs k) bound highest) all (f all))
+  -- the names of all blocks are flagged
+  pub prefix_flagged : (bound : List ℕ) (highest : ℕ) → NamesFlagged (names_before ps xs (length ps / prefix_width)) bound highest
+      → NamesFlagged (prefix_names (blocks_of ps xs)) bound highest
+  prefix_flagged bound highest f = rw (names_are ps xs) f

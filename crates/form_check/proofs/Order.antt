@@ -8,7 +8,7 @@ use native.Mathlib.Omega.{arith}
 use lib.Dec.{eqb, ltb}
 use lib.ListN.{length}
 use borrow.Author.Tests.{eqb-true, eqb-false, eq-eqb, ltb-true, ltb-false}
-use Rattle.lists.specs.Choice.{pick, pick_yes, pick_no, Is, is_true, is_false, look, clash}
+use Rattle.lists.specs.Choice.{pick_yes, pick_no, Is, is_true, is_false, look, clash}
 use Rattle.lists.specs.Search.{lowest}
 use Rattle.lists.proofs.Search.{lowest_holds, lowest_before}
 use Rattle.formula.specs.Form.{prefix_width}
@@ -47,23 +47,12 @@ module _ (lim : TableLimits) (ns ps xs : List ℕ) where
   unfolding form_verdict_within matrix_verdict
   nodes_passed e = pick_yes _ _ _ (accepted_zero _ (pick_yes _ _ _ (accepted_zero _ e)))
 
-  -- the verdict by what is known of the nodes': 14 where they are refused, else 0, and their position
-  module _ (n p : ℕ) (number_is : n ≡ pick (eqb nodes.number 0) 0 14) (position_is : p ≡ nodes.position) where
-    pub form_refused : (n ≡ 0 → ⊥) → refusal n p ≡ form_verdict_within lim ns ps xs
-    form_refused d = go (look (eqb nodes.number 0))
-      where
-        go : Is (eqb nodes.number 0) → refusal n p ≡ form_verdict_within lim ns ps xs
-        go (is_true t) = absurd (d (number_is ∙ pick_yes {A = ℕ} _ _ _ t))
-        go (is_false t) =
-            let e : n ≡ 14 = number_is ∙ pick_no {A = ℕ} _ _ _ t in
-            rw (e, position_is) (sym (nodes_refused t))
+  -- the verdict by what is known of the nodes'
+  pub form_refused : (p : ℕ) → eqb nodes.number 0 ≡ false → p ≡ nodes.position → refusal 14 p ≡ form_verdict_within lim ns ps xs
+  form_refused p t e = rw e (sym (nodes_refused t))
 
-    pub form_passed : n ≡ 0 → prefix_verdict lim ps xs ≡ form_verdict_within lim ns ps xs
-    form_passed z = go (look (eqb nodes.number 0))
-      where
-        go : Is (eqb nodes.number 0) → prefix_verdict lim ps xs ≡ form_verdict_within lim ns ps xs
-        go (is_true t) = sym (nodes_passed (within_zero lim ns [] (eqb-true _ 0 t)))
-        go (is_false t) = let e : n ≡ 14 = number_is ∙ pick_no {A = ℕ} _ _ _ t in absurd (omega arith)
+  pub form_passed : nodes ≡ accepted → prefix_verdict lim ps xs ≡ form_verdict_within lim ns ps xs
+  form_passed e = sym (nodes_passed e)
 
   by_blocks : (w : WholeForm lim ns ps) → Is (ltb first blocks) → FirstOfForm lim ns ps xs (form_verdict_within lim ns ps xs)
   unfolding prefix_verdict

@@ -2,10 +2,9 @@
 // matrix, 15 the prefix).
 #![tactic(auto)]
 
-ghost use Rattle.std.specs.Prelude.{true, not, List, [], ◌∷◌, ◌≡◌, ℕ, ◌+◌, ◌-◌, ◌/◌, ◌<◌, ◌≤◌, max, length, get_or};
+ghost use Rattle.std.specs.Prelude.{true, false, not, List, [], ◌∷◌, ◌≡◌, ℕ, ◌+◌, ◌/◌, ◌<◌, max, length, get_or, MatchOption};
 ghost use Rattle.lists.specs.Search.{lowest};
 ghost use Rattle.lists.specs.Members.{maximum};
-ghost use Rattle.formula.specs.Words.{range};
 ghost use Rattle.formula.specs.Form.{prefix_width, blocks_of, binds};
 ghost use Rattle.formula.specs.Truth.{digit};
 ghost use Rattle.refusals.specs.Verdict.{refusal};
@@ -26,7 +25,7 @@ ghost use Rattle.form_check.specs.Steps.{
   fitting_block,
 };
 
-use refusals::{ACCEPTED, MALFORMED_PREFIX};
+use refusals::{ACCEPTED, MALFORMED_MATRIX, MALFORMED_PREFIX};
 
 // The most nodes of a matrix, and how many flags there are for names: one for each number up to the
 // highest, 77,823, and one for 0.
@@ -67,9 +66,8 @@ pub fn check(nodes: &[u32], prefix: &[u32], variables: &[u32], bound: &mut [u8])
     ensures highest { result.verdict.number ≡ 0
         → result.highest ≡ maximum (prefix_names (blocks_of prefix.now variables.now)) }
 {
-    let matrix = matrix_check::check(nodes);
-    if matrix.number != ACCEPTED {
-        let verdict = refused(matrix.number, matrix.position);
+    if let Err(position) = matrix_check::check(nodes) {
+        let verdict = refused(MALFORMED_MATRIX, position);
         return Checked {
             verdict,
             highest: 0,
@@ -96,12 +94,11 @@ fn check_prefix(prefix: &[u32], variables: &[u32], bound: &mut [u8]) -> Checked
         → NamesFlagged (prefix_names (blocks_of prefix.now variables.now)) bound.new result.highest }
 {
     let mut highest: u32 = 0;
-    if !(prefix.len() % PREFIX_WIDTH == 0) {
+    if prefix.len() % PREFIX_WIDTH != 0 {
         let verdict = refused(MALFORMED_PREFIX, 0);
         return Checked { verdict, highest };
     }
-    let j = first_bad(prefix, variables, bound, &mut highest);
-    if j < prefix.len() / PREFIX_WIDTH {
+    if let Some(j) = first_bad(prefix, variables, bound, &mut highest) {
         let verdict = refused(MALFORMED_PREFIX, j);
         return Checked { verdict, highest };
     }
@@ -109,23 +106,28 @@ fn check_prefix(prefix: &[u32], variables: &[u32], bound: &mut [u8]) -> Checked
     Checked { verdict, highest }
 }
 
-// The first block at fault, or the number of blocks. Where there is none, the names of all are flagged.
-fn first_bad(prefix: &[u32], variables: &[u32], bound: &mut [u8], highest: &mut u32) -> usize
+// The first block at fault, if there is one. Where there is none, the names of all are flagged.
+fn first_bad(
+    prefix: &[u32],
+    variables: &[u32],
+    bound: &mut [u8],
+    highest: &mut u32,
+) -> Option<usize>
     requires { NamesFlagged [] bound.old highest.old }
-    ensures value { result ≡ lowest (bad_block form_limits prefix.now variables.now)
-        (length prefix.now / prefix_width) }
-    ensures names_flagged { result ≡ length prefix.now / prefix_width
-        → NamesFlagged (names_before prefix.now variables.now result) bound.new highest.new }
+    ensures { MatchOption result
+        (((j : ℕ) → j < length prefix.now / prefix_width
+        → bad_block form_limits prefix.now variables.now j ≡ false)
+        × NamesFlagged (names_before prefix.now variables.now (length prefix.now / prefix_width))
+        bound.new highest.new)
+        (λ j. (j < length prefix.now / prefix_width)
+        × (j ≡ lowest (bad_block form_limits prefix.now variables.now) (length prefix.now / prefix_width))) }
 {
-    let m = prefix.len() / PREFIX_WIDTH;
-    let mut j: usize = 0;
-    while j < m {
+    for j in 0..prefix.len() / PREFIX_WIDTH {
         if !take_block(prefix, variables, bound, highest, j) {
-            return j;
+            return Some(j);
         }
-        j += 1;
     }
-    m
+    None
 }
 
 // Whether block j is without a fault. Then its names are flagged. `bound` holds the names of the blocks
@@ -149,7 +151,7 @@ fn take_block(
     }
     let first = block.first as usize;
     let end = first + block.count as usize;
-    flag_names(variables, bound, highest, first, end)
+    flag_names(&variables[first..end], bound, highest)
 }
 
 // The words of a prefix block.
@@ -182,28 +184,18 @@ fn block_fits(block: BlockWords, entries: usize) -> bool
     formula::is_block_kind(block.kind) & !(entries < end)
 }
 
-// Flags the list's names from `first` up to `end`. The result is whether all of them are names and new;
-// the first that is not ends it.
-fn flag_names(
-    variables: &[u32],
-    bound: &mut [u8],
-    highest: &mut u32,
-    first: usize,
-    end: usize,
-) -> bool
-    requires first_le_end { (first ≤ end) × (end ≤ length variables.now) }
-    requires bound_len { length bound.old ≡ 77824 }
+// Flags the names of a list. The result is whether all of them are names and new; the first that is not
+// ends it.
+fn flag_names(names: &[u32], bound: &mut [u8], highest: &mut u32) -> bool
+    requires { length bound.old ≡ 77824 }
     ensures { (before : List ℕ) → NamesFlagged before bound.old highest.old
-        → (result ≡ new_names before (range variables.now first (end - first)))
-        × (result ≡ true → NamesFlagged (pushed before (range variables.now first (end - first)))
-        bound.new highest.new) }
+        → (result ≡ new_names before names.now)
+        × (result ≡ true → NamesFlagged (pushed before names.now) bound.new highest.new) }
 {
-    let mut k = first;
-    while k < end {
-        if !flag_name(variables[k], bound, highest) {
+    for x in names {
+        if !flag_name(*x, bound, highest) {
             return false;
         }
-        k += 1;
     }
     true
 }
@@ -230,5 +222,5 @@ fn flag_name(x: u32, bound: &mut [u8], highest: &mut u32) -> bool
 pub fn higher(a: u32, b: u32) -> u32
     ensures { result ≡ max a b }
 {
-    if a < b { b } else { a }
+    a.max(b)
 }

@@ -1,6 +1,6 @@
 -- Laws of the check's steps: a node's tests by its kind, how often nodes are named, and the verdict by its passes.
 -- Assumes nothing.
-use mathlib.Core.Path.{◌≡◌, refl, sym, ◌∙◌, ap, subst}
+use mathlib.Core.Path.{◌≡◌, refl, sym, ◌∙◌, ap}
 use mathlib.Core.Bool.{Bool, true, false, not, ◌&&◌, ◌||◌, or-false}
 use mathlib.Core.List.{List, [], ◌∷◌}
 use Prim.Native.Nat.{ℕ, ◌+◌, ◌-◌, ◌%◌, ◌≤◌, ◌<◌, min}
@@ -13,7 +13,7 @@ use Rattle.lists.specs.Choice.{pick, pick_yes, pick_no, Is, is_true, is_false, l
 use Rattle.lists.specs.Search.{lowest}
 use Rattle.lists.specs.Members.{times}
 use Rattle.lists.specs.Parts.{sum}
-use Rattle.lists.proofs.Search.{lowest_le, lowest_holds, lowest_cong}
+use Rattle.lists.proofs.Search.{lowest_none, lowest_holds, lowest_cong}
 use Rattle.lists.proofs.Stores.{get_or-filled, set_cases}
 use Rattle.formula.specs.Words.{width, node_count, field, is_block_kind, is_empty_block, words_at}
 use Rattle.formula.specs.declared.NodeWords.{NodeWords}
@@ -169,16 +169,12 @@ module _ (ns : List ℕ) where
   abbrev bad_length : Bool
   bad_length = partial_node ns || ltb node_limits.nodes (node_count ns)
 
-  -- 14 where the table checker refuses the nodes, else 0, and its position
-  abbrev Answers : ℕ → ℕ → Type 0
-  Answers n p = (n ≡ pick (eqb (verdict_within node_limits ns []).number 0) 0 14) × (p ≡ (verdict_within node_limits ns []).position)
+  -- the table checker refuses the nodes, at this position
+  abbrev RefusedAt : ℕ → Type 0
+  RefusedAt p = (eqb (verdict_within node_limits ns []).number 0 ≡ false) × (p ≡ (verdict_within node_limits ns []).position)
 
-  refused_by : (v : Verdict) → verdict_within node_limits ns [] ≡ v → eqb v.number 0 ≡ false → Answers 14 v.position
-  refused_by v e n = (sym (pick_no {A = ℕ} _ _ _ (ap (λ v. eqb v.number 0) e ∙ n)), ap (λ v. v.position) (sym e))
-
-  passed_by : verdict_within node_limits ns [] ≡ accepted → Answers 0 0
-  unfolding accepted
-  passed_by e = (sym (pick_yes {A = ℕ} _ _ _ (ap (λ v. eqb v.number 0) e)), ap (λ v. v.position) (sym e))
+  refused_by : (v : Verdict) → verdict_within node_limits ns [] ≡ v → eqb v.number 0 ≡ false → RefusedAt v.position
+  refused_by v e n = (ap (λ v. eqb v.number 0) e ∙ n, ap (λ v. v.position) (sym e))
 
   large : ltb node_limits.nodes (node_count ns) ≡ true → too_large node_limits ns [] ≡ true
   unfolding too_large
@@ -188,11 +184,11 @@ module _ (ns : List ℕ) where
   unfolding too_large
   not_large h = or_neither _ _ h refl
 
-  pub matrix_length : bad_length ≡ true → Answers 14 0
+  pub matrix_length : bad_length ≡ true → RefusedAt 0
   unfolding verdict_within refusal
   matrix_length h = go (look (partial_node ns))
     where
-      go : Is (partial_node ns) → Answers 14 0
+      go : Is (partial_node ns) → RefusedAt 0
       go (is_true p) = refused_by (refusal 1 0) (pick_yes _ _ _ p) refl
       go (is_false p) =
           let l : ltb node_limits.nodes (node_count ns) ≡ true = rw p at h in
@@ -217,38 +213,35 @@ module _ (ns : List ℕ) where
     few_nodes = ltb-false _ _ (or_neither_right (partial_node ns) (ltb node_limits.nodes (node_count ns)) long)
 
     -- the first pass ends at node i
-    module _ (i : ℕ) (first_is : i ≡ lowest faulty (node_count ns)) where
-      pub matrix_node : i < node_count ns → Answers 14 i
-      unfolding verdict_within refusal
-      matrix_node h =
-          let l : lowest faulty (node_count ns) < node_count ns = rw first_is at h in
-          rw first_is
-          (refused_by (refusal (node_fault node_limits ns [] (lowest faulty (node_count ns))) (lowest faulty (node_count ns)))
-          (pick_no _ _ _ whole ∙ pick_no _ _ _ small ∙ pick_yes _ _ _ (lt-ltb _ _ l))
-          (not-true _ (lowest_holds faulty (node_count ns) l)))
+    pub matrix_node : (i : ℕ) → i ≡ lowest faulty (node_count ns) → i < node_count ns → RefusedAt i
+    unfolding verdict_within refusal
+    matrix_node i first_is h =
+        let l : lowest faulty (node_count ns) < node_count ns = rw first_is at h in
+        rw first_is
+        (refused_by (refusal (node_fault node_limits ns [] (lowest faulty (node_count ns))) (lowest faulty (node_count ns)))
+        (pick_no _ _ _ whole ∙ pick_no _ _ _ small ∙ pick_yes _ _ _ (lt-ltb _ _ l))
+        (not-true _ (lowest_holds faulty (node_count ns) l)))
 
-      -- .. past the last, and the second at node j, the lowest that the array does not hold 1 for
-      module _ (none : node_count ns ≤ i) (named : List ℕ) (tallied : i ≡ node_count ns → Tallied ns named i)
-          (j : ℕ) (Lone-is : j ≡ lowest (λ j. not (eqb (get_or named j 0) 1)) (node_count ns - 1)) where
-        all : i ≡ node_count ns
-        all = omega (arith, lowest_le faulty (node_count ns))
+    -- .. or passes all, and the second ends at node j, the lowest that the array does not hold 1 for
+    module _ (sound : (i : ℕ) → i < node_count ns → eqb (node_fault node_limits ns [] i) 0 ≡ true)
+        (named : List ℕ) (tallied : Tallied ns named (node_count ns))
+        (j : ℕ) (lone_is : j ≡ lowest (λ j. not (eqb (get_or named j 0) 1)) (node_count ns - 1)) where
+      lone : j ≡ lowest (not_named_once ns []) (node_count ns - 1)
+      lone = lone_is ∙ not_once ns named (node_count ns - 1) tallied
 
-        lone : j ≡ lowest (not_named_once ns []) (node_count ns - 1)
-        lone = Lone-is ∙ not_once ns named (node_count ns - 1) (subst (λ k. Tallied ns named k) all (tallied all))
+      past : ltb (lowest faulty (node_count ns)) (node_count ns) ≡ false
+      past = le-ltb _ _ (omega (arith, lowest_none faulty (node_count ns) (λ i h. ap not (sound i h))))
 
-        past : ltb (lowest faulty (node_count ns)) (node_count ns) ≡ false
-        past = le-ltb _ _ (rw first_is at none)
+      pub matrix_tree : j < node_count ns - 1 → RefusedAt j
+      unfolding verdict_within tree_refusal not_a_tree
+      matrix_tree h =
+          let l : lowest (not_named_once ns []) (node_count ns - 1) < node_count ns - 1 = rw lone at h in
+          rw lone
+          (refused_by (tree_refusal ns [] (lowest (not_named_once ns []) (node_count ns - 1)))
+          (pick_no _ _ _ whole ∙ pick_no _ _ _ small ∙ pick_no _ _ _ past ∙ pick_yes _ _ _ (lt-ltb _ _ l)) refl)
 
-        pub matrix_tree : j < node_count ns - 1 → Answers 14 j
-        unfolding verdict_within tree_refusal not_a_tree
-        matrix_tree h =
-            let l : lowest (not_named_once ns []) (node_count ns - 1) < node_count ns - 1 = rw lone at h in
-            rw lone
-            (refused_by (tree_refusal ns [] (lowest (not_named_once ns []) (node_count ns - 1)))
-            (pick_no _ _ _ whole ∙ pick_no _ _ _ small ∙ pick_no _ _ _ past ∙ pick_yes _ _ _ (lt-ltb _ _ l)) refl)
-
-        pub matrix_passed : node_count ns - 1 ≤ j → Answers 0 0
-        unfolding verdict_within
-        matrix_passed h =
-            let l : node_count ns - 1 ≤ lowest (not_named_once ns []) (node_count ns - 1) = rw lone at h in
-            passed_by (pick_no _ _ _ whole ∙ pick_no _ _ _ small ∙ pick_no _ _ _ past ∙ pick_no _ _ _ (le-ltb _ _ l))
+      pub matrix_passed : node_count ns - 1 ≤ j → verdict_within node_limits ns [] ≡ accepted
+      unfolding verdict_within
+      matrix_passed h =
+          let l : node_count ns - 1 ≤ lowest (not_named_once ns []) (node_count ns - 1) = rw lone at h in
+          pick_no _ _ _ whole ∙ pick_no _ _ _ small ∙ pick_no _ _ _ past ∙ pick_no _ _ _ (le-ltb _ _ l)

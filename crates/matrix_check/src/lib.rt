@@ -2,17 +2,16 @@
 // higher names than a formula table may have.
 #![tactic(auto)]
 
-ghost use Rattle.std.specs.Prelude.{true, false, not, [], ◌∷◌, ◌≡◌, ℕ, ◌+◌, ◌<◌, ◌≤◌, min, eqb, length, get_or};
-ghost use Rattle.lists.specs.Choice.{pick};
+ghost use Rattle.std.specs.Prelude.{true, false, not, [], ◌∷◌, ◌≡◌, ℕ, ◌+◌, ◌<◌, ◌≤◌, min, eqb, length, MatchOption, MatchResult};
 ghost use Rattle.lists.specs.Search.{lowest};
 ghost use Rattle.lists.specs.Members.{times};
 ghost use Rattle.formula.specs.Words.{node_count};
-ghost use Rattle.acceptance.specs.Verdict.{is_number_to, partial_node, node_fault, verdict_within};
+ghost use Rattle.refusals.specs.Verdict.{accepted};
+ghost use Rattle.acceptance.specs.Verdict.{is_number_to, node_fault, verdict_within};
 ghost use Rattle.tree_check.specs.Named.{named_by};
 ghost use Rattle.matrix_check.specs.Steps.{highest_name, node_limits, sound_node, Tally, Tallied};
 
 use formula::NodeWords;
-use refusals::{ACCEPTED, MALFORMED_MATRIX};
 
 // The most nodes of a matrix.
 pub const NODES: usize = 40960;
@@ -20,72 +19,46 @@ pub const NODES: usize = 40960;
 // The highest name.
 pub const HIGHEST_NAME: u32 = 77823;
 
-// 14 (0: accepted), and the node that the table checker's verdict is at.
-#[derive(Clone, Copy)]
-pub struct MatrixVerdict {
-    pub number: u32,
-    pub position: usize,
-}
-
-// Whether a matrix is refused, by the table checker's own tests within a form's limits, and the node.
+// Whether a matrix passes, by the table checker's own tests within a form's limits, or the node that they
+// refuse it at.
 //
 // The contract rules out a checker that takes the name 77,824, and one that lets a node be named twice.
-pub fn check(nodes: &[u32]) -> MatrixVerdict
-    ensures number { result.number ≡ pick (eqb (verdict_within node_limits nodes.now []).number 0) 0 14 }
-    ensures position { result.position ≡ (verdict_within node_limits nodes.now []).position }
+pub fn check(nodes: &[u32]) -> Result<(), usize>
+    ensures { MatchResult result (λ _. verdict_within node_limits nodes.now [] ≡ accepted)
+        (λ i. (eqb (verdict_within node_limits nodes.now []).number 0 ≡ false)
+        × (i ≡ (verdict_within node_limits nodes.now []).position)) }
 {
     let n = nodes.len() / formula::WIDTH;
-    if partial_node(nodes) | (NODES < n) {
-        return malformed(0);
+    if acceptance::partial_node(nodes) | (NODES < n) {
+        return Err(0);
     }
     let mut named = [0u8; NODES];
-    let i = first_unsound(nodes, &mut named);
-    if i < n {
-        return malformed(i);
+    if let Some(i) = first_unsound(nodes, &mut named) {
+        return Err(i);
     }
-    let last = n - 1;
-    let j = lowest_not_once(&named, last);
-    if j < last {
-        return malformed(j);
-    }
-    MatrixVerdict {
-        number: ACCEPTED,
-        position: 0,
+    match tree_check::lowest_other_than(&named[..n - 1], 1) {
+        Some(j) => Err(j),
+        None => Ok(()),
     }
 }
 
-fn malformed(position: usize) -> MatrixVerdict
-    ensures { (result.number ≡ 14) × (result.position ≡ position) }
-{
-    MatrixVerdict {
-        number: MALFORMED_MATRIX,
-        position,
-    }
-}
-
-fn partial_node(nodes: &[u32]) -> bool
-    ensures { result ≡ partial_node nodes.now }
-{
-    (nodes.len() == 0) | !(nodes.len() % formula::WIDTH == 0)
-}
-
-// The lowest node that refusal 3 or 4 applies to, or the number of nodes. Where there is none, `named`
-// holds how often each node is named.
-fn first_unsound(nodes: &[u32], named: &mut [u8]) -> usize
+// The lowest node that refusal 3 or 4 applies to, if there is one. Where there is none, `named` holds how
+// often each node is named.
+fn first_unsound(nodes: &[u32], named: &mut [u8]) -> Option<usize>
     requires nodes_bound { node_count nodes.now ≤ node_limits.nodes }
     requires tallied { Tallied nodes.now named.old 0 }
-    ensures value { result ≡ lowest (λ i. not (eqb (node_fault node_limits nodes.now [] i) 0)) (node_count nodes.now) }
-    ensures tallied_2 { result ≡ node_count nodes.now → Tallied nodes.now named.new result }
+    ensures { MatchOption result
+        (((i : ℕ) → i < node_count nodes.now → eqb (node_fault node_limits nodes.now [] i) 0 ≡ true)
+        × Tallied nodes.now named.new (node_count nodes.now))
+        (λ i. (i < node_count nodes.now)
+        × (i ≡ lowest (λ i. not (eqb (node_fault node_limits nodes.now [] i) 0)) (node_count nodes.now))) }
 {
-    let n = nodes.len() / formula::WIDTH;
-    let mut i: usize = 0;
-    while i < n {
+    for i in 0..nodes.len() / formula::WIDTH {
         if !take_node(nodes, named, i) {
-            return i;
+            return Some(i);
         }
-        i += 1;
     }
-    n
+    None
 }
 
 // Whether neither refusal applies to node i. Then the nodes that it names are counted.
@@ -137,7 +110,9 @@ fn take_negation(node: NodeWords, i: usize, named: &mut [u8]) -> bool
     true
 }
 
-// A node that is neither an operator nor a not node names none.
+// A node that is neither an operator nor a not node names none. (Beside table_check's test of leaves: that
+// one answers a refusal's number and knows lower names, so the two would share two comparisons alone, and a
+// common function would take the rest as parameters.)
 fn sound_leaf(node: NodeWords) -> bool
     requires { (eqb node.kind 3 ≡ false) × (eqb node.kind 4 ≡ false) }
     ensures { (i : ℕ) → result ≡ sound_node i node }
@@ -168,37 +143,4 @@ fn one_more(count: u8) -> u8
     ensures { (k : ℕ) → count ≡ min 2 k → result ≡ min 2 (k + 1) }
 {
     if count < 2 { count + 1 } else { count }
-}
-
-// The lowest node below the last that is not named exactly once, or the last.
-fn lowest_not_once(named: &[u8], last: usize) -> usize
-    requires { last ≤ length named.now }
-    ensures { result ≡ lowest (λ j. not (eqb (get_or named.now j 0) 1)) last }
-{
-    if all_once(named, last) {
-        return last;
-    }
-    let mut j = 0;
-    while j < last {
-        if named[j] != 1 {
-            return j;
-        }
-        j += 1;
-    }
-    last
-}
-
-// Whether all nodes below the last are named exactly once. A loop that looks at all of them is much
-// faster than one that may stop, so that a tree is found to be one by this alone.
-fn all_once(named: &[u8], last: usize) -> bool
-    requires { last ≤ length named.now }
-    ensures { result ≡ true → (j : ℕ) → j < last → get_or named.now j 0 ≡ 1 }
-{
-    let mut once = true;
-    let mut j = 0;
-    while j < last {
-        once = once & (named[j] == 1);
-        j += 1;
-    }
-    once
 }

@@ -5,6 +5,7 @@ use Rattle.lists.specs.Members.{mem, all, distinct}
 use Rattle.formula.specs.Words.{range}
 use Rattle.acceptance.specs.Limits.{limit}
 use Rattle.acceptance.specs.Verdict.{is_number}
+use Rattle.range_check.specs.declared.EntryChains.{EntryChains}
 
 -- The entries of a range are variable numbers, none of them twice: refusal 7 does not apply.
 unfoldable pub good_range : List ℕ → ℕ → ℕ → Bool
@@ -34,6 +35,9 @@ pub record Earlier (heads prevs : List ℕ) (before : ℕ) : Type 0 where
   pub heads_wide : length heads ≡ buckets
   pub prevs_wide : length prevs ≡ limit
   pub low : (h : ℕ) → get_or heads h 0 ≤ before
+
+abbrev pub Ready : EntryChains → Type 0
+Ready c = Earlier c.heads c.prevs c.entries
 
 -- Within a block: its first k entries are chained by their variables' remainders.
 pub record Chains (ls heads prevs : List ℕ) (before first k : ℕ) : Type 0 where

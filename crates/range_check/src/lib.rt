@@ -13,7 +13,9 @@ ghost use Rattle.lists.specs.Members.{mem};
 ghost use Rattle.formula.specs.Words.{range};
 ghost use Rattle.acceptance.specs.Limits.{limit};
 ghost use Rattle.acceptance.specs.Verdict.{is_number};
-ghost use Rattle.range_check.specs.Chains.{good_range, buckets, Earlier, Chains, Chain, is_new};
+ghost use Rattle.range_check.specs.Chains.{good_range, buckets, Ready, Chains, Chain, is_new};
+
+use acceptance::LIMIT;
 
 // Entries are chained by the remainders that their variables leave by this.
 pub const BUCKETS: usize = 1024;
@@ -28,81 +30,91 @@ pub fn is_number(x: u32) -> bool
     (1 <= x) & (x <= HIGHEST_VARIABLE)
 }
 
-// Whether the entries of a block's range are variable numbers, none of them twice. They are the entries from `before` on.
-pub fn good_range(
-    list: &[u32],
-    heads: &mut [u16],
-    prevs: &mut [u16],
-    before: usize,
-    first: usize,
-    count: usize,
-) -> bool
-    requires count_bound { (before + count ≤ limit) × (first + count ≤ length list.now) }
-    requires earlier { Earlier heads.old prevs.old before }
-    ensures value { result ≡ good_range list.now first count }
-    ensures earlier_2 { result ≡ true → Earlier heads.new prevs.new (before + count) }
-{
-    let mut k = 0;
-    while k < count {
-        if !enter(list, heads, prevs, before, first, k) {
+// The entries that blocks cover, chained.
+#[derive(Drop)]
+pub struct EntryChains {
+    heads: [u16; BUCKETS],
+    prevs: [u16; LIMIT],
+    // how many entries the blocks so far cover
+    pub entries: usize,
+}
+
+impl EntryChains {
+    // No entry is chained.
+    pub fn new() -> EntryChains
+        ensures { (result.entries ≡ 0) × Ready result }
+    {
+        EntryChains {
+            heads: [0; BUCKETS],
+            prevs: [0; LIMIT],
+            entries: 0,
+        }
+    }
+
+    // Whether the entries of the next block's range are variable numbers, none of them twice. Then they are chained.
+    pub fn good_range(&mut self, list: &[u32], first: usize, count: usize) -> bool
+        requires count_bound { (self.old.entries + count ≤ limit) × (first + count ≤ length list.now) }
+        requires ready { Ready self.old }
+        ensures value { result ≡ good_range list.now first count }
+        ensures entries { result ≡ true → self.new.entries ≡ self.old.entries + count }
+        ensures ready_2 { result ≡ true → Ready self.new }
+    {
+        let before = self.entries;
+        for k in 0..count {
+            if !self.enter(list, before, first, k) {
+                return false;
+            }
+        }
+        self.entries = before + count;
+        true
+    }
+
+    // Chains entry k of a block, unless it is no variable or the same as one of the k entries before it; whether it did.
+    // The blocks before cover `before` entries.
+    fn enter(&mut self, list: &[u32], before: usize, first: usize, k: usize) -> bool
+        requires k_bound { (before + k < limit) × (first + k < length list.now) }
+        requires chains { Chains list.now self.old.heads self.old.prevs before first k }
+        ensures value { result ≡ is_new list.now first k }
+        ensures chains_2 { result ≡ true → Chains list.now self.new.heads self.new.prevs before first (k + 1) }
+    {
+        let x = list[first + k];
+        if !is_number(x) {
             return false;
         }
-        k += 1;
-    }
-    true
-}
-
-// Chains entry k of a block, unless it is no variable or the same as one of the k entries before it; whether it did.
-fn enter(
-    list: &[u32],
-    heads: &mut [u16],
-    prevs: &mut [u16],
-    before: usize,
-    first: usize,
-    k: usize,
-) -> bool
-    requires k_bound { (before + k < limit) × (first + k < length list.now) }
-    requires chains { Chains list.now heads.old prevs.old before first k }
-    ensures value { result ≡ is_new list.now first k }
-    ensures chains_2 { result ≡ true → Chains list.now heads.new prevs.new before first (k + 1) }
-{
-    let x = list[first + k];
-    if !is_number(x) {
-        return false;
-    }
-    let head = heads[x as usize % BUCKETS];
-    if in_chain(list, prevs, before, first, head, x) {
-        return false;
-    }
-    push(heads, prevs, before + k, x);
-    true
-}
-
-// Whether x is the variable of one of the block's own entries on the chain from `head`.
-fn in_chain(list: &[u32], prevs: &[u16], before: usize, first: usize, head: u16, x: u32) -> bool
-    requires { Chain list.now prevs.now before first x head }
-    ensures { result ≡ mem x (range list.now first (head - before)) }
-{
-    let mut c = head as usize;
-    while before < c {
-        let k = c - before - 1;
-        if list[first + k] == x {
-            return true;
+        let head = self.heads[x as usize % BUCKETS];
+        if self.in_chain(list, before, first, head, x) {
+            return false;
         }
-        c = prevs[before + k] as usize;
+        self.push(before + k, x);
+        true
     }
-    false
-}
 
-// Puts entry e, whose variable is x, at the head of its chain.
-fn push(heads: &mut [u16], prevs: &mut [u16], e: usize, x: u32)
-    requires e_lt_limit { e < limit }
-    requires heads_len { (length heads.old ≡ buckets) × (length prevs.old ≡ limit) }
-    ensures heads_after { heads.new ≡ set heads.old (x % buckets) (e + 1) }
-    ensures prevs_after { prevs.new ≡ set prevs.old e (get_or heads.old (x % buckets) 0) }
-{
-    let h = x as usize % BUCKETS;
-    let head = heads[h];
-    prevs[e] = head;
-    heads[h] = (e + 1) as u16;
+    // Whether x is the variable of one of the block's own entries on the chain from `head`.
+    fn in_chain(&self, list: &[u32], before: usize, first: usize, head: u16, x: u32) -> bool
+        requires { Chain list.now self.now.prevs before first x head }
+        ensures { result ≡ mem x (range list.now first (head - before)) }
+    {
+        let mut c = head as usize;
+        while before < c {
+            let k = c - before - 1;
+            if list[first + k] == x {
+                return true;
+            }
+            c = self.prevs[before + k] as usize;
+        }
+        false
+    }
+
+    // Puts entry e, whose variable is x, at the head of its chain.
+    fn push(&mut self, e: usize, x: u32)
+        requires e_lt_limit { e < limit }
+        requires heads_len { (length self.old.heads ≡ buckets) × (length self.old.prevs ≡ limit) }
+        ensures heads_after { self.new.heads ≡ set self.old.heads (x % buckets) (e + 1) }
+        ensures prevs_after { self.new.prevs ≡ set self.old.prevs e (get_or self.old.heads (x % buckets) 0) }
+    {
+        let h = x as usize % BUCKETS;
+        let head = self.heads[h];
+        self.prevs[e] = head;
+        self.heads[h] = (e + 1) as u16;
+    }
 }

@@ -112,21 +112,21 @@ words_passed i w fault e p = e ∙ go (not (well_formed table_limits w)) (forwar
 
 -- The words of a node that is no block, by kind.
 module _ (i : ℕ) (w : NodeWords) where
-  pub variable_sound : w.kind ≡ 2 → (is_number w.a && eqb w.b 0 && eqb w.c 0) ≡ true → words_fault i w ≡ 0
+  pub variable_words : w.kind ≡ 2 → words_fault i w ≡ pick (is_number w.a && eqb w.b 0 && eqb w.c 0) 0 3
   unfolding words_fault well_formed forward_reference is_block_kind pick
-  variable_sound k h = rw (k, h)
+  variable_words k = rw k (leaf (is_number w.a && eqb w.b 0 && eqb w.c 0))
+    where
+      leaf : (t : Bool) → ◌≡◌ {A = ℕ} (pick (not ((((false || t) || false) || false) || false)) 3 0) (pick t 0 3)
+      leaf true = refl
+      leaf false = refl
 
-  pub variable_malformed : w.kind ≡ 2 → (is_number w.a && eqb w.b 0 && eqb w.c 0) ≡ false → words_fault i w ≡ 3
+  pub constant_words : w.kind ≡ 1 → words_fault i w ≡ pick (leb w.a 1 && eqb w.b 0 && eqb w.c 0) 0 3
   unfolding words_fault well_formed forward_reference is_block_kind pick
-  variable_malformed k h = rw (k, h)
-
-  pub constant_sound : w.kind ≡ 1 → (leb w.a 1 && eqb w.b 0 && eqb w.c 0) ≡ true → words_fault i w ≡ 0
-  unfolding words_fault well_formed forward_reference is_block_kind pick
-  constant_sound k h = rw (k, h)
-
-  pub constant_malformed : w.kind ≡ 1 → (leb w.a 1 && eqb w.b 0 && eqb w.c 0) ≡ false → words_fault i w ≡ 3
-  unfolding words_fault well_formed forward_reference is_block_kind pick
-  constant_malformed k h = rw (k, h)
+  constant_words k = rw k (leaf (leb w.a 1 && eqb w.b 0 && eqb w.c 0))
+    where
+      leaf : (t : Bool) → ◌≡◌ {A = ℕ} (pick (not ((((t || false) || false) || false) || false)) 3 0) (pick t 0 3)
+      leaf true = refl
+      leaf false = refl
 
   pub operator_malformed : w.kind ≡ 4 → 15 < w.a → words_fault i w ≡ 3
   unfolding words_fault well_formed forward_reference is_block_kind pick

@@ -1,13 +1,13 @@
 // The table checker: which formula tables are accepted, and the exact refusal of every other.
 #![tactic(auto)]
 
-ghost use Rattle.std.specs.Prelude.{true, ◌≡◌, ℕ, ◌+◌, ◌≤◌, ◌<◌, get_or};
+ghost use Rattle.std.specs.Prelude.{true, ◌&&◌, ◌≡◌, ℕ, ◌+◌, ◌≤◌, ◌<◌, eqb, get_or};
+ghost use Rattle.lists.specs.Choice.{pick};
 ghost use Rattle.lists.specs.Members.{times};
 ghost use Rattle.lists.specs.Parts.{sum};
 ghost use Rattle.formula.specs.Words.{node_count, is_block_kind};
 ghost use Rattle.acceptance.specs.Limits.{limit, table_limits, tables_with};
 ghost use Rattle.acceptance.specs.Verdict.{
-  partial_node,
   count_at,
   node_fault,
   verdict_within,
@@ -15,7 +15,7 @@ ghost use Rattle.acceptance.specs.Verdict.{
   stored_verdict,
 };
 ghost use Rattle.block_check.specs.Fault.{passable};
-ghost use Rattle.range_check.specs.Chains.{Earlier};
+ghost use Rattle.range_check.specs.Chains.{Ready};
 ghost use Rattle.tree_check.specs.Named.{named_by, Counted, Room};
 ghost use Rattle.table_check.specs.Steps.{
   words_fault,
@@ -26,7 +26,7 @@ ghost use Rattle.table_check.specs.Steps.{
 
 use acceptance::LIMIT;
 use formula::NodeWords;
-use range_check::BUCKETS;
+use range_check::EntryChains;
 use refusals::{
     ACCEPTED, BAD_VARIABLE, EMPTY_BLOCK, FORWARD_REFERENCE, MALFORMED_NODE, PARTIAL_NODE,
     TOO_LARGE, Verdict,
@@ -58,7 +58,7 @@ pub fn check_stored(words: &[u32], list: &[u32]) -> Verdict
 fn check_with(words: &[u32], list: &[u32], empty: bool) -> Verdict
     ensures { result ≡ verdict_within (tables_with empty) words.now list.now }
 {
-    if partial_node(words) {
+    if acceptance::partial_node(words) {
         return refusals::refusal(PARTIAL_NODE, 0);
     }
     if (LIMIT < words.len() / formula::WIDTH) | (LIMIT < list.len()) {
@@ -72,12 +72,6 @@ fn check_with(words: &[u32], list: &[u32], empty: bool) -> Verdict
     tree_check::check_tree(words, &named)
 }
 
-fn partial_node(words: &[u32]) -> bool
-    ensures { result ≡ partial_node words.now }
-{
-    (words.len() == 0) | !(words.len() % formula::WIDTH == 0)
-}
-
 // Refusals 3 to 7 and 16. Where none applies, `named` holds how often each node is named.
 fn check_nodes(words: &[u32], list: &[u32], named: &mut [u16], empty: bool) -> Verdict
     requires words_bound { node_count words.now ≤ limit }
@@ -85,34 +79,12 @@ fn check_nodes(words: &[u32], list: &[u32], named: &mut [u16], empty: bool) -> V
     ensures value { result ≡ nodes_verdict (tables_with empty) words.now list.now }
     ensures counted_2 { result.number ≡ 0 → Counted words.now named.new (node_count words.now) }
 {
-    let mut heads = [0u16; BUCKETS];
-    let mut prevs = [0u16; LIMIT];
-    check_each_node(words, list, &mut heads, &mut prevs, named, empty)
-}
-
-fn check_each_node(
-    words: &[u32],
-    list: &[u32],
-    heads: &mut [u16],
-    prevs: &mut [u16],
-    named: &mut [u16],
-    empty: bool,
-) -> Verdict
-    requires words_bound { node_count words.now ≤ limit }
-    requires earlier { Earlier heads.old prevs.old 0 }
-    requires counted { Counted words.now named.old 0 }
-    ensures value { result ≡ nodes_verdict (tables_with empty) words.now list.now }
-    ensures counted_2 { result.number ≡ 0 → Counted words.now named.new (node_count words.now) }
-{
-    let n = words.len() / formula::WIDTH;
-    let mut before: usize = 0;
-    let mut i: usize = 0;
-    while i < n {
-        let fault = node_fault(words, list, heads, prevs, named, &mut before, i);
+    let mut chains = EntryChains::new();
+    for i in 0..words.len() / formula::WIDTH {
+        let fault = node_fault(words, list, &mut chains, named, i);
         if refuses(fault, empty) {
             return refusals::refusal(fault, i as u32);
         }
-        i += 1;
     }
     refusals::accepted()
 }
@@ -124,66 +96,54 @@ fn refuses(fault: u32, empty: bool) -> bool
     (fault != ACCEPTED) & !(empty & (fault == EMPTY_BLOCK))
 }
 
-// The first of refusals 3 to 7 and 16 that applies to node i. The nodes below it bind `before` variables, and `named`
-// holds how often they name each node. Past 16 the pass may go on: an empty block binds nothing, so neither 6 nor 7
-// applies to it. The most frequent kinds are tested first.
+// The first of refusals 3 to 7 and 16 that applies to node i. The entries that the blocks below it cover are chained, and
+// `named` holds how often the nodes below it name each node. Past 16 the pass may go on: an empty block binds nothing, so
+// neither 6 nor 7 applies to it. The most frequent kinds are tested first.
 fn node_fault(
     words: &[u32],
     list: &[u32],
-    heads: &mut [u16],
-    prevs: &mut [u16],
+    chains: &mut EntryChains,
     named: &mut [u16],
-    before: &mut usize,
     i: usize,
 ) -> u32
     requires i_bound { (i < node_count words.now) × (node_count words.now ≤ limit) }
-    requires before_value { (before.old ≡ sum (count_at words.now) i) × (before.old ≤ limit) }
-    requires earlier { Earlier heads.old prevs.old before.old }
+    requires entries_value { (chains.old.entries ≡ sum (count_at words.now) i) × (chains.old.entries ≤ limit) }
+    requires ready { Ready chains.old }
     requires counted { Counted words.now named.old i }
     ensures value { result ≡ node_fault table_limits words.now list.now i }
-    ensures before_after { passable result ≡ true → before.new ≡ before.old + count_at words.now i }
-    ensures earlier_2 { passable result ≡ true → Earlier heads.new prevs.new before.new }
+    ensures entries_after { passable result ≡ true → chains.new.entries ≡ chains.old.entries + count_at words.now i }
+    ensures ready_2 { passable result ≡ true → Ready chains.new }
     ensures counted_2 { passable result ≡ true → Counted words.now named.new (i + 1) }
 {
     let node = formula::node_at(words, i);
     if node.kind == formula::VARIABLE {
-        return variable_fault(node);
+        return leaf_fault(node, range_check::is_number(node.a));
     }
     if node.kind == formula::OPERATOR {
         return operator_fault(i, node, named);
     }
     if formula::is_block_kind(node.kind) {
-        let fault = block_node_fault(list, heads, prevs, named, i, *before, node);
-        *before += node.b as usize;
-        return fault;
+        return block_node_fault(list, chains, named, i, node);
     }
     if node.kind == formula::NEGATION {
         return negation_fault(i, node, named);
     }
     if node.kind == formula::CONSTANT {
-        return constant_fault(node);
+        return leaf_fault(node, node.a <= 1);
     }
     MALFORMED_NODE
 }
 
-fn variable_fault(node: NodeWords) -> u32
-    requires { node.kind ≡ 2 }
-    ensures { (i : ℕ) → result ≡ words_fault i node }
+// Refusal 3 of a variable or a constant, whose number or value is in its range or is not: the other fields
+// are unused.
+fn leaf_fault(node: NodeWords, in_range: bool) -> u32
+    ensures { result ≡ pick (in_range && eqb node.b 0 && eqb node.c 0) 0 3 }
 {
-    if range_check::is_number(node.a) & (node.b == 0) & (node.c == 0) {
-        return ACCEPTED;
+    if in_range & (node.b == 0) & (node.c == 0) {
+        ACCEPTED
+    } else {
+        MALFORMED_NODE
     }
-    MALFORMED_NODE
-}
-
-fn constant_fault(node: NodeWords) -> u32
-    requires { node.kind ≡ 1 }
-    ensures { (i : ℕ) → result ≡ words_fault i node }
-{
-    if (node.a <= 1) & (node.b == 0) & (node.c == 0) {
-        return ACCEPTED;
-    }
-    MALFORMED_NODE
 }
 
 fn operator_fault(i: usize, node: NodeWords, named: &mut [u16]) -> u32
@@ -223,26 +183,25 @@ fn negation_fault(i: usize, node: NodeWords, named: &mut [u16]) -> u32
 // have, and none of a range that brings the counts over the limit: so all ranges together cost no more than the limit.
 fn block_node_fault(
     list: &[u32],
-    heads: &mut [u16],
-    prevs: &mut [u16],
+    chains: &mut EntryChains,
     named: &mut [u16],
     i: usize,
-    before: usize,
     node: NodeWords,
 ) -> u32
     requires kind_value { is_block_kind node.kind ≡ true }
-    requires before_le_limit { before ≤ limit }
-    requires earlier { Earlier heads.old prevs.old before }
+    requires entries_le_limit { chains.old.entries ≤ limit }
+    requires ready { Ready chains.old }
     requires room { Room named.old i }
-    ensures value { result ≡ block_node_fault list.now i before node }
-    ensures earlier_2 { passable result ≡ true → Earlier heads.new prevs.new (before + node.b) }
+    ensures value { result ≡ block_node_fault list.now i chains.old.entries node }
+    ensures entries_after { passable result ≡ true → chains.new.entries ≡ chains.old.entries + node.b }
+    ensures ready_2 { passable result ≡ true → Ready chains.new }
     ensures x_after { passable result ≡ true → (x : ℕ) → get_or named.new x 0 ≡ get_or named.old x 0 + times x (named_by node) }
 {
-    let fault = block_check::block_fault(list.len(), i, before, node, named);
+    let fault = block_check::block_fault(list.len(), i, chains.entries, node, named);
     if fault != ACCEPTED {
         return fault;
     }
-    if !range_check::good_range(list, heads, prevs, before, node.a as usize, node.b as usize) {
+    if !chains.good_range(list, node.a as usize, node.b as usize) {
         return BAD_VARIABLE;
     }
     ACCEPTED

@@ -1,9 +1,8 @@
 // The test that a table is a tree: how often each node is named, refusal 8, and the users of its node.
 #![tactic(auto)]
 
-ghost use Rattle.std.specs.Prelude.{true, not, List, [], ◌∷◌, ◌++◌, ◌≡◌, ℕ, ◌+◌, ◌<◌, ◌≤◌, eqb, length, get_or, replicate};
+ghost use Rattle.std.specs.Prelude.{true, false, List, [], ◌∷◌, ◌++◌, ◌≡◌, ℕ, ◌+◌, ◌<◌, ◌≤◌, length, get_or, replicate, MatchOption};
 ghost use Rattle.lists.specs.Choice.{pick};
-ghost use Rattle.lists.specs.Search.{lowest};
 ghost use Rattle.lists.specs.Members.{times};
 ghost use Rattle.formula.specs.Words.{node_count};
 ghost use Rattle.refusals.specs.Verdict.{first_two};
@@ -21,12 +20,13 @@ pub fn check_tree(words: &[u32], named: &[u16]) -> Verdict
     ensures { result ≡ tree_verdict words.now }
 {
     let last = words.len() / formula::WIDTH - 1;
-    let j = lowest_not_once(named, last);
-    if j < last {
-        let x = j as u32;
-        return refusals::not_a_tree(x, lowest_users(words, x));
+    match lowest_other_than(&named[..last], 1) {
+        Some(j) => {
+            let x = j as u32;
+            refusals::not_a_tree(x, lowest_users(words, x))
+        }
+        None => refusals::accepted(),
     }
-    refusals::accepted()
 }
 
 // Node x is named once more.
@@ -37,45 +37,83 @@ pub fn count_name(x: u32, named: &mut [u16])
     named[x as usize] += 1;
 }
 
-// The lowest node below the last that is not named exactly once, or the last.
-fn lowest_not_once(named: &[u16], last: usize) -> usize
-    requires { last ≤ length named.now }
-    ensures { result ≡ lowest (λ j. not (eqb (get_or named.now j 0) 1)) last }
+// The lowest place whose count is not `one`, if there is one.
+pub fn lowest_other_than<T: Copy + PartialEq>(counts: &[T], one: T) -> Option<usize>
+    ensures { MatchOption result
+        ((k : ℕ) → k < length counts.now → T.eq (get_or counts.now k one) one ≡ true)
+        (λ j. (j < length counts.now) × (T.eq (get_or counts.now j one) one ≡ false)
+        × ((k : ℕ) → k < j → T.eq (get_or counts.now k one) one ≡ true)) }
 {
-    if all_once(named, last) {
-        return last;
+    if all_are(counts, one) {
+        return None;
     }
-    let mut j = 0;
-    while j < last {
-        if named[j] != 1 {
-            return j;
-        }
-        j += 1;
-    }
-    last
+    counts.iter().position(|count| *count != one)
 }
 
-// Whether all nodes below the last are named exactly once. A loop that looks at all of them is much
-// faster than one that may stop, so that a tree is found to be one by this alone.
-fn all_once(named: &[u16], last: usize) -> bool
-    requires { last ≤ length named.now }
-    ensures { result ≡ true → (j : ℕ) → j < last → get_or named.now j 0 ≡ 1 }
+// Whether all counts are `one`. A loop that looks at all of them is much faster than one that may
+// stop, so that a tree is found to be one by this alone.
+fn all_are<T: Copy + PartialEq>(counts: &[T], one: T) -> bool
+    ensures { result ≡ true → (k : ℕ) → k < length counts.now
+        → T.eq (get_or counts.now k one) one ≡ true }
 {
-    let mut once = true;
-    let mut j = 0;
-    while j < last {
-        once = once & (named[j] == 1);
-        j += 1;
+    let mut all = true;
+    for count in counts {
+        all &= *count == one;
     }
-    once
+    all
 }
 
-// The first two users of a node, and how many of the two there are; 0 for each that there is not.
+// The first users of a node, two at most.
 #[derive(Clone, Copy)]
-struct FirstUsers {
-    count: u32,
-    first: u32,
-    second: u32,
+enum FirstUsers {
+    Nobody,
+    One(u32),
+    Two(Users),
+}
+
+impl FirstUsers {
+    // Node i is a user of node x as often as it names it.
+    fn with_node(self, node: NodeWords, x: u32, i: u32) -> FirstUsers
+        ensures { (us : List ℕ) → self ≡ first_users us
+            → result ≡ first_users (us ++ replicate (times x (named_by node)) i) }
+    {
+        let operator = node.kind == formula::OPERATOR;
+        let block = formula::is_block_kind(node.kind);
+        let negation = node.kind == formula::NEGATION;
+        let left = operator & (x == node.b);
+        let right = (operator | block) & (x == node.c);
+        let operand = negation & (x == node.a);
+        self.with_user(left, i).with_user(right | operand, i)
+    }
+
+    // One user more, if node i is one.
+    fn with_user(self, names: bool, i: u32) -> FirstUsers
+        ensures { (us : List ℕ) → self ≡ first_users us
+            → result ≡ first_users (us ++ replicate (pick names 1 0) i) }
+    {
+        if !names {
+            return self;
+        }
+        match self {
+            FirstUsers::Nobody => FirstUsers::One(i),
+            FirstUsers::One(first) => FirstUsers::Two(Users { first, second: i }),
+            FirstUsers::Two(users) => FirstUsers::Two(users),
+        }
+    }
+
+    // The two users; 0 for each that there is not.
+    fn users(self) -> Users
+        ensures { (us : List ℕ) → self ≡ first_users us → result ≡ first_two us }
+    {
+        match self {
+            FirstUsers::Nobody => Users {
+                first: 0,
+                second: 0,
+            },
+            FirstUsers::One(first) => Users { first, second: 0 },
+            FirstUsers::Two(users) => users,
+        }
+    }
 }
 
 // The two lowest nodes that name node x. No node is looked at after the second.
@@ -83,57 +121,12 @@ fn lowest_users(words: &[u32], x: u32) -> Users
     requires { node_count words.now ≤ limit }
     ensures { result ≡ first_two (users_below words.now x (node_count words.now)) }
 {
-    let n = words.len() / formula::WIDTH;
-    let mut found = FirstUsers {
-        count: 0,
-        first: 0,
-        second: 0,
-    };
-    let mut i = 0;
-    while (i < n) & (found.count < 2) {
-        found = with_node(found, formula::node_at(words, i), x, i as u32);
-        i += 1;
+    let mut found = FirstUsers::Nobody;
+    for i in 0..words.len() / formula::WIDTH {
+        found = found.with_node(formula::node_at(words, i), x, i as u32);
+        if let FirstUsers::Two(users) = found {
+            return users;
+        }
     }
-    Users {
-        first: found.first,
-        second: found.second,
-    }
-}
-
-// Node i is a user of node x as often as it names it.
-fn with_node(found: FirstUsers, node: NodeWords, x: u32, i: u32) -> FirstUsers
-    ensures { (us : List ℕ) → found ≡ first_users us
-        → result ≡ first_users (us ++ replicate (times x (named_by node)) i) }
-{
-    let operator = node.kind == formula::OPERATOR;
-    let block = formula::is_block_kind(node.kind);
-    let negation = node.kind == formula::NEGATION;
-    let left = operator & (x == node.b);
-    let right = (operator | block) & (x == node.c);
-    let operand = negation & (x == node.a);
-    with_user(with_user(found, left, i), right | operand, i)
-}
-
-// One user more, if node i is one.
-fn with_user(found: FirstUsers, names: bool, i: u32) -> FirstUsers
-    ensures { (us : List ℕ) → found ≡ first_users us → result ≡ first_users (us ++ replicate (pick names 1 0) i) }
-{
-    if !names {
-        return found;
-    }
-    if found.count == 0 {
-        return FirstUsers {
-            count: 1,
-            first: i,
-            second: 0,
-        };
-    }
-    if found.count == 1 {
-        return FirstUsers {
-            count: 2,
-            first: found.first,
-            second: i,
-        };
-    }
-    found
+    found.users()
 }

@@ -28,9 +28,6 @@ count_name-requires c =
     let room = c.requires.room in
     (omega (arith, room.wide), omega (arith, room.room c.args.node.c))
 
-pub shape_of-named-then-binds_none : goal.shape_of-named-then-binds_none
-shape_of-named-then-binds_none c = c.count_name.auto.named
-
 pub returns-then-binds_none : goal.returns-then-binds_none
 returns-then-binds_none c =
     let a = c.args in record {
@@ -38,18 +35,12 @@ returns-then-binds_none c =
       x_after = λ p. c.count_name.ensures;
     }
 
-pub shape_of-named-then-bound-gt-LIMIT : goal.shape_of-named-then-bound-gt-LIMIT
-shape_of-named-then-bound-gt-LIMIT c = c.count_name.auto.named
-
 pub returns-then-bound-gt-LIMIT : goal.returns-then-bound-gt-LIMIT
 returns-then-bound-gt-LIMIT c =
     let a = c.args in record {
       value = sym (block_too_many a.entries a.i a.before a.node (omega arith) (omega arith) (ne_eqb a.node.b 0 (λ e. omega arith)) (omega arith));
       x_after = λ p. clash p refl;
     }
-
-pub shape_of-named : goal.shape_of-named
-shape_of-named c = c.count_name.auto.named
 
 pub returns : goal.returns
 returns c =

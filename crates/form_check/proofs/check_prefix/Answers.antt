@@ -7,33 +7,24 @@ use borrow.Author.Tests.{eq-eqb, ne_eqb}
 use Rattle.form_check.proofs.Flags.{prefix_ragged, prefix_bad, prefix_passed, prefix_flagged}
 use Rattle.form_check.proofs.check_prefix.Goals as goal
 
-pub returns-then-not-prefix : goal.returns-then-not-prefix
-returns-then-not-prefix c =
+pub returns-then-prefix-ne0 : goal.returns-then-prefix-ne0
+returns-then-prefix-ne0 c =
     let r = c.refused-verdict.ensures in record {
-      position_value = rw (r.0, r.1) (prefix_ragged _ _ (ap not (ne_eqb _ _ c.if-not-prefix.true)));
+      position_value = rw (r.0, r.1) (prefix_ragged _ _ (ap not (ne_eqb _ _ c.if-prefix-ne0.true)));
       names_flagged = λ z. absurd (omega (arith, r.0));
     }
 
-pub first_bad-j-requires : goal.first_bad-j-requires
-first_bad-j-requires c = c.requires
-
-pub shape_of-bound-then-j-prefix : goal.shape_of-bound-then-j-prefix
-shape_of-bound-then-j-prefix c = c.first_bad-j.auto.bound
-
-pub returns-then-j-prefix : goal.returns-then-j-prefix
-returns-then-j-prefix c =
-    let r = c.refused-verdict-then-j-prefix.ensures in record {
-      position_value = rw (r.0, r.1) (prefix_bad _ _ (ap not (eq-eqb _ _ c.if-not-prefix.false)) _ c.first_bad-j.ensures.value c.if-j-prefix.true);
+pub returns-in-Some : goal.returns-in-Some
+returns-in-Some c =
+    let r = c.refused-verdict-in-Some.ensures in record {
+      position_value = rw (r.0, r.1) (prefix_bad _ _ (ap not (eq-eqb _ _ c.if-prefix-ne0.false)) _ c.in-Some.ensures.0 c.in-Some.ensures.1);
       names_flagged = λ z. absurd (omega (arith, r.0));
     }
-
-pub shape_of-bound : goal.shape_of-bound
-shape_of-bound c = c.first_bad-j.auto.bound
 
 pub returns : goal.returns
 returns c =
     let r = c.refused-verdict-2.ensures in
-    let f = c.first_bad-j.ensures in record {
-      position_value = rw (r.0, r.1) (prefix_passed _ _ (ap not (eq-eqb _ _ c.if-not-prefix.false)) _ f.value c.if-j-prefix.false);
-      names_flagged = λ z. prefix_flagged _ _ (ap not (eq-eqb _ _ c.if-not-prefix.false)) _ f.value c.if-j-prefix.false _ _ f.names_flagged;
+    let f = c.in_default.ensures in record {
+      position_value = rw (r.0, r.1) (prefix_passed _ _ (ap not (eq-eqb _ _ c.if-prefix-ne0.false)) f.0);
+      names_flagged = λ z. prefix_flagged _ _ _ _ f.1;
     }

@@ -2,7 +2,6 @@
 -- Assumes nothing.
 use mathlib.Core.Bool.{true≢false}
 use mathlib.Core.Path.{sym, ◌∙◌}
-use native.Mathlib.Omega.{arith}
 use Rattle.form_check.proofs.Flags.{fitting_le, block_unfit, block_good, block_flagged}
 use Rattle.form_check.proofs.take_block.Goals as goal
 
@@ -13,15 +12,8 @@ returns-then-not-block_fits c =
       names_flagged_2 = λ z. absurd (true≢false (sym z));
     }
 
-pub flag_names-requires : goal.flag_names-requires
-flag_names-requires c =
-    record {
-      first_le_end = (omega arith, fitting_le _ _ (sym c.block_fits.ensures ∙ c.if-not-block_fits.false));
-      bound_len = c.requires.names_flagged.wide;
-    }
-
-pub shape_of-bound : goal.shape_of-bound
-shape_of-bound c = c.flag_names.auto.bound
+pub slice_bounds-flag_names-end : goal.slice_bounds-flag_names-end
+slice_bounds-flag_names-end c = fitting_le _ _ (sym c.block_fits.ensures ∙ c.if-not-block_fits.false)
 
 pub returns : goal.returns
 returns c =

@@ -13,9 +13,6 @@ take_operator-requires c =
       i_in_bounds = omega (arith, c.requires.i_bound, c.requires.tallied.wide);
     }
 
-pub shape_of-named-then-node-eq-OPERATOR : goal.shape_of-named-then-node-eq-OPERATOR
-shape_of-named-then-node-eq-OPERATOR c = c.take_operator.auto.named
-
 pub returns-then-node-eq-OPERATOR : goal.returns-then-node-eq-OPERATOR
 returns-then-node-eq-OPERATOR c =
     let r = rw c.node_at-node.ensures at c.take_operator.ensures in record {
@@ -29,9 +26,6 @@ take_negation-requires c =
       kind_value = c.if-node-eq-NEGATION.true;
       i_in_bounds = omega (arith, c.requires.i_bound, c.requires.tallied.wide);
     }
-
-pub shape_of-named-then-node-eq-NEGATION : goal.shape_of-named-then-node-eq-NEGATION
-shape_of-named-then-node-eq-NEGATION c = c.take_negation.auto.named
 
 pub returns-then-node-eq-NEGATION : goal.returns-then-node-eq-NEGATION
 returns-then-node-eq-NEGATION c =

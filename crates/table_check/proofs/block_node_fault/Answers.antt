@@ -12,60 +12,41 @@ use Rattle.table_check.proofs.block_node_fault.Goals as goal
 pub block_fault-fault-requires : goal.block_fault-fault-requires
 block_fault-fault-requires c =
     record {
-      before_le_limit = c.requires.before_le_limit;
+      before_le_limit = c.requires.entries_le_limit;
       room = c.requires.room;
     }
-
-pub shape_of-named-then-fault-ne-ACCEPTED : goal.shape_of-named-then-fault-ne-ACCEPTED
-shape_of-named-then-fault-ne-ACCEPTED c = c.block_fault-fault.auto.named
 
 pub returns-then-fault-ne-ACCEPTED : goal.returns-then-fault-ne-ACCEPTED
 returns-then-fault-ne-ACCEPTED c =
     let a = c.args in
     let e = c.block_fault-fault.ensures.value in
     let f = rw e at c.if-fault-ne-ACCEPTED.true in
-    let none = block_adds_none _ a.i a.before a.node f in
+    let none = block_adds_none _ a.i a.chains.now.entries a.node f in
     let body = names_block a.node c.requires.kind_value in
     let named = c.block_fault-fault.ensures.x_after in record {
       value = e ∙ sym (block_refused _ _ _ _ f);
-      earlier_2 = λ p. rw (none (rw e at p)) c.requires.earlier;
+      entries_after = λ p. sym (none (rw e at p));
+      ready_2 = λ p. c.requires.ready;
       x_after = λ p x. rw body (named p x);
     }
 
 pub good_range-requires : goal.good_range-requires
 good_range-requires c =
     let e = sym c.block_fault-fault.ensures.value ∙ c.if-fault-ne-ACCEPTED.false in
-    let r = block_clear _ _ _ c.args.node c.requires.before_le_limit (or_left _ _ (eq-eqb _ 0 e)) in record {
+    let r = block_clear _ _ _ c.args.node c.requires.entries_le_limit (or_left _ _ (eq-eqb _ 0 e)) in record {
       count_bound = (r.2, r.1);
-      earlier = c.requires.earlier;
+      ready = c.requires.ready;
     }
-
-pub shape_of-heads-then-not-good_range : goal.shape_of-heads-then-not-good_range
-shape_of-heads-then-not-good_range c = c.good_range.auto.heads
-
-pub shape_of-prevs-then-not-good_range : goal.shape_of-prevs-then-not-good_range
-shape_of-prevs-then-not-good_range c = c.good_range.auto.prevs
-
-pub shape_of-named-then-not-good_range : goal.shape_of-named-then-not-good_range
-shape_of-named-then-not-good_range c = c.block_fault-fault.auto.named
 
 pub returns-then-not-good_range : goal.returns-then-not-good_range
 returns-then-not-good_range c =
     let e = sym c.block_fault-fault.ensures.value ∙ c.if-fault-ne-ACCEPTED.false in
     let g = sym c.good_range.ensures.value ∙ c.if-not-good_range.true in record {
       value = sym (block_bad _ _ _ _ e g);
-      earlier_2 = λ p. clash p refl;
+      entries_after = λ p. clash p refl;
+      ready_2 = λ p. clash p refl;
       x_after = λ p. clash p refl;
     }
-
-pub shape_of-heads : goal.shape_of-heads
-shape_of-heads c = c.good_range.auto.heads
-
-pub shape_of-prevs : goal.shape_of-prevs
-shape_of-prevs c = c.good_range.auto.prevs
-
-pub shape_of-named : goal.shape_of-named
-shape_of-named c = c.block_fault-fault.auto.named
 
 pub returns : goal.returns
 returns c =
@@ -75,6 +56,7 @@ returns c =
     let body = names_block c.args.node c.requires.kind_value in
     let named = c.block_fault-fault.ensures.x_after (or_left _ _ (eq-eqb _ 0 z)) in record {
       value = sym (block_good _ _ _ _ (sym c.block_fault-fault.ensures.value ∙ z) (sym r.value ∙ g));
-      earlier_2 = λ p. r.earlier_2 g;
+      entries_after = λ p. r.entries g;
+      ready_2 = λ p. r.ready_2 g;
       x_after = λ p x. rw body (named x);
     }

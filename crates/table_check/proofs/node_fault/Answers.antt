@@ -6,7 +6,7 @@ use Prim.Native.Nat.{ℕ, ◌+◌}
 use Rattle.lists.specs.Choice.{clash}
 use Rattle.formula.specs.Words.{is_block_kind}
 use Rattle.formula.specs.declared.NodeWords.{NodeWords}
-use Rattle.table_check.proofs.Faults.{fault_words, fault_block, fault_no_kind, words_passed, binds_none}
+use Rattle.table_check.proofs.Faults.{fault_words, fault_block, fault_no_kind, words_passed, binds_none, variable_words, constant_words}
 use Rattle.acceptance.proofs.Accepted.{count_block}
 use Rattle.tree_check.proofs.Named.{names_none, counted_room, counted_more, counted_still}
 use native.Mathlib.Omega.{arith}
@@ -17,21 +17,18 @@ use Rattle.table_check.proofs.node_fault.Goals as goal
 abbrev kind_of : NodeWords → ℕ
 kind_of w = w.kind
 
-pub variable_fault-requires : goal.variable_fault-requires
-variable_fault-requires c = c.if-node-eq-VARIABLE.true
-
 pub returns-then-node-eq-VARIABLE : goal.returns-then-node-eq-VARIABLE
 unfolding is_block_kind
 returns-then-node-eq-VARIABLE c =
     let a = c.args in
     let e = c.node_at-node.ensures in
     let k = sym (ap kind_of e) ∙ c.if-node-eq-VARIABLE.true in
-    let r = rw e at (c.variable_fault.ensures a.i) in
+    let r = rw (c.is_number.ensures, e) at c.leaf_fault.ensures ∙ sym (variable_words a.i _ k) in
     let f = r ∙ sym (fault_words a.words.now a.list.now a.i (rw k refl)) in
-    let bound = sym (binds_none a.words.now a.i a.before.now (rw k refl)) in record {
+    let bound = sym (binds_none a.words.now a.i a.chains.now.entries (rw k refl)) in record {
       value = f;
-      before_after = λ p. bound;
-      earlier_2 = λ p. c.requires.earlier;
+      entries_after = λ p. bound;
+      ready_2 = λ p. c.requires.ready;
       counted_2 = λ p. counted_still _ _ _ (names_none _ (rw k refl) (rw k refl) (rw k refl)) c.requires.counted;
     }
 
@@ -42,9 +39,6 @@ operator_fault-requires c =
       room = counted_room _ _ _ (omega (arith, c.requires.i_bound)) c.requires.counted;
     }
 
-pub shape_of-named-then-node-eq-OPERATOR : goal.shape_of-named-then-node-eq-OPERATOR
-shape_of-named-then-node-eq-OPERATOR c = c.operator_fault.auto.named
-
 pub returns-then-node-eq-OPERATOR : goal.returns-then-node-eq-OPERATOR
 unfolding is_block_kind
 returns-then-node-eq-OPERATOR c =
@@ -53,47 +47,35 @@ returns-then-node-eq-OPERATOR c =
     let k = sym (ap kind_of e) ∙ c.if-node-eq-OPERATOR.true in
     let r = rw e at c.operator_fault.ensures in
     let f = r.value ∙ sym (fault_words a.words.now a.list.now a.i (rw k refl)) in
-    let bound = sym (binds_none a.words.now a.i a.before.now (rw k refl)) in record {
+    let bound = sym (binds_none a.words.now a.i a.chains.now.entries (rw k refl)) in record {
       value = f;
-      before_after = λ p. bound;
-      earlier_2 = λ p. c.requires.earlier;
+      entries_after = λ p. bound;
+      ready_2 = λ p. c.requires.ready;
       counted_2 = λ p. counted_more _ _ _ _ c.operator_fault.auto.named c.requires.counted (r.x_after (words_passed _ _ _ r.value p));
     }
 
-pub block_node_fault-fault-requires : goal.block_node_fault-fault-requires
-block_node_fault-fault-requires c =
+pub block_node_fault-requires : goal.block_node_fault-requires
+block_node_fault-requires c =
     let room = counted_room _ _ _ (omega (arith, c.requires.i_bound)) c.requires.counted in record {
       kind_value = sym c.is_block_kind.ensures ∙ c.if-is_block_kind.true;
-      before_le_limit = c.requires.before_value.1;
-      earlier = c.requires.earlier;
+      entries_le_limit = c.requires.entries_value.1;
+      ready = c.requires.ready;
       room = room;
     }
-
-pub overflow_add-before : goal.overflow_add-before
-overflow_add-before c = omega (arith, c.requires.before_value.1, c.node_at-node.type_inv)
-
-pub shape_of-heads-then-is_block_kind : goal.shape_of-heads-then-is_block_kind
-shape_of-heads-then-is_block_kind c = c.block_node_fault-fault.auto.heads
-
-pub shape_of-prevs-then-is_block_kind : goal.shape_of-prevs-then-is_block_kind
-shape_of-prevs-then-is_block_kind c = c.block_node_fault-fault.auto.prevs
-
-pub shape_of-named-then-is_block_kind : goal.shape_of-named-then-is_block_kind
-shape_of-named-then-is_block_kind c = c.block_node_fault-fault.auto.named
 
 pub returns-then-is_block_kind : goal.returns-then-is_block_kind
 returns-then-is_block_kind c =
     let a = c.args in
     let e = c.node_at-node.ensures in
     let k = rw e at (sym c.is_block_kind.ensures ∙ c.if-is_block_kind.true) in
-    let f = rw (e, c.requires.before_value.0) at c.block_node_fault-fault.ensures.value in
-    let named = rw e at c.block_node_fault-fault.ensures.x_after in
-    let bound = ap (λ m. a.before.now + m) (ap (λ (w : NodeWords). w.b) e ∙ sym (count_block _ _ k)) in
+    let f = rw (e, c.requires.entries_value.0) at c.block_node_fault.ensures.value in
+    let named = rw e at c.block_node_fault.ensures.x_after in
+    let bound = ap (λ m. a.chains.now.entries + m) (ap (λ (w : NodeWords). w.b) e ∙ sym (count_block _ _ k)) in
     let g = f ∙ sym (fault_block a.words.now a.list.now a.i k) in record {
       value = g;
-      before_after = λ p. bound;
-      earlier_2 = c.block_node_fault-fault.ensures.earlier_2;
-      counted_2 = λ p. counted_more _ _ _ _ c.block_node_fault-fault.auto.named c.requires.counted (named p);
+      entries_after = λ p. c.block_node_fault.ensures.entries_after p ∙ bound;
+      ready_2 = c.block_node_fault.ensures.ready_2;
+      counted_2 = λ p. counted_more _ _ _ _ c.block_node_fault.auto.named c.requires.counted (named p);
     }
 
 pub negation_fault-requires : goal.negation_fault-requires
@@ -103,9 +85,6 @@ negation_fault-requires c =
       room = counted_room _ _ _ (omega (arith, c.requires.i_bound)) c.requires.counted;
     }
 
-pub shape_of-named-then-node-eq-NEGATION : goal.shape_of-named-then-node-eq-NEGATION
-shape_of-named-then-node-eq-NEGATION c = c.negation_fault.auto.named
-
 pub returns-then-node-eq-NEGATION : goal.returns-then-node-eq-NEGATION
 unfolding is_block_kind
 returns-then-node-eq-NEGATION c =
@@ -114,15 +93,12 @@ returns-then-node-eq-NEGATION c =
     let k = sym (ap kind_of e) ∙ c.if-node-eq-NEGATION.true in
     let r = rw e at c.negation_fault.ensures in
     let f = r.value ∙ sym (fault_words a.words.now a.list.now a.i (rw k refl)) in
-    let bound = sym (binds_none a.words.now a.i a.before.now (rw k refl)) in record {
+    let bound = sym (binds_none a.words.now a.i a.chains.now.entries (rw k refl)) in record {
       value = f;
-      before_after = λ p. bound;
-      earlier_2 = λ p. c.requires.earlier;
+      entries_after = λ p. bound;
+      ready_2 = λ p. c.requires.ready;
       counted_2 = λ p. counted_more _ _ _ _ c.negation_fault.auto.named c.requires.counted (r.x_after (words_passed _ _ _ r.value p));
     }
-
-pub constant_fault-requires : goal.constant_fault-requires
-constant_fault-requires c = c.if-node-eq-CONSTANT.true
 
 pub returns-then-node-eq-CONSTANT : goal.returns-then-node-eq-CONSTANT
 unfolding is_block_kind
@@ -130,12 +106,12 @@ returns-then-node-eq-CONSTANT c =
     let a = c.args in
     let e = c.node_at-node.ensures in
     let k = sym (ap kind_of e) ∙ c.if-node-eq-CONSTANT.true in
-    let r = rw e at (c.constant_fault.ensures a.i) in
+    let r = rw e at c.leaf_fault-then-node-eq-CONSTANT.ensures ∙ sym (constant_words a.i _ k) in
     let f = r ∙ sym (fault_words a.words.now a.list.now a.i (rw k refl)) in
-    let bound = sym (binds_none a.words.now a.i a.before.now (rw k refl)) in record {
+    let bound = sym (binds_none a.words.now a.i a.chains.now.entries (rw k refl)) in record {
       value = f;
-      before_after = λ p. bound;
-      earlier_2 = λ p. c.requires.earlier;
+      entries_after = λ p. bound;
+      ready_2 = λ p. c.requires.ready;
       counted_2 = λ p. counted_still _ _ _ (names_none _ (rw k refl) (rw k refl) (rw k refl)) c.requires.counted;
     }
 
@@ -148,7 +124,7 @@ returns c =
     let d4 = rw e at c.if-node-eq-OPERATOR.false in
     let k = rw e at (sym c.is_block_kind.ensures ∙ c.if-is_block_kind.false) in record {
       value = sym (fault_no_kind _ _ c.args.i d1 d2 d3 d4 k);
-      before_after = λ p. clash p refl;
-      earlier_2 = λ p. clash p refl;
+      entries_after = λ p. clash p refl;
+      ready_2 = λ p. clash p refl;
       counted_2 = λ p. clash p refl;
     }
