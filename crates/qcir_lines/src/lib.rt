@@ -108,10 +108,8 @@ fn put_prefix(prefix: &[u32], variables: &[u32], text: &mut [u8], at: usize) -> 
 {
     let blocks = prefix.len() / PREFIX_WIDTH;
     let mut next = at;
-    let mut j: usize = 0;
-    while j < blocks {
+    for j in 0..blocks {
         next = put_prefix_block(prefix, variables, j, text, next);
-        j += 1;
     }
     next
 }
@@ -152,10 +150,8 @@ fn put_gates(
 {
     let n = nodes.len() / formula::WIDTH;
     let mut next = at;
-    let mut i: usize = 0;
-    while i < n {
+    for i in 0..n {
         next = put_gate(rows, nodes, literals, i, text, next);
-        i += 1;
     }
     next
 }

@@ -29,10 +29,8 @@ pub fn fill_literals(nodes: &[u32], literals: &mut [u32], first: u32)
 {
     let rows = qcir_rows::all_rows();
     let mut gate = first;
-    let mut i: usize = 0;
-    while i < nodes.len() / formula::WIDTH {
+    for i in 0..nodes.len() / formula::WIDTH {
         gate = fill_node(&rows, nodes, literals, i, gate);
-        i += 1;
     }
 }
 

@@ -50,9 +50,7 @@ fn mark_down(
     ensures { Marked (table_of nodes.now []) names.old marks.new names.new result }
 {
     let mut highest: u32 = 0;
-    let mut i = n;
-    while i > 0 {
-        i -= 1;
+    for i in (0..n).rev() {
         highest = mark_node(rows, nodes, marks, names, i, highest);
     }
     highest
