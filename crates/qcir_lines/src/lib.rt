@@ -72,10 +72,8 @@ fn put_free(names: &[u8], highest: u32, text: &mut [u8], at: usize) -> usize
         (signs_text (free_signs (map named (flagged_below names.now (suc highest))))) text.new result }
 {
     let mut next = at;
-    let mut x: u32 = 0;
-    while x <= highest {
-        next = put_free_name(names[x as usize], x, text, next, next == at);
-        x += 1;
+    for (x, flag) in names[..=highest as usize].iter().enumerate() {
+        next = put_free_name(*flag, x as u32, text, next, next == at);
     }
     if next == at {
         return at;
