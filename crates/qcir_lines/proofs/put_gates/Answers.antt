@@ -13,7 +13,7 @@ pub put_gate-next-requires : goal.put_gate-next-requires
 put_gate-next-requires c =
     record {
       accepted_within = c.requires.accepted_within;
-      i_bound = (omega arith, c.requires.literals_len.0, omega (arith, c.requires.accepted_within.nodes_limit), c.requires.literals_len.3);
+      i_bound = (omega arith, c.requires.literals_len.0, omega (arith, c.requires.accepted_within.nodes_limit));
       by_index = c.requires.literals_len.1;
     }
 

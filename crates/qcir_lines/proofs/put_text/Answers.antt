@@ -29,7 +29,7 @@ put_gates-requires c =
     let short = pieces_short c.requires.accepted_form c.requires.free_flags c.requires.filled in
     let at : c.put_output-next.result ≤ last_start = omega (arith, short, c.put_header-next.ensures.value, c.put_free-next.ensures.counted, c.put_prefix-next.ensures.counted, c.put_output-next.ensures.upper_bound) in record {
       accepted_within = c.requires.accepted_form.matrix;
-      literals_len = (c.requires.literals_len, c.requires.filled.low, at, c.all_rows-rows.ensures);
+      literals_len = (c.requires.literals_len, c.requires.filled.low, at);
     }
 
 pub returns : goal.returns

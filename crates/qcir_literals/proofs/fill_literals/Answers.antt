@@ -22,7 +22,7 @@ fill_node-gate-requires c =
     let h = gate_from t c.args.first l.i in
     let m = c.requires.accepted_within.nodes_limit in record {
       accepted_within = c.requires.accepted_within;
-      i_bound = (omega arith, omega arith, omega arith, omega arith, c.all_rows-rows.ensures);
+      i_bound = (omega arith, omega arith, omega arith, omega arith);
       by_index = l.invariant.low;
     }
 
