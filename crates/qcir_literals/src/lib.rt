@@ -1,6 +1,7 @@
 // A pass over a matrix from its first node up: the literal that stands for each node that is written, gates
 // being numbered in node order. A literal is held in one word: twice its number, and one more with a
-// minus sign.
+// minus sign. The words stand where the marks stood, 0 at a node that is not written, since memory is
+// fixed: literals of two fields, or options, would need an array of their own.
 #![tactic(auto)]
 
 ghost use Rattle.std.specs.Prelude.{[], ◌≡◌, ℕ, ◌+◌, ◌/◌, ◌<◌, ◌≤◌, length, get_or};

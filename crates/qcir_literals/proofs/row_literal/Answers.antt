@@ -1,38 +1,22 @@
 -- `qcir_literals::row_literal` meets its contract, kind by kind.
 -- Assumes nothing.
-use native.Mathlib.Omega.{arith}
 use mathlib.Core.Logic.{⊎_elim}
-use mathlib.Core.Path.{refl}
 use Rattle.qcir_form.specs.File.{row_literal}
-use Rattle.qcir_literals.proofs.Codes.{byte_low, of_gate, of_xor}
+use Rattle.qcir_literals.proofs.Codes.{of_gate, of_xor}
 use Rattle.qcir_literals.proofs.row_literal.Goals as goal
 
-pub returns-in-Left : goal.returns-in-Left
+pub returns-in-Left-clause-result_value : goal.returns-in-Left-clause-result_value
 unfolding row_literal
-returns-in-Left c =
-    let r = c.turned.ensures in
-    rw c.in-Left.is
-    (record { result_value = r.result_value; lower_bound = (λ p q. let l = p refl in omega arith, omega arith) })
+returns-in-Left-clause-result_value c = rw c.in-Left.is c.turned.ensures.result_value
 
-pub returns-in-Right : goal.returns-in-Right
+pub returns-in-Right-clause-result_value : goal.returns-in-Right-clause-result_value
 unfolding row_literal
-returns-in-Right c =
-    let r = c.turned-in-Right.ensures in
-    rw c.in-Right.is
-    (record { result_value = r.result_value; lower_bound = (λ p q. let l = q refl in omega arith, omega arith) })
+returns-in-Right-clause-result_value c = rw c.in-Right.is c.turned-in-Right.ensures.result_value
 
-pub returns-in-Xor : goal.returns-in-Xor
+pub returns-in-Xor-clause-result_value : goal.returns-in-Xor-clause-result_value
 unfolding row_literal
-returns-in-Xor c =
-    let a = c.args in
-    rw c.in-Xor.is
-    (record { result_value = of_xor a.gate a.l a.m a.row.whole; lower_bound = (λ p q. omega arith, omega arith) })
+returns-in-Xor-clause-result_value c = let a = c.args in rw c.in-Xor.is (of_xor a.gate a.l a.m a.row.whole)
 
-pub returns-in-Constant : goal.returns-in-Constant
+pub returns-in-Constant-clause-result_value : goal.returns-in-Constant-clause-result_value
 unfolding row_literal
-returns-in-Constant c =
-    let a = c.args in
-    let l = byte_low a.row.whole in record {
-      result_value = ⊎_elim (λ e. rw e (of_gate a.gate a.row.whole)) (λ e. rw e (of_gate a.gate a.row.whole)) c.in-Constant.is;
-      lower_bound = (λ p q. omega arith, omega arith);
-    }
+returns-in-Constant-clause-result_value c = let g = of_gate c.args.gate c.args.row.whole in ⊎_elim (λ e. rw e g) (λ e. rw e g) c.in-Constant.is
