@@ -2,8 +2,7 @@
 // empty buffer it tells the size, over one that has room it writes.
 #![tactic(auto)]
 
-ghost use Rattle.std.specs.Prelude.{Bool, [], map, ◌≡◌, ℕ, suc, ◌+◌, ◌*◌, ◌/◌, ◌<◌, ◌≤◌, length, get_or};
-ghost use Rattle.formula.specs.Truth.{digit};
+ghost use Rattle.std.specs.Prelude.{[], map, ◌≡◌, ℕ, suc, ◌+◌, ◌*◌, ◌/◌, ◌<◌, ◌≤◌, length, get_or};
 ghost use Rattle.formula.specs.Words.{node_count, node_at, table_of};
 ghost use Rattle.formula.specs.Form.{prefix_width, block_at, blocks_of};
 ghost use Rattle.acceptance.specs.Accepted.{AcceptedWithin};
@@ -13,9 +12,8 @@ ghost use Rattle.qcir.specs.Spelling.{free_signs, gates_signs};
 ghost use Rattle.qcir_text.specs.Text.{signs_text};
 ghost use Rattle.texts.specs.Put.{Put};
 ghost use Rattle.qcir_text.specs.Pieces.{named, literal_of, number_bound, last_line, AllWritable};
-ghost use Rattle.qcir_form.specs.Rows.{RowKind};
 ghost use Rattle.qcir_form.specs.File.{row_gates, free_names, prefix_lines, first_gate, form_text};
-ghost use Rattle.qcir_rows.specs.Codes.{kind_code, row_table};
+ghost use Rattle.qcir_rows.specs.Shapes.{kind_meant};
 ghost use Rattle.qcir_literals.specs.Literals.{Filled};
 ghost use Rattle.name_flags.specs.Flags.{FreeFlags, flagged_below};
 ghost use Rattle.qcir_lines.specs.Lines.{
@@ -31,7 +29,7 @@ ghost use Rattle.qcir_lines.specs.Lines.{
 
 use form_check::PREFIX_WIDTH;
 use name_flags::FREE;
-use qcir_rows::{AND_ROW, LEFT_ROW, NAME, RIGHT_ROW, Row, XOR_ROW};
+use qcir_rows::{Row, RowKind, Shape};
 
 // Puts the text of a form. `names` has the flag 2 at the open names that occur, none of which is above `highest`, and
 // `literals` the literal of each node.
@@ -61,8 +59,7 @@ pub fn put_text(
     next = put_prefix(prefix, variables, text, next);
     let root = nodes.len() / formula::WIDTH - 1;
     next = qcir_text::put_output(text, next, literals[root]);
-    let rows = qcir_rows::all_rows();
-    put_gates(&rows, nodes, literals, text, next)
+    put_gates(nodes, literals, text, next)
 }
 
 // Puts the free line: the names up to `highest` that have the flag 2; nothing if there is none.
@@ -72,10 +69,8 @@ fn put_free(names: &[u8], highest: u32, text: &mut [u8], at: usize) -> usize
         (signs_text (free_signs (map named (flagged_below names.now (suc highest))))) text.new result }
 {
     let mut next = at;
-    let mut x: u32 = 0;
-    while x <= highest {
-        next = put_free_name(names[x as usize], x, text, next, next == at);
-        x += 1;
+    for (x, flag) in names[..=highest as usize].iter().enumerate() {
+        next = put_free_name(*flag, x as u32, text, next, next == at);
     }
     if next == at {
         return at;
@@ -108,10 +103,8 @@ fn put_prefix(prefix: &[u32], variables: &[u32], text: &mut [u8], at: usize) -> 
 {
     let blocks = prefix.len() / PREFIX_WIDTH;
     let mut next = at;
-    let mut j: usize = 0;
-    while j < blocks {
+    for j in 0..blocks {
         next = put_prefix_block(prefix, variables, j, text, next);
-        j += 1;
     }
     next
 }
@@ -137,40 +130,24 @@ fn put_prefix_block(
 }
 
 // Puts the gate lines, in node order.
-fn put_gates(
-    rows: &[[u8; 4]; 16],
-    nodes: &[u32],
-    literals: &[u32],
-    text: &mut [u8],
-    at: usize,
-) -> usize
+fn put_gates(nodes: &[u32], literals: &[u32], text: &mut [u8], at: usize) -> usize
     requires accepted_within { AcceptedWithin form_limits nodes.now [] }
-    requires literals_len { (length literals.now ≡ 40960) × ((j : ℕ) → get_or literals.now j 0 < number_bound) × (at ≤ last_start)
-        × (rows.now ≡ row_table) }
+    requires literals_len { (length literals.now ≡ 40960) × ((j : ℕ) → get_or literals.now j 0 < number_bound) × (at ≤ last_start) }
     ensures { Put text.old at
         (gates_text nodes.now literals.now (node_count nodes.now)) text.new result }
 {
     let n = nodes.len() / formula::WIDTH;
     let mut next = at;
-    let mut i: usize = 0;
-    while i < n {
-        next = put_gate(rows, nodes, literals, i, text, next);
-        i += 1;
+    for i in 0..n {
+        next = put_gate(nodes, literals, i, text, next);
     }
     next
 }
 
 // Puts the gate line of node i, if it has one.
-fn put_gate(
-    rows: &[[u8; 4]; 16],
-    nodes: &[u32],
-    literals: &[u32],
-    i: usize,
-    text: &mut [u8],
-    at: usize,
-) -> usize
+fn put_gate(nodes: &[u32], literals: &[u32], i: usize, text: &mut [u8], at: usize) -> usize
     requires accepted_within { AcceptedWithin form_limits nodes.now [] }
-    requires i_bound { (i < node_count nodes.now) × (length literals.now ≡ 40960) × (at ≤ last_line) × (rows.now ≡ row_table) }
+    requires i_bound { (i < node_count nodes.now) × (length literals.now ≡ 40960) × (at ≤ last_line) }
     requires by_index { (j : ℕ) → get_or literals.now j 0 < number_bound }
     ensures put { Put text.old at
         (signs_text (gates_signs (held_gates literals.now i (node_at nodes.now [] i)))) text.new result }
@@ -180,45 +157,32 @@ fn put_gate(
     if own == 0 {
         return at;
     }
-    let shape = qcir_rows::shape_at(rows, nodes, i);
-    if shape.row.kind == NAME {
-        return at;
+    match qcir_rows::shape_at(nodes, i) {
+        Shape::Name(_) => at,
+        Shape::Row { row, left, right } => {
+            let l = literals[left as usize];
+            let m = literals[right as usize];
+            put_row(row, own / 2, l, m, text, at)
+        }
     }
-    if shape.row.kind == LEFT_ROW {
-        return at;
-    }
-    if shape.row.kind == RIGHT_ROW {
-        return at;
-    }
-    let left = shape.left as usize;
-    let right = shape.right as usize;
-    put_row(
-        shape.row,
-        own / 2,
-        literals[left],
-        literals[right],
-        text,
-        at,
-    )
 }
 
-// Puts the gate line of a row that has one: `gate` is its number, and l and m stand for the operands. The inputs of an
+// Puts the gate line of a row, if it has one: `gate` is its number, and l and m stand for the operands. The inputs of an
 // `and` get the row's signs, those of an `xor` have none.
 fn put_row(row: Row, gate: u32, l: u32, m: u32, text: &mut [u8], at: usize) -> usize
-    requires left_bound { (row.left ≤ 1) × (row.right ≤ 1) × (row.kind ≡ 1 → ⊥) × (row.kind ≡ 2 → ⊥) }
-    requires gate_lt_number_bound { (gate < number_bound) × (l < number_bound) × (m < number_bound) × (at ≤ last_line) }
-    ensures put { (k : RowKind) (a b : Bool) → row.kind ≡ kind_code k → row.left ≡ digit a → row.right ≡ digit b
-        → Put text.old at
-        (signs_text (gates_signs (row_gates k a b gate (literal_of l) (literal_of m)))) text.new result }
+    requires { (gate < number_bound) × (l < number_bound) × (m < number_bound) × (at ≤ last_line) }
+    ensures put { Put text.old at
+        (signs_text (gates_signs (row_gates (kind_meant row.kind) row.left row.right gate (literal_of l) (literal_of m)))) text.new result }
     ensures upper_bound { result ≤ at + 31 }
 {
-    if row.kind == AND_ROW {
-        let left = qcir_literals::turned(l, row.left as u32);
-        let right = qcir_literals::turned(m, row.right as u32);
-        return qcir_text::put_and(text, at, gate, left, right);
+    match row.kind {
+        RowKind::Left | RowKind::Right => at,
+        RowKind::And => {
+            let left = qcir_literals::turned(l, row.left);
+            let right = qcir_literals::turned(m, row.right);
+            qcir_text::put_and(text, at, gate, left, right)
+        }
+        RowKind::Xor => qcir_text::put_xor(text, at, gate, l / 2 * 2, m / 2 * 2),
+        RowKind::Constant => qcir_text::put_constant(text, at, gate),
     }
-    if row.kind == XOR_ROW {
-        return qcir_text::put_xor(text, at, gate, l / 2 * 2, m / 2 * 2);
-    }
-    qcir_text::put_constant(text, at, gate)
 }

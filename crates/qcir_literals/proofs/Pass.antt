@@ -19,10 +19,14 @@ use Rattle.formula.specs.Tree.{Tree}
 use Rattle.qcir_text.specs.Pieces.{literal_of, number_bound}
 use Rattle.qcir_form.specs.File.{used_operands, has_gate, node_literal, written, is_gate, gate_number, node_literal_of}
 use Rattle.qcir_form.proofs.Written.{written_down, written_from, used_lower, literal_used, literal_step}
-use Rattle.qcir_literals.proofs.Codes.{digit_low}
 use Rattle.qcir_literals.specs.Literals.{HoldsLiteral, FilledTo, Filled, WordFor, NodeFilled, skipped, stored}
 
 -- Gate numbers.
+digit_low : (b : Bool) → digit b ≤ 1
+unfolding digit
+digit_low true = omega arith
+digit_low false = omega arith
+
 module _ (t : Table) (first : ℕ) where
   gate_first : gate_number t first 0 ≡ first
   unfolding gate_number sum

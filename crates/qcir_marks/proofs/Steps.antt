@@ -2,7 +2,7 @@
 -- Assumes nothing.
 use mathlib.Core.Path.{◌≡◌, refl, sym, ◌∙◌, ap}
 use mathlib.Core.Bool.{Bool, true, false, ◌||◌}
-use mathlib.Core.List.{List}
+use mathlib.Core.List.{List, [], ◌∷◌}
 use Prim.Native.Nat.{ℕ, ◌<◌, max}
 use native.Mathlib.Omega.{arith}
 use lib.Dec.{eqb}
@@ -14,12 +14,12 @@ use Rattle.lists.proofs.Members.{mem_one}
 use Rattle.lists.proofs.Stores.{get_d_set}
 use Rattle.formula.specs.Node.{Node, variable}
 use Rattle.formula.specs.FreeVariables.{stands_at, number_at}
-use Rattle.qcir_form.specs.Rows.{RowKind, constant_row, left_row, right_row, and_row, xor_row}
+use Rattle.qcir_form.specs.Rows.{OperatorRow, left_row, right_row}
 use Rattle.qcir_form.specs.File.{row_operands, used_operands}
-use Rattle.qcir_rows.specs.Codes.{kind_code, node_shape}
-use Rattle.qcir_rows.proofs.Shapes.{RowAs}
+use Rattle.qcir_rows.specs.Shapes.{RowFor}
+use Rattle.qcir_rows.proofs.Shapes.{row_used, row_no_name, row_no_number}
 use Rattle.name_flags.specs.Flags.{flag_with}
-use Rattle.qcir_marks.specs.Marks.{marks_after, flags_after, highest_after, NodeMarked, code_operands, is_marked}
+use Rattle.qcir_marks.specs.Marks.{marks_after, flags_after, highest_after, NodeMarked, is_marked}
 
 two_marks : (p q : Bool) (m : ℕ) → pick q 1 (pick p 1 m) ≡ pick (p || (q || false)) 1 m
 unfolding pick
@@ -28,34 +28,21 @@ two_marks true false m = refl
 two_marks false true m = refl
 two_marks false false m = refl
 
--- Marks of operands, by the number of the row's kind.
+-- Marks of operands, by the row's kind.
 module _ (marks : List ℕ) (a b : ℕ) where
-  pub operands_none : (k : ℕ) → k ≡ 0 → (i : ℕ) → get_or marks i 0 ≡ pick (mem i (code_operands k a b)) 1 (get_or marks i 0)
-  unfolding code_operands mem pick
-  operands_none k e i = rw e
+  pub operands_left : a < length marks → (i : ℕ) → get_or (set marks a 1) i 0 ≡ pick (mem i (row_operands left_row a b)) 1 (get_or marks i 0)
+  unfolding row_operands pick
+  operands_left h i = rw mem_one (get_d_set marks a 1 0 h i)
 
-  pub operands_left : a < length marks → (k : ℕ) → k ≡ 1 → (i : ℕ) → get_or (set marks a 1) i 0 ≡ pick (mem i (code_operands k a b)) 1 (get_or marks i 0)
-  unfolding code_operands pick
-  operands_left h k e i = rw (e, mem_one) (get_d_set marks a 1 0 h i)
+  pub operands_right : b < length marks → (i : ℕ) → get_or (set marks b 1) i 0 ≡ pick (mem i (row_operands right_row a b)) 1 (get_or marks i 0)
+  unfolding row_operands pick
+  operands_right h i = rw mem_one (get_d_set marks b 1 0 h i)
 
-  pub operands_right : b < length marks → (k : ℕ) → k ≡ 2 → (i : ℕ) → get_or (set marks b 1) i 0 ≡ pick (mem i (code_operands k a b)) 1 (get_or marks i 0)
-  unfolding code_operands pick
-  operands_right h k e i = rw (e, mem_one) (get_d_set marks b 1 0 h i)
-
-  pub operands_both : a < length marks → b < length marks → (k : ℕ) → (k ≡ 0 → ⊥) → (k ≡ 1 → ⊥) → (k ≡ 2 → ⊥) → (i : ℕ)
-      → get_or (set (set marks a 1) b 1) i 0 ≡ pick (mem i (code_operands k a b)) 1 (get_or marks i 0)
-  unfolding code_operands mem pick
-  operands_both h l k n0 n1 n2 i =
-      rw (ne_eqb k 0 n0, ne_eqb k 1 n1, ne_eqb k 2 n2, get_d_set (set marks a 1) b 1 0 (simp length-set (omega arith)) i, get_d_set marks a 1 0 h i) (two_marks (eqb i a) (eqb i b) (get_or marks i 0))
-
--- The same of rows.
-pub code_operands_lem : (k : RowKind) (a b : ℕ) → code_operands (kind_code k) a b ≡ row_operands k a b
-unfolding code_operands kind_code row_operands pick
-code_operands_lem constant_row a b = refl
-code_operands_lem left_row a b = refl
-code_operands_lem right_row a b = refl
-code_operands_lem and_row a b = refl
-code_operands_lem xor_row a b = refl
+  pub operands_both : a < length marks → b < length marks → (i : ℕ)
+      → get_or (set (set marks a 1) b 1) i 0 ≡ pick (mem i (a ∷ b ∷ [])) 1 (get_or marks i 0)
+  unfolding mem pick
+  operands_both h l i =
+      rw (get_d_set (set marks a 1) b 1 0 (simp length-set (omega arith)) i, get_d_set marks a 1 0 h i) (two_marks (eqb i a) (eqb i b) (get_or marks i 0))
 
 -- One node.
 
@@ -82,14 +69,14 @@ module _ (marks names : List ℕ) (i h : ℕ) (nd : Node) where
       (record { marks_are = λ j. refl; flags_are = fs; highest_is = e })
 
   -- a row
-  pub node_row : (marks' : List ℕ) (k : RowKind) → (get_or marks i 0 ≡ 0 → ⊥) → RowAs nd k
-      → ((j : ℕ) → get_or marks' j 0 ≡ pick (mem j (code_operands (kind_code k) (node_shape nd).left (node_shape nd).right)) 1 (get_or marks j 0))
+  pub node_row : (marks' : List ℕ) {r : OperatorRow} {a b : ℕ} → (get_or marks i 0 ≡ 0 → ⊥) → RowFor nd r a b
+      → ((j : ℕ) → get_or marks' j 0 ≡ pick (mem j (row_operands r.kind a b)) 1 (get_or marks j 0))
       → NodeMarked (is_marked marks i) nd marks names h marks' names h
   unfolding is_marked marks_after flags_after highest_after
-  node_row marks' k n r ms =
+  node_row marks' n s ms =
       rw (ne_eqb (get_or marks i 0) 0 n)
       (record {
-        marks_are = λ j. ms j ∙ ap (λ xs. pick (mem j xs) 1 (get_or marks j 0)) (code_operands_lem k _ _ ∙ sym r.used);
-        flags_are = λ x. sym (pick_no (stands_at x nd) _ _ (r.no_name x));
-        highest_is = no_higher (eqb (get_or names (number_at nd) 0) 0) (number_at nd) h r.no_number;
+        marks_are = λ j. ms j ∙ ap (λ xs. pick (mem j xs) 1 (get_or marks j 0)) (sym (row_used s));
+        flags_are = λ x. sym (pick_no (stands_at x nd) _ _ (row_no_name s x));
+        highest_is = no_higher (eqb (get_or names (number_at nd) 0) 0) (number_at nd) h (row_no_number s);
       })

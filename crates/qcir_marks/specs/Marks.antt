@@ -1,6 +1,6 @@
 -- Which nodes of a matrix are written, and which names without a flag occur at them, as a pass from the root down finds it.
 -- Assumes nothing.
-use Rattle.std.specs.Prelude.{Bool, not, ◌&&◌, ◌||◌, true, List, [], ◌∷◌, ◌≡◌, ℕ, suc, max, eqb, leb, get_or}
+use Rattle.std.specs.Prelude.{Bool, not, ◌&&◌, ◌||◌, true, List, ◌≡◌, ℕ, suc, max, eqb, leb, get_or}
 use Rattle.lists.specs.Choice.{pick}
 use Rattle.lists.specs.Search.{some_below}
 use Rattle.lists.specs.Members.{mem}
@@ -53,10 +53,6 @@ pub record NodeMarked (live : Bool) (nd : Node) (marks names : List ℕ) (h : �
   pub marks_are : (i : ℕ) → get_or marks' i 0 ≡ marks_after live nd marks i
   pub flags_are : (x : ℕ) → get_or names' x 0 ≡ flags_after live nd names x
   pub highest_is : h' ≡ highest_after live nd names h
-
--- The operands that are marked, by the number of a row's kind.
-unfoldable pub code_operands : ℕ → ℕ → ℕ → List ℕ
-code_operands kind a b = pick (eqb kind 0) [] (pick (eqb kind 1) (a ∷ []) (pick (eqb kind 2) (b ∷ []) (a ∷ b ∷ [])))
 
 -- The node is marked.
 unfoldable pub is_marked : List ℕ → ℕ → Bool

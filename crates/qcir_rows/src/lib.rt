@@ -6,117 +6,102 @@ ghost use Rattle.formula.specs.Words.{node_count, node_at};
 ghost use Rattle.acceptance.specs.Accepted.{AcceptedWithin};
 ghost use Rattle.form_check.specs.Verdict.{form_limits};
 ghost use Rattle.qcir_form.specs.Rows.{row};
-ghost use Rattle.qcir_rows.specs.Codes.{row_code, row_table, leaf_shape, node_shape};
+ghost use Rattle.qcir_rows.specs.Shapes.{row_meant, leaf_shape, ShapeFor};
 
 use formula::{NEGATION, OPERATOR, VARIABLE};
 
 // The kinds of rows: a constant, a signed operand, `and` of signed operands, `xor`.
-pub const CONSTANT_ROW: u8 = 0;
+#[derive(Clone, Copy)]
+pub enum RowKind {
+    Constant,
+    Left,
+    Right,
+    And,
+    Xor,
+}
 
-pub const LEFT_ROW: u8 = 1;
-
-pub const RIGHT_ROW: u8 = 2;
-
-pub const AND_ROW: u8 = 3;
-
-pub const XOR_ROW: u8 = 4;
-
-// No row: a variable's name stands there.
-pub const NAME: u8 = 5;
-
-// A row: its kind, and the signs of the left operand, of the right one and of the whole, 1 for a minus.
+// A row: its kind, and whether the left operand, the right one and the whole have a minus sign.
 #[derive(Clone, Copy)]
 pub struct Row {
-    pub kind: u8,
-    pub left: u8,
-    pub right: u8,
-    pub whole: u8,
+    pub kind: RowKind,
+    pub left: bool,
+    pub right: bool,
+    pub whole: bool,
 }
 
-// The rows of truth tables 0 to 15: kind, left, right and whole of each.
-const ROWS: [[u8; 4]; 16] = [
-    [CONSTANT_ROW, 0, 0, 1],
-    [AND_ROW, 1, 1, 0],
-    [AND_ROW, 1, 0, 0],
-    [LEFT_ROW, 0, 0, 1],
-    [AND_ROW, 0, 1, 0],
-    [RIGHT_ROW, 0, 0, 1],
-    [XOR_ROW, 0, 0, 0],
-    [AND_ROW, 0, 0, 1],
-    [AND_ROW, 0, 0, 0],
-    [XOR_ROW, 0, 0, 1],
-    [RIGHT_ROW, 0, 0, 0],
-    [AND_ROW, 0, 1, 1],
-    [LEFT_ROW, 0, 0, 0],
-    [AND_ROW, 1, 0, 1],
-    [AND_ROW, 1, 1, 1],
-    [CONSTANT_ROW, 0, 0, 0],
+// The rows of truth tables 0 to 15: kind, left, right and whole of each. It is a static, which is read where it stands:
+// the compiler would copy a constant that is indexed at each node.
+static ROWS: [(RowKind, bool, bool, bool); 16] = [
+    (RowKind::Constant, false, false, true),
+    (RowKind::And, true, true, false),
+    (RowKind::And, true, false, false),
+    (RowKind::Left, false, false, true),
+    (RowKind::And, false, true, false),
+    (RowKind::Right, false, false, true),
+    (RowKind::Xor, false, false, false),
+    (RowKind::And, false, false, true),
+    (RowKind::And, false, false, false),
+    (RowKind::Xor, false, false, true),
+    (RowKind::Right, false, false, false),
+    (RowKind::And, false, true, true),
+    (RowKind::Left, false, false, false),
+    (RowKind::And, true, false, true),
+    (RowKind::And, true, true, true),
+    (RowKind::Constant, false, false, false),
 ];
 
-// The table of rows. A pass over a matrix takes it once and lends it to what is done at each node.
-pub fn all_rows() -> [[u8; 4]; 16]
-    ensures { result ≡ row_table }
-{
-    ROWS
-}
-
 // The row of an operator's truth table.
-pub fn row_of(rows: &[[u8; 4]; 16], table: usize) -> Row
-    requires { (rows.now ≡ row_table) × (table < 16) }
-    ensures { result ≡ row_code (row table) }
+pub fn row_of(table: usize) -> Row
+    requires { table < 16 }
+    ensures { row_meant result ≡ row table }
 {
+    let (kind, left, right, whole) = ROWS[table];
     Row {
-        kind: rows[table][0],
-        left: rows[table][1],
-        right: rows[table][2],
-        whole: rows[table][3],
+        kind,
+        left,
+        right,
+        whole,
     }
 }
 
-// How a node is written: a row and its operands, or a name, which is `left`.
+// How a node is written: a name, or a row over its operands.
 #[derive(Clone, Copy)]
-pub struct Shape {
-    pub row: Row,
-    pub left: u32,
-    pub right: u32,
+pub enum Shape {
+    Name(u32),
+    Row { row: Row, left: u32, right: u32 },
 }
 
 // How node i of a matrix is written. A not node is the left operand with a minus sign, a constant one of
 // the two constant rows.
-pub fn shape_at(rows: &[[u8; 4]; 16], nodes: &[u32], i: usize) -> Shape
+pub fn shape_at(nodes: &[u32], i: usize) -> Shape
     requires accepted_within { AcceptedWithin form_limits nodes.now [] }
-    requires i_bound { (i < node_count nodes.now) × (rows.now ≡ row_table) }
-    ensures { result ≡ node_shape (node_at nodes.now [] i) }
+    requires i_bound { i < node_count nodes.now }
+    ensures { ShapeFor (node_at nodes.now [] i) result }
 {
     let node = formula::node_at(nodes, i);
-    if node.kind == OPERATOR {
-        let row = row_of(rows, node.a as usize);
-        return Shape {
-            row,
+    match node.kind {
+        OPERATOR => Shape::Row {
+            row: row_of(node.a as usize),
             left: node.b,
             right: node.c,
-        };
+        },
+        NEGATION => leaf(RowKind::Left, true, node.a),
+        VARIABLE => Shape::Name(node.a),
+        _ => leaf(RowKind::Constant, node.a == 0, 0),
     }
-    if node.kind == NEGATION {
-        return leaf(LEFT_ROW, 1, node.a);
-    }
-    if node.kind == VARIABLE {
-        return leaf(NAME, 0, node.a);
-    }
-    leaf(CONSTANT_ROW, 1 - node.a as u8, 0)
 }
 
-// The shape of a node without a right operand.
-fn leaf(kind: u8, whole: u8, left: u32) -> Shape
+// The shape of a row with at most one operand, the left one, which has no sign of its own.
+fn leaf(kind: RowKind, whole: bool, left: u32) -> Shape
     ensures { result ≡ leaf_shape kind whole left }
 {
     let row = Row {
         kind,
-        left: 0,
-        right: 0,
+        left: false,
+        right: false,
         whole,
     };
-    Shape {
+    Shape::Row {
         row,
         left,
         right: 0,

@@ -65,7 +65,7 @@ fn write_accepted(
 {
     let mut literals = [0u32; NODES];
     let last = qcir_marks::mark_written(nodes, &mut literals, names);
-    qcir_literals::fill_literals(nodes, &mut literals, 1 + form_check::higher(last, highest));
+    qcir_literals::fill_literals(nodes, &mut literals, 1 + last.max(highest));
     write_lines(nodes, prefix, variables, names, last, &literals, text)
 }
 

@@ -1,14 +1,9 @@
 -- `qcir_lines::put_free` meets its contract. The invariant: the names below x that have the flag 2 are put.
 -- Assumes nothing.
-use mathlib.Core.Path.{◌≡◌}
-use Prim.Native.Nat.{suc, ◌+◌, ◌*◌, ◌-◌, ◌≤◌}
-use lib.ListN.{length}
+use Prim.Native.Nat.{◌+◌, ◌*◌, ◌≤◌}
 use Rattle.texts.specs.Put.{Put}
 use Rattle.qcir_lines.proofs.Free.{open_line}
 use Rattle.qcir_lines.proofs.put_free.Given as goal
 
 abbrev pub invariant-loop-x : goal.invariant-loop-x
-invariant-loop-x l = (l.x ≤ suc l.highest) × (length l.text ≡ length l.initial.text) × (l.next ≤ l.at + 11 * l.x) × Put l.initial.text l.at (open_line l.names l.x) l.text l.next
-
-abbrev pub decreases-loop-x : goal.decreases-loop-x
-decreases-loop-x l = suc l.highest - l.x
+invariant-loop-x l = (l.next ≤ l.at + 11 * l.x) × Put l.initial.text l.at (open_line l.names l.x) l.text l.next

@@ -5,23 +5,11 @@ use Rattle.texts.proofs.Put.{put_none, put_as}
 use Rattle.qcir_lines.proofs.Free.{name_none, name_first, name_next}
 use Rattle.qcir_lines.proofs.put_free_name.Goals as goal
 
-pub returns-then-flag-ne-FREE : goal.returns-then-flag-ne-FREE
-returns-then-flag-ne-FREE c =
-    record {
-      put = put_as (name_none c.args.first c.args.flag c.args.x (λ z. omega arith)) (put_none _ _);
-      upper_bound = omega arith;
-    }
+pub returns-then-flag-ne-FREE-clause-put : goal.returns-then-flag-ne-FREE-clause-put
+returns-then-flag-ne-FREE-clause-put c = put_as (name_none c.args.first c.args.flag c.args.x (λ e. omega arith)) (put_none _ _)
 
-pub returns-then-first : goal.returns-then-first
-returns-then-first c =
-    record {
-      put = put_as (name_first c.args.first c.args.flag c.args.x (omega arith) c.if-first.true) c.put_first_free.ensures.put;
-      upper_bound = c.put_first_free.ensures.upper_bound;
-    }
+pub returns-then-first-clause-put : goal.returns-then-first-clause-put
+returns-then-first-clause-put c = put_as (name_first c.args.first c.args.flag c.args.x (omega arith) c.if-first.true) c.put_first_free.ensures.put
 
-pub returns : goal.returns
-returns c =
-    record {
-      put = put_as (name_next c.args.first c.args.flag c.args.x (omega arith) c.if-first.false) c.put_next_name.ensures.put;
-      upper_bound = omega (arith, c.put_next_name.ensures.upper_bound);
-    }
+pub returns-clause-put : goal.returns-clause-put
+returns-clause-put c = put_as (name_next c.args.first c.args.flag c.args.x (omega arith) c.if-first.false) c.put_next_name.ensures.put

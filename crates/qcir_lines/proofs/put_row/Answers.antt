@@ -1,42 +1,22 @@
--- `qcir_lines::put_row` meets its contract: the row is `and`, `xor` or a constant.
+-- `qcir_lines::put_row` meets its contract, kind by kind.
 -- Assumes nothing.
-use native.Mathlib.Omega.{arith}
-use Rattle.qcir_text.specs.Pieces.{literal_of}
-use Rattle.texts.proofs.Put.{put_as}
-use Rattle.qcir_lines.proofs.Rows.{unsigned_word, row_and, row_xor, row_constant, row_else}
+use mathlib.Core.Logic.{⊎_elim}
+use Rattle.texts.proofs.Put.{put_none, put_as}
+use Rattle.qcir_lines.proofs.Rows.{unsigned_word, row_and, row_xor, row_constant, row_left, row_right}
 use Rattle.qcir_lines.proofs.put_row.Goals as goal
 
-pub returns-then-row-eq-AND_ROW : goal.returns-then-row-eq-AND_ROW
-returns-then-row-eq-AND_ROW c =
-    record {
-      put = (λ k d e q l r.
-          put_as
-          (row_and k d e c.args.gate (literal_of c.args.l) (literal_of c.args.m) c.args.row.kind q _ _ c.if-row-eq-AND_ROW.true
-          (c.turned-left.ensures.result_value d l)
-          (c.turned-right.ensures.result_value e r))
-          c.put_and.ensures.put);
-      upper_bound = c.put_and.ensures.upper_bound;
-    }
+pub returns-in-Left-clause-put : goal.returns-in-Left-clause-put
+returns-in-Left-clause-put c =
+    ⊎_elim
+    (λ e. rw e (put_as (row_left _ _ _ _ _) (put_none _ _)))
+    (λ e. rw e (put_as (row_right _ _ _ _ _) (put_none _ _)))
+    c.in-Left.is
 
-pub returns-then-row-eq-XOR_ROW : goal.returns-then-row-eq-XOR_ROW
-returns-then-row-eq-XOR_ROW c =
-    record {
-      put = (λ k d e q l r.
-          put_as
-          (row_xor k d e c.args.gate (literal_of c.args.l) (literal_of c.args.m) c.args.row.kind q _ _ c.if-row-eq-XOR_ROW.true
-          (unsigned_word c.args.l)
-          (unsigned_word c.args.m))
-          c.put_xor.ensures.put);
-      upper_bound = c.put_xor.ensures.upper_bound;
-    }
+pub returns-in-And-clause-put : goal.returns-in-And-clause-put
+returns-in-And-clause-put c = rw c.in-And.is (put_as (row_and _ _ _ _ _ _ _ c.turned-left.ensures.result_value c.turned-right.ensures.result_value) c.put_and.ensures.put)
 
-pub returns : goal.returns
-returns c =
-    record {
-      put = (λ k d e q l r.
-          put_as
-          (row_constant k d e c.args.gate (literal_of c.args.l) (literal_of c.args.m) c.args.row.kind q
-          (row_else k d e c.args.gate (literal_of c.args.l) (literal_of c.args.m) c.args.row.kind q c.requires.left_bound.2 c.requires.left_bound.3 c.if-row-eq-AND_ROW.false c.if-row-eq-XOR_ROW.false))
-          c.put_constant.ensures.put);
-      upper_bound = omega (arith, c.put_constant.ensures.upper_bound);
-    }
+pub returns-in-Xor-clause-put : goal.returns-in-Xor-clause-put
+returns-in-Xor-clause-put c = rw c.in-Xor.is (put_as (row_xor _ _ _ _ _ _ _ (unsigned_word c.args.l) (unsigned_word c.args.m)) c.put_xor.ensures.put)
+
+pub returns-in-Constant-clause-put : goal.returns-in-Constant-clause-put
+returns-in-Constant-clause-put c = rw c.in-Constant.is (put_as (row_constant _ _ _ _ _) c.put_constant.ensures.put)

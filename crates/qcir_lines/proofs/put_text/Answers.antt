@@ -24,13 +24,11 @@ put_output-next-requires c =
     let low = c.requires.filled.low (node_count c.args.nodes.now - 1) in
     (omega (arith, short, c.put_header-next.ensures.value, c.put_free-next.ensures.counted, c.put_prefix-next.ensures.counted), omega (arith, low))
 
-pub put_gates-requires : goal.put_gates-requires
-put_gates-requires c =
+pub put_gates-requires-clause-literals_len : goal.put_gates-requires-clause-literals_len
+put_gates-requires-clause-literals_len c =
     let short = pieces_short c.requires.accepted_form c.requires.free_flags c.requires.filled in
-    let at : c.put_output-next.result ≤ last_start = omega (arith, short, c.put_header-next.ensures.value, c.put_free-next.ensures.counted, c.put_prefix-next.ensures.counted, c.put_output-next.ensures.upper_bound) in record {
-      accepted_within = c.requires.accepted_form.matrix;
-      literals_len = (c.requires.literals_len, c.requires.filled.low, at, c.all_rows-rows.ensures);
-    }
+    let at : c.put_output-next.result ≤ last_start = omega (arith, short, c.put_header-next.ensures.value, c.put_free-next.ensures.counted, c.put_prefix-next.ensures.counted, c.put_output-next.ensures.upper_bound) in
+    (c.requires.literals_len, c.requires.filled.low, at)
 
 pub returns : goal.returns
 returns c = put_pieces c.requires.accepted_form c.requires.free_flags c.requires.filled c.put_header-next.ensures.put c.put_free-next.ensures c.put_prefix-next.ensures c.put_output-next.ensures.put c.put_gates.ensures

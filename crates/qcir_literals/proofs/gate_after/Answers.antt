@@ -1,14 +1,16 @@
 -- `qcir_literals::gate_after` meets its contract, kind by kind.
 -- Assumes nothing.
-use mathlib.Core.Logic.{inl, inr}
-use Rattle.qcir_literals.proofs.Codes.{gate_none, gate_one}
+use native.Mathlib.Omega.{arith}
+use mathlib.Core.Logic.{⊎_elim}
+use mathlib.Core.Path.{refl}
+use Rattle.formula.specs.Truth.{digit}
+use Rattle.qcir_form.specs.File.{row_has_gate}
 use Rattle.qcir_literals.proofs.gate_after.Goals as goal
 
-pub returns-then-kind-eq-LEFT_ROW : goal.returns-then-kind-eq-LEFT_ROW
-returns-then-kind-eq-LEFT_ROW c = λ k e. gate_none k c.args.kind c.args.gate e (inl c.if-kind-eq-LEFT_ROW.true)
+pub returns-in-Left : goal.returns-in-Left
+unfolding row_has_gate digit
+returns-in-Left c = ⊎_elim (λ e. rw e (omega arith)) (λ e. rw e (omega arith)) c.in-Left.is
 
-pub returns-then-kind-eq-RIGHT_ROW : goal.returns-then-kind-eq-RIGHT_ROW
-returns-then-kind-eq-RIGHT_ROW c = λ k e. gate_none k c.args.kind c.args.gate e (inr c.if-kind-eq-RIGHT_ROW.true)
-
-pub returns : goal.returns
-returns c = λ k e. gate_one k c.args.kind c.args.gate e c.if-kind-eq-LEFT_ROW.false c.if-kind-eq-RIGHT_ROW.false
+pub returns-in-Constant : goal.returns-in-Constant
+unfolding row_has_gate digit
+returns-in-Constant c = ⊎_elim (λ e. rw e refl) (⊎_elim (λ e. rw e refl) (λ e. rw e refl)) c.in-Constant.is

@@ -1,35 +1,22 @@
 -- `qcir_literals::row_literal` meets its contract, kind by kind.
 -- Assumes nothing.
-use native.Mathlib.Omega.{arith}
-use Rattle.qcir_literals.proofs.Codes.{of_gate, of_xor, row_left, row_right, row_xor, row_else}
+use mathlib.Core.Logic.{⊎_elim}
+use Rattle.qcir_form.specs.File.{row_literal}
+use Rattle.qcir_literals.proofs.Codes.{of_gate, of_xor}
 use Rattle.qcir_literals.proofs.row_literal.Goals as goal
 
-pub returns-then-row-eq-LEFT_ROW : goal.returns-then-row-eq-LEFT_ROW
-returns-then-row-eq-LEFT_ROW c =
-    let a = c.args in
-    let r = c.turned.ensures in record {
-      result_value = λ k w e s. row_left k w a.row.kind a.gate a.l a.m _ e c.if-row-eq-LEFT_ROW.true (r.result_value w s);
-      lower_bound = (λ p q. let l = p c.if-row-eq-LEFT_ROW.true in omega (arith, r.result_value_2), omega (arith, r.result_value_2, c.requires));
-    }
+pub returns-in-Left-clause-result_value : goal.returns-in-Left-clause-result_value
+unfolding row_literal
+returns-in-Left-clause-result_value c = rw c.in-Left.is c.turned.ensures.result_value
 
-pub returns-then-row-eq-RIGHT_ROW : goal.returns-then-row-eq-RIGHT_ROW
-returns-then-row-eq-RIGHT_ROW c =
-    let a = c.args in
-    let r = c.turned-then-row-eq-RIGHT_ROW.ensures in record {
-      result_value = λ k w e s. row_right k w a.row.kind a.gate a.l a.m _ e c.if-row-eq-RIGHT_ROW.true (r.result_value w s);
-      lower_bound = (λ p q. let l = q c.if-row-eq-RIGHT_ROW.true in omega (arith, r.result_value_2), omega (arith, r.result_value_2, c.requires));
-    }
+pub returns-in-Right-clause-result_value : goal.returns-in-Right-clause-result_value
+unfolding row_literal
+returns-in-Right-clause-result_value c = rw c.in-Right.is c.turned-in-Right.ensures.result_value
 
-pub returns-then-row-eq-XOR_ROW : goal.returns-then-row-eq-XOR_ROW
-returns-then-row-eq-XOR_ROW c =
-    let a = c.args in record {
-      result_value = λ k w e s. row_xor k w a.row.kind a.gate a.l a.m _ e c.if-row-eq-XOR_ROW.true (of_xor a.gate a.row.whole a.l a.m w s);
-      lower_bound = (λ p q. omega (arith, c.requires), omega (arith, c.requires));
-    }
+pub returns-in-Xor-clause-result_value : goal.returns-in-Xor-clause-result_value
+unfolding row_literal
+returns-in-Xor-clause-result_value c = let a = c.args in rw c.in-Xor.is (of_xor a.gate a.l a.m a.row.whole)
 
-pub returns : goal.returns
-returns c =
-    let a = c.args in record {
-      result_value = λ k w e s. row_else k w a.row.kind a.gate a.l a.m _ e c.if-row-eq-LEFT_ROW.false c.if-row-eq-RIGHT_ROW.false c.if-row-eq-XOR_ROW.false (of_gate a.gate a.row.whole w s);
-      lower_bound = (λ p q. omega (arith, c.requires), omega (arith, c.requires));
-    }
+pub returns-in-Constant-clause-result_value : goal.returns-in-Constant-clause-result_value
+unfolding row_literal
+returns-in-Constant-clause-result_value c = let g = of_gate c.args.gate c.args.row.whole in ⊎_elim (λ e. rw e g) (λ e. rw e g) c.in-Constant.is

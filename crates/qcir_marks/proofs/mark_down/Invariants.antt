@@ -1,16 +1,9 @@
 -- `qcir_marks::mark_down` meets its contract. The invariant: the nodes from i up are done.
 -- Assumes nothing.
-use mathlib.Core.Path.{◌≡◌}
 use mathlib.Core.List.{[]}
-use Prim.Native.Nat.{◌≤◌}
-use lib.ListN.{length}
-use Rattle.formula.specs.Words.{node_count, table_of}
+use Rattle.formula.specs.Words.{table_of}
 use Rattle.qcir_marks.specs.Marks.{MarkedFrom}
 use Rattle.qcir_marks.proofs.mark_down.Given as goal
 
 abbrev pub invariant-loop-i : goal.invariant-loop-i
-invariant-loop-i l = (l.i ≤ node_count l.nodes) × (length l.marks ≡ length l.initial.marks) × (length l.names ≡ length l.initial.names)
-    × MarkedFrom (table_of l.nodes []) l.initial.names l.i l.marks l.names l.highest
-
-abbrev pub decreases-loop-i : goal.decreases-loop-i
-decreases-loop-i l = l.i
+invariant-loop-i l = MarkedFrom (table_of l.nodes []) l.initial.names l.i l.marks l.names l.highest

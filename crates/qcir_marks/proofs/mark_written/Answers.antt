@@ -1,7 +1,6 @@
 -- `qcir_marks::mark_written` meets its contract: there is a root, and it is marked first.
 -- Assumes nothing.
 use native.Mathlib.Omega.{arith}
-use mathlib.Core.Path.{refl, ◌∙◌}
 use mathlib.Core.List.{[]}
 use Prim.Native.Nat.{◌<◌}
 use lib.ListN.{length-set}
@@ -13,14 +12,8 @@ pub overflow_sub-marks : goal.overflow_sub-marks
 unfolding table_of
 overflow_sub-marks c = let p : 0 < node_count c.args.nodes.now = c.requires.accepted_within.proper.tree.nonempty in omega arith
 
-pub mark_down-requires : goal.mark_down-requires
+pub mark_down-requires-clause-marks_len : goal.mark_down-requires-clause-marks_len
 unfolding table_of
-mark_down-requires c =
-    let l = c.requires.accepted_within.nodes_limit in record {
-      accepted_within = c.requires.accepted_within;
-      marks_len = (simp length-set c.requires.marks_len.0, root_marked (table_of c.args.nodes.now []) c.requires.accepted_within.proper.tree.nonempty c.args.marks.now (omega (arith, l, c.requires.accepted_within.proper.tree.nonempty, c.requires.marks_len.0)) c.requires.marks_len.1);
-      names_len = (c.requires.names_len, refl, c.all_rows-rows.ensures);
-    }
-
-pub shape_of-marks : goal.shape_of-marks
-shape_of-marks c = c.mark_down.auto.marks ∙ simp length-set
+mark_down-requires-clause-marks_len c =
+    let l = c.requires.accepted_within.nodes_limit in
+    (simp length-set c.requires.marks_len.0, root_marked (table_of c.args.nodes.now []) c.requires.accepted_within.proper.tree.nonempty c.args.marks.now (omega (arith, l, c.requires.accepted_within.proper.tree.nonempty, c.requires.marks_len.0)) c.requires.marks_len.1)

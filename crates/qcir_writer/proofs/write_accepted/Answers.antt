@@ -20,17 +20,17 @@ mark_written-last-requires c =
     }
 
 -- what is known once the nodes are marked
-pub overflow_add-higher : goal.overflow_add-higher
-overflow_add-higher c =
+pub overflow_add-max : goal.overflow_add-max
+overflow_add-max c =
     let low = first_low _ _ _ _ _ _ _ c.requires.accepted_form c.requires.names_len.1 c.mark_written-last.ensures c.args.highest c.requires.highest_value in
-    omega (arith, c.higher.ensures, low)
+    omega (arith, c.max.ensures, low)
 
 pub fill_literals-requires : goal.fill_literals-requires
 fill_literals-requires c =
     let low = first_low _ _ _ _ _ _ _ c.requires.accepted_form c.requires.names_len.1 c.mark_written-last.ensures c.args.highest c.requires.highest_value in record {
       accepted_within = c.requires.accepted_form.matrix;
       literals_len = (c.mark_written-last.auto.marks ∙ length-replicate {A = ℕ} 40960 0, c.mark_written-last.ensures.marked);
-      first_nonzero = (omega arith, omega (arith, c.higher.ensures, low));
+      first_nonzero = (omega arith, omega (arith, c.max.ensures, low));
     }
 
 pub write_lines-requires : goal.write_lines-requires
@@ -38,7 +38,7 @@ write_lines-requires c =
     let first = first_gate_lem _ _ _ _ _ _ _ c.requires.accepted_form c.requires.names_len.1 c.mark_written-last.ensures c.args.highest c.requires.highest_value in record {
       accepted_form = c.requires.accepted_form;
       free_flags = open_flags _ _ _ _ _ _ _ c.requires.accepted_form c.requires.names_len.1 c.mark_written-last.ensures (c.mark_written-last.auto.names ∙ c.requires.names_len.0);
-      filled = subst (λ (k : ℕ). Filled (table_of c.args.nodes.now []) k c.fill_literals.new.literals) (sym (first ∙ ap (λ (k : ℕ). 1 + k) (sym c.higher.ensures))) c.fill_literals.ensures;
+      filled = subst (λ (k : ℕ). Filled (table_of c.args.nodes.now []) k c.fill_literals.new.literals) (sym (first ∙ ap (λ (k : ℕ). 1 + k) (sym c.max.ensures))) c.fill_literals.ensures;
       literals_len = c.fill_literals.auto.literals ∙ (c.mark_written-last.auto.marks ∙ length-replicate {A = ℕ} 40960 0);
     }
 
