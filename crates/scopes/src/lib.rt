@@ -37,15 +37,14 @@ pub fn fill_scopes(words: &[u32], list: &[u32], parents: &mut [u32], levels: &mu
     ensures visited { result.visited ≡ node_count words.now }
     ensures counts { BlockCounts (table_of words.now list.now) result.counts }
 {
-    let mut i = words.len() / formula::WIDTH;
-    parents[i - 1] = i as u32;
-    levels[i - 1] = 0;
+    let count = words.len() / formula::WIDTH;
+    parents[count - 1] = count as u32;
+    levels[count - 1] = 0;
     let mut pass = Pass {
         visited: 0,
         counts: block_counts::no_blocks(),
     };
-    while 0 < i {
-        i -= 1;
+    for i in (0..count).rev() {
         pass = fill_node(words, list, parents, levels, pass, i);
     }
     pass
