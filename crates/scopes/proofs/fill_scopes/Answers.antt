@@ -42,24 +42,24 @@ loop-i-init c = (
   rw c.no_blocks.ensures (counts_none (table_of c.args.words.now c.args.list.now)),
 )
 
-pub fill_node-pass-requires-clause-i_bound : goal.fill_node-pass-requires-clause-i_bound
-fill_node-pass-requires-clause-i_bound c = omega (arith, c.loop-i.invariant.0, nodes_few c.args.words.now c.args.list.now c.requires.list_value)
+pub fill_node-requires-clause-i_bound : goal.fill_node-requires-clause-i_bound
+fill_node-requires-clause-i_bound c = omega (arith, c.loop-i.invariant.0, nodes_few c.args.words.now c.args.list.now c.requires.list_value)
 
-pub fill_node-pass-requires-clause-scopes_from : goal.fill_node-pass-requires-clause-scopes_from
-fill_node-pass-requires-clause-scopes_from c =
+pub fill_node-requires-clause-scopes_from : goal.fill_node-requires-clause-scopes_from
+fill_node-requires-clause-scopes_from c =
     let l = c.loop-i in
     let e : l.i ≡ l.i - 1 + 1 = omega arith in
     subst (λ k. ScopesFrom (table_of c.args.words.now c.args.list.now) k l.parents l.levels) e l.invariant.1
 
-pub fill_node-pass-requires-clause-counts_from : goal.fill_node-pass-requires-clause-counts_from
-fill_node-pass-requires-clause-counts_from c =
+pub fill_node-requires-clause-counts_from : goal.fill_node-requires-clause-counts_from
+fill_node-requires-clause-counts_from c =
     let l = c.loop-i in
     let e : l.i ≡ l.i - 1 + 1 = omega arith in
     subst (λ k. CountsFrom (table_of c.args.words.now c.args.list.now) k l.pass.counts) e l.invariant.2
 
 pub loop-i-preserved : goal.loop-i-preserved
 loop-i-preserved c =
-    let e = c.fill_node-pass.ensures in
+    let e = c.fill_node.ensures in
     (omega (arith, c.loop-i.invariant.0, e.visited_value), e.scopes_from_2, e.counts_from_2)
 
 pub returns : goal.returns
