@@ -9,32 +9,22 @@ pub struct NameCounter {
     pub next: u32,
 }
 
-// A name, or the first of several, and the counter after it.
-#[derive(Clone, Copy)]
-pub struct Handed {
-    pub name: u32,
-    pub counter: NameCounter,
-}
-
 impl NameCounter {
     // Hands out the next free number.
-    pub fn take(self) -> Handed
-        requires { self.next < 4294967295 }
-        ensures { (result.name ≡ self.next) × (result.counter.next ≡ self.next + 1) }
+    pub fn take(&mut self) -> u32
+        requires { self.old.next < 4294967295 }
+        ensures { (result ≡ self.old.next) × (self.new.next ≡ self.old.next + 1) }
     {
         self.take_run(1)
     }
 
-    // Hands out the next `count` free numbers, which follow one another from the name on.
-    pub fn take_run(self, count: u32) -> Handed
-        requires { self.next + count ≤ 4294967295 }
-        ensures { (result.name ≡ self.next) × (result.counter.next ≡ self.next + count) }
+    // Hands out the next `count` free numbers, which follow one another from the result on.
+    pub fn take_run(&mut self, count: u32) -> u32
+        requires { self.old.next + count ≤ 4294967295 }
+        ensures { (result ≡ self.old.next) × (self.new.next ≡ self.old.next + count) }
     {
-        Handed {
-            name: self.next,
-            counter: NameCounter {
-                next: self.next + count,
-            },
-        }
+        let name = self.next;
+        self.next += count;
+        name
     }
 }
