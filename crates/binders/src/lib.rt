@@ -209,9 +209,7 @@ fn enter(
     let node = formula::node_at(words, i);
     let first = node.a as usize;
     let count = node.b as usize;
-    let mut k = count;
-    while 0 < k {
-        k -= 1;
+    for k in (0..count).rev() {
         put_entry(heads, entry_nexts, list[first + k], start + k);
     }
     count
@@ -249,10 +247,8 @@ fn leave(
     let node = formula::node_at(words, i);
     let first = node.a as usize;
     let count = node.b as usize;
-    let mut k = 0;
-    while k < count {
+    for k in 0..count {
         heads[list[first + k] as usize] = entry_nexts[start + k + 1];
-        k += 1;
     }
-    k
+    count
 }
