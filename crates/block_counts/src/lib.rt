@@ -12,7 +12,7 @@ const NODES_PER_BLOCK: u32 = 5;
 
 // How many blocks a table has and how many variables they bind, the same of the inner blocks, the
 // nodes that the inner blocks add to the prenex form, and the deepest level.
-#[derive(Clone, Copy)]
+#[derive(Clone, Copy, Default)]
 pub struct Counts {
     pub blocks: u32,
     pub bound: u32,
@@ -26,14 +26,7 @@ pub struct Counts {
 pub fn no_blocks() -> Counts
     ensures { result ≡ no_blocks }
 {
-    Counts {
-        blocks: 0,
-        bound: 0,
-        inner: 0,
-        inner_bound: 0,
-        added: 0,
-        deepest: 0,
-    }
+    Counts::default()
 }
 
 impl Counts {

@@ -140,12 +140,7 @@ fn renumber(node: NodeWords, indices: &[u16]) -> NodeWords
     }
     if node.kind == NEGATION {
         let operand = indices[node.a as usize] as u32;
-        return NodeWords {
-            kind: NEGATION,
-            a: operand,
-            b: node.b,
-            c: node.c,
-        };
+        return NodeWords { a: operand, ..node };
     }
     node
 }
