@@ -116,14 +116,7 @@ fn step(
 {
     if place.link == 0 {
         let block = place.scope;
-        let taken = leave(
-            scopes.words,
-            scopes.list,
-            heads,
-            entry_nexts,
-            scopes.starts[block] as usize,
-            block,
-        );
+        let taken = leave(scopes, heads, entry_nexts, block);
         return Place {
             scope: scopes.parents[block] as usize,
             link: scopes.nexts[block],
@@ -140,14 +133,7 @@ fn step(
             steps: place.steps + 1,
         };
     }
-    let put = enter(
-        scopes.words,
-        scopes.list,
-        heads,
-        entry_nexts,
-        scopes.starts[i] as usize,
-        i,
-    );
+    let put = enter(scopes, heads, entry_nexts, i);
     Place {
         scope: i,
         link: scopes.firsts[i],
@@ -155,29 +141,20 @@ fn step(
     }
 }
 
-// Enters block i: puts its entries, the first of which is entry start, before those of the scope
-// around it. It goes from the last entry down, so that a chain ascends within a block too. It returns how
+// Enters block i: puts its entries before those of the scope around it. It goes from the last entry down, so that a chain ascends within a block too. It returns how
 // many it has put.
-fn enter(
-    words: &[u32],
-    list: &[u32],
-    heads: &mut [u16],
-    entry_nexts: &mut [u16],
-    start: usize,
-    i: usize,
-) -> usize
-    requires list_value { verdict words.now list.now ≡ accepted }
-    requires i_bound { (i < node_count words.now) × (is_block (node_at words.now list.now i) ≡ true) }
-    requires start_value { start ≡ bound_below (table_of words.now list.now) i }
-    requires fact { Open (table_of words.now list.now) (enclosing (table_of words.now list.now) i) 0 heads.old entry_nexts.old }
-    ensures fact_2 { Open (table_of words.now list.now) i 0 heads.new entry_nexts.new }
-    ensures value { result ≡ count (table_of words.now list.now) i }
+fn enter(scopes: &TableScopes, heads: &mut [u16], entry_nexts: &mut [u16], i: usize) -> usize
+    requires i_bound { (i < node_count scopes.now.words.now) × (is_block (node_at scopes.now.words.now scopes.now.list.now i) ≡ true) }
+    requires fact { Open (table_of scopes.now.words.now scopes.now.list.now) (enclosing (table_of scopes.now.words.now scopes.now.list.now) i) 0 heads.old entry_nexts.old }
+    ensures fact_2 { Open (table_of scopes.now.words.now scopes.now.list.now) i 0 heads.new entry_nexts.new }
+    ensures value { result ≡ count (table_of scopes.now.words.now scopes.now.list.now) i }
 {
-    let node = formula::node_at(words, i);
+    let node = formula::node_at(scopes.words, i);
+    let start = scopes.starts[i] as usize;
     let first = node.a as usize;
     let count = node.b as usize;
     for k in (0..count).rev() {
-        put_entry(heads, entry_nexts, list[first + k], start + k);
+        put_entry(heads, entry_nexts, scopes.list[first + k], start + k);
     }
     count
 }
@@ -196,26 +173,18 @@ fn put_entry(heads: &mut [u16], entry_nexts: &mut [u16], x: u32, e: usize)
 
 // Leaves block i: takes its entries from the heads of their chains, the first of them first. It returns
 // how many it has taken away.
-fn leave(
-    words: &[u32],
-    list: &[u32],
-    heads: &mut [u16],
-    entry_nexts: &[u16],
-    start: usize,
-    i: usize,
-) -> usize
-    requires list_value { verdict words.now list.now ≡ accepted }
-    requires i_bound { (i < node_count words.now) × (is_block (node_at words.now list.now i) ≡ true) }
-    requires start_value { start ≡ bound_below (table_of words.now list.now) i }
-    requires fact { Open (table_of words.now list.now) i 0 heads.old entry_nexts.now }
-    ensures fact_2 { Open (table_of words.now list.now) (enclosing (table_of words.now list.now) i) 0 heads.new entry_nexts.now }
-    ensures value { result ≡ count (table_of words.now list.now) i }
+fn leave(scopes: &TableScopes, heads: &mut [u16], entry_nexts: &[u16], i: usize) -> usize
+    requires i_bound { (i < node_count scopes.now.words.now) × (is_block (node_at scopes.now.words.now scopes.now.list.now i) ≡ true) }
+    requires fact { Open (table_of scopes.now.words.now scopes.now.list.now) i 0 heads.old entry_nexts.now }
+    ensures fact_2 { Open (table_of scopes.now.words.now scopes.now.list.now) (enclosing (table_of scopes.now.words.now scopes.now.list.now) i) 0 heads.new entry_nexts.now }
+    ensures value { result ≡ count (table_of scopes.now.words.now scopes.now.list.now) i }
 {
-    let node = formula::node_at(words, i);
+    let node = formula::node_at(scopes.words, i);
+    let start = scopes.starts[i] as usize;
     let first = node.a as usize;
     let count = node.b as usize;
     for k in 0..count {
-        heads[list[first + k] as usize] = entry_nexts[start + k + 1];
+        heads[scopes.list[first + k] as usize] = entry_nexts[start + k + 1];
     }
     count
 }

@@ -7,4 +7,4 @@ use Rattle.binders.proofs.Blocks.{BlockAt}
 use Rattle.binders.proofs.enter.Given as goal
 
 abbrev pub invariant-loop-k : goal.invariant-loop-k
-invariant-loop-k l = BlockAt l.words l.list l.i l.start l.first l.count × Open (table_of l.words l.list) l.i (l.start + l.k) l.heads l.entry_nexts
+invariant-loop-k l = BlockAt l.scopes.words.now l.scopes.list.now l.i l.start l.first l.count × Open (table_of l.scopes.words.now l.scopes.list.now) l.i (l.start + l.k) l.heads l.entry_nexts

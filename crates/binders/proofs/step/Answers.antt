@@ -11,7 +11,7 @@ use Rattle.formula.specs.declared.NodeWords.{NodeWords}
 use Rattle.acceptance.specs.Limits.{limit}
 use Rattle.binders.proofs.Tables.{kind_block}
 use Rattle.binders.proofs.Search.{variable_head, head_binds}
-use Rattle.binders.proofs.Walked.{block_left, Indexed, indexed, start_at, steps_few, count_few, leaves, link_lt, link-is_member, link_open, passes, enters}
+use Rattle.binders.proofs.Walked.{block_left, Indexed, indexed, steps_few, count_few, leaves, link_lt, link-is_member, link_open, passes, enters}
 use Rattle.binders.proofs.step.Goals.{Else-node-eq-VARIABLE, Else-place-eq0, Start, Then-node-eq-VARIABLE, Then-place-eq0}
 use Rattle.binders.proofs.step.Goals as goal
 
@@ -50,17 +50,12 @@ unfolding table_of
 leave-taken-requires c =
     let k = left (goal.at.leave-taken-requires c).Then-place-eq0 in
     let b = c.requires.walking.scope_block k.below in record {
-      list_value = c.args.scopes.now.held.accepts;
       i_bound = (k.below, b);
-      start_value = start_at c.args.scopes.now.held _ k.below b;
       fact = c.requires.walking.opened;
     }
 
 pub bounds-scopes-block-then-place-eq0 : goal.bounds-scopes-block-then-place-eq0
 bounds-scopes-block-then-place-eq0 c = omega (arith, left (goal.at.bounds-scopes-block-then-place-eq0 c).Then-place-eq0)
-
-pub bounds-scopes-block-then-place-eq0-2 : goal.bounds-scopes-block-then-place-eq0-2
-bounds-scopes-block-then-place-eq0-2 c = omega (arith, left (goal.at.bounds-scopes-block-then-place-eq0-2 c).Then-place-eq0)
 
 pub overflow_add-result : goal.overflow_add-result
 overflow_add-result c = omega (arith, few (goal.at.overflow_add-result c).Start)
@@ -104,14 +99,9 @@ unfolding table_of
 enter-put-requires c =
     let k = (come-by (goal.at.enter-put-requires c).Else-place-eq0).below in
     let b = block_here (goal.at.enter-put-requires c).Else-node-eq-VARIABLE in record {
-      list_value = c.args.scopes.now.held.accepts;
       i_bound = (k, b);
-      start_value = start_at c.args.scopes.now.held _ k b;
       fact = link_open c.requires.walking (at_node c.args.place.link c.if-place-eq0.false);
     }
-
-pub bounds-scopes-i-3 : goal.bounds-scopes-i-3
-bounds-scopes-i-3 c = omega (arith, come-by (goal.at.bounds-scopes-i-3 c).Else-place-eq0)
 
 pub overflow_add-result-2 : goal.overflow_add-result-2
 overflow_add-result-2 c = omega (arith, few (goal.at.overflow_add-result-2 c).Start)
