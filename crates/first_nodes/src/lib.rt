@@ -42,9 +42,10 @@ pub fn write_first(
             let name = new_name(words, list, bindings, names, i, node.a);
             formula::put_node(nodes, i, formula::variable_node(name));
         } else if node.kind >= EXISTS_BLOCK {
-            let definition = counter.take();
-            definitions[i] = definition;
-            formula::put_node(nodes, i, formula::variable_node(definition));
+            let handed = counter.take();
+            definitions[i] = handed.name;
+            formula::put_node(nodes, i, formula::variable_node(handed.name));
+            counter = handed.counter;
         } else {
             formula::put_node(nodes, i, node);
         }

@@ -45,9 +45,9 @@ new_name-name-requires-clause-i_bound_2 c =
     let at = goal.at.new_name-name-requires-clause-i_bound_2 c in
     variable_is _ _ (accepted-table at.Start) _ (is_kept at.In-loop-i) c.node_at-node.ensures c.if-node-eq-VARIABLE.true
 
-pub take-definition-requires : goal.take-definition-requires
-take-definition-requires c =
-    let at = goal.at.take-definition-requires c in
+pub take-handed-requires : goal.take-handed-requires
+take-handed-requires c =
+    let at = goal.at.take-handed-requires c in
     name_left _ _ _ c.loop-i.invariant.1 (accepted-table at.Start) (kept_lt _ _ (is_kept at.In-loop-i))
 
 pub bounds-definitions-i : goal.bounds-definitions-i
@@ -73,7 +73,7 @@ loop-i-preserved c =
             rw add-one n.1,
           )
       | else-node-eq-VARIABLE+then-node-ge-EXISTS_BLOCK w ↦
-          let taken = w.take-definition.ensures in
+          let taken = w.take-handed.ensures in
           let block = w.if-node-ge-EXISTS_BLOCK.true in
           let form = block_form _ _ d _ h read block _ (is_definition_lem _ _ _ inv.1 _ taken.0) in
           let n = named_next _ _ _ inv.1 _ taken.0 d (kept_lt _ _ h) inv.2 (is_inner _ _ d _ h read block) taken.1 in
