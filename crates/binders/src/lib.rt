@@ -33,53 +33,36 @@ const NUMBERS: usize = 65536;
 // One slot for each entry, and slot 0 for none.
 const ENTRIES: usize = 4097;
 
+// An accepted table with its scopes: each node's parent block, the variable nodes and blocks chained by
+// it, each the first of its scope or the next after another, and where each block's entries start.
+#[derive(Clone, Copy)]
+pub struct TableScopes<'a> {
+    pub words: &'a [u32],
+    pub list: &'a [u32],
+    pub parents: &'a [u32],
+    pub firsts: &'a [u16],
+    pub nexts: &'a [u16],
+    pub starts: &'a [u16],
+    ghost held: { Scopes words.now list.now parents.now firsts.now nexts.now starts.now },
+}
+
 // Writes, for each variable node, the entry that binds its number and one more; 0 if it is free.
 // `highest` is the table's highest number: where it is low, fewer heads are cleared. It returns how many
 // steps the walk took.
-pub fn find_binders(
-    words: &[u32],
-    list: &[u32],
-    parents: &[u32],
-    firsts: &[u16],
-    nexts: &[u16],
-    starts: &[u16],
-    highest: u32,
-    bindings: &mut [u16],
-) -> usize
-    requires scopes { Scopes words.now list.now parents.now firsts.now nexts.now starts.now }
-    requires highest_value { highest ≡ highest_number (table_of words.now list.now) }
+pub fn find_binders(scopes: &TableScopes, highest: u32, bindings: &mut [u16]) -> usize
+    requires highest_value { highest ≡ highest_number (table_of scopes.now.words.now scopes.now.list.now) }
     requires bindings_len { length bindings.old ≡ limit }
-    ensures bindings { Bindings (table_of words.now list.now) bindings.new }
-    ensures steps { result ≡ walk_steps (table_of words.now list.now) }
-    ensures linear { result ≤ 2 * (node_count words.now + bound_count (table_of words.now list.now)) }
+    ensures bindings { Bindings (table_of scopes.now.words.now scopes.now.list.now) bindings.new }
+    ensures steps { result ≡ walk_steps (table_of scopes.now.words.now scopes.now.list.now) }
+    ensures linear { result ≤ 2 * (node_count scopes.now.words.now + bound_count (table_of scopes.now.words.now scopes.now.list.now)) }
 {
     let mut entry_nexts = [0u16; ENTRIES];
     if (highest as usize) < FEW_NUMBERS {
         let mut heads = [0u16; FEW_NUMBERS];
-        return walk(
-            words,
-            list,
-            parents,
-            firsts,
-            nexts,
-            starts,
-            bindings,
-            &mut heads,
-            &mut entry_nexts,
-        );
+        return walk(scopes, bindings, &mut heads, &mut entry_nexts);
     }
     let mut heads = [0u16; NUMBERS];
-    walk(
-        words,
-        list,
-        parents,
-        firsts,
-        nexts,
-        starts,
-        bindings,
-        &mut heads,
-        &mut entry_nexts,
-    )
+    walk(scopes, bindings, &mut heads, &mut entry_nexts)
 }
 
 // Where the walk stands: in the scope of a block, or of none at the table's size; and at one more than
@@ -92,42 +75,25 @@ pub struct Place {
 }
 
 fn walk(
-    words: &[u32],
-    list: &[u32],
-    parents: &[u32],
-    firsts: &[u16],
-    nexts: &[u16],
-    starts: &[u16],
+    scopes: &TableScopes,
     bindings: &mut [u16],
     heads: &mut [u16],
     entry_nexts: &mut [u16],
 ) -> usize
-    requires scopes { Scopes words.now list.now parents.now firsts.now nexts.now starts.now }
     requires bindings_len { length bindings.old ≡ limit }
-    requires fact { Open (table_of words.now list.now) (node_count words.now) 0 heads.old entry_nexts.old }
-    ensures bindings { Bindings (table_of words.now list.now) bindings.new }
-    ensures steps { result ≡ walk_steps (table_of words.now list.now) }
-    ensures linear { result ≤ 2 * (node_count words.now + bound_count (table_of words.now list.now)) }
+    requires fact { Open (table_of scopes.now.words.now scopes.now.list.now) (node_count scopes.now.words.now) 0 heads.old entry_nexts.old }
+    ensures bindings { Bindings (table_of scopes.now.words.now scopes.now.list.now) bindings.new }
+    ensures steps { result ≡ walk_steps (table_of scopes.now.words.now scopes.now.list.now) }
+    ensures linear { result ≤ 2 * (node_count scopes.now.words.now + bound_count (table_of scopes.now.words.now scopes.now.list.now)) }
 {
-    let size = words.len() / formula::WIDTH;
+    let size = scopes.words.len() / formula::WIDTH;
     let mut place = Place {
         scope: size,
-        link: firsts[size],
+        link: scopes.firsts[size],
         steps: 0,
     };
     while place.link != 0 || place.scope < size {
-        place = step(
-            words,
-            list,
-            parents,
-            firsts,
-            nexts,
-            starts,
-            bindings,
-            heads,
-            entry_nexts,
-            place,
-        );
+        place = step(scopes, bindings, heads, entry_nexts, place);
     }
     place.steps
 }
@@ -135,84 +101,60 @@ fn walk(
 // Comes by one node: past the last node of a scope it leaves the block; it finds a variable node's entry
 // and goes on to the next, or enters a block. The steps that it takes are no longer left to take.
 fn step(
-    words: &[u32],
-    list: &[u32],
-    parents: &[u32],
-    firsts: &[u16],
-    nexts: &[u16],
-    starts: &[u16],
+    scopes: &TableScopes,
     bindings: &mut [u16],
     heads: &mut [u16],
     entry_nexts: &mut [u16],
     place: Place,
 ) -> Place
-    requires scopes { Scopes words.now list.now parents.now firsts.now nexts.now starts.now }
-    requires walking { Walking words.now list.now bindings.old heads.old entry_nexts.old place }
-    requires unfinished { Unfinished words.now list.now place }
-    requires place_value { place.steps + steps_left (table_of words.now list.now) place ≡ walk_steps (table_of words.now list.now) }
-    ensures walking_2 { Walking words.now list.now bindings.new heads.new entry_nexts.new result }
-    ensures result_value { result.steps + steps_left (table_of words.now list.now) result ≡ place.steps + steps_left (table_of words.now list.now) place }
+    requires walking { Walking scopes.now.words.now scopes.now.list.now bindings.old heads.old entry_nexts.old place }
+    requires unfinished { Unfinished scopes.now.words.now scopes.now.list.now place }
+    requires place_value { place.steps + steps_left (table_of scopes.now.words.now scopes.now.list.now) place ≡ walk_steps (table_of scopes.now.words.now scopes.now.list.now) }
+    ensures walking_2 { Walking scopes.now.words.now scopes.now.list.now bindings.new heads.new entry_nexts.new result }
+    ensures result_value { result.steps + steps_left (table_of scopes.now.words.now scopes.now.list.now) result ≡ place.steps + steps_left (table_of scopes.now.words.now scopes.now.list.now) place }
     ensures steps_lt_steps { place.steps < result.steps }
 {
     if place.link == 0 {
         let block = place.scope;
-        let taken = leave(
-            words,
-            list,
-            heads,
-            entry_nexts,
-            starts[block] as usize,
-            block,
-        );
+        let taken = leave(scopes, heads, entry_nexts, block);
         return Place {
-            scope: parents[block] as usize,
-            link: nexts[block],
+            scope: scopes.parents[block] as usize,
+            link: scopes.nexts[block],
             steps: place.steps + 1 + taken,
         };
     }
     let i = place.link as usize - 1;
-    let node = formula::node_at(words, i);
+    let node = formula::node_at(scopes.words, i);
     if node.kind == VARIABLE {
         bindings[i] = heads[node.a as usize];
         return Place {
             scope: place.scope,
-            link: nexts[i],
+            link: scopes.nexts[i],
             steps: place.steps + 1,
         };
     }
-    let put = enter(words, list, heads, entry_nexts, starts[i] as usize, i);
+    let put = enter(scopes, heads, entry_nexts, i);
     Place {
         scope: i,
-        link: firsts[i],
+        link: scopes.firsts[i],
         steps: place.steps + 1 + put,
     }
 }
 
-// Enters block i: puts its entries, the first of which is entry start, before those of the scope
-// around it. It goes from the last entry down, so that a chain ascends within a block too. It returns how
+// Enters block i: puts its entries before those of the scope around it. It goes from the last entry down, so that a chain ascends within a block too. It returns how
 // many it has put.
-fn enter(
-    words: &[u32],
-    list: &[u32],
-    heads: &mut [u16],
-    entry_nexts: &mut [u16],
-    start: usize,
-    i: usize,
-) -> usize
-    requires list_value { verdict words.now list.now ≡ accepted }
-    requires i_bound { (i < node_count words.now) × (is_block (node_at words.now list.now i) ≡ true) }
-    requires start_value { start ≡ bound_below (table_of words.now list.now) i }
-    requires fact { Open (table_of words.now list.now) (enclosing (table_of words.now list.now) i) 0 heads.old entry_nexts.old }
-    ensures fact_2 { Open (table_of words.now list.now) i 0 heads.new entry_nexts.new }
-    ensures value { result ≡ count (table_of words.now list.now) i }
+fn enter(scopes: &TableScopes, heads: &mut [u16], entry_nexts: &mut [u16], i: usize) -> usize
+    requires i_bound { (i < node_count scopes.now.words.now) × (is_block (node_at scopes.now.words.now scopes.now.list.now i) ≡ true) }
+    requires fact { Open (table_of scopes.now.words.now scopes.now.list.now) (enclosing (table_of scopes.now.words.now scopes.now.list.now) i) 0 heads.old entry_nexts.old }
+    ensures fact_2 { Open (table_of scopes.now.words.now scopes.now.list.now) i 0 heads.new entry_nexts.new }
+    ensures value { result ≡ count (table_of scopes.now.words.now scopes.now.list.now) i }
 {
-    let node = formula::node_at(words, i);
+    let node = formula::node_at(scopes.words, i);
+    let start = scopes.starts[i] as usize;
     let first = node.a as usize;
     let count = node.b as usize;
-    let mut k = count;
-    while 0 < k {
-        k -= 1;
-        put_entry(heads, entry_nexts, list[first + k], start + k);
+    for k in (0..count).rev() {
+        put_entry(heads, entry_nexts, scopes.list[first + k], start + k);
     }
     count
 }
@@ -231,28 +173,18 @@ fn put_entry(heads: &mut [u16], entry_nexts: &mut [u16], x: u32, e: usize)
 
 // Leaves block i: takes its entries from the heads of their chains, the first of them first. It returns
 // how many it has taken away.
-fn leave(
-    words: &[u32],
-    list: &[u32],
-    heads: &mut [u16],
-    entry_nexts: &[u16],
-    start: usize,
-    i: usize,
-) -> usize
-    requires list_value { verdict words.now list.now ≡ accepted }
-    requires i_bound { (i < node_count words.now) × (is_block (node_at words.now list.now i) ≡ true) }
-    requires start_value { start ≡ bound_below (table_of words.now list.now) i }
-    requires fact { Open (table_of words.now list.now) i 0 heads.old entry_nexts.now }
-    ensures fact_2 { Open (table_of words.now list.now) (enclosing (table_of words.now list.now) i) 0 heads.new entry_nexts.now }
-    ensures value { result ≡ count (table_of words.now list.now) i }
+fn leave(scopes: &TableScopes, heads: &mut [u16], entry_nexts: &[u16], i: usize) -> usize
+    requires i_bound { (i < node_count scopes.now.words.now) × (is_block (node_at scopes.now.words.now scopes.now.list.now i) ≡ true) }
+    requires fact { Open (table_of scopes.now.words.now scopes.now.list.now) i 0 heads.old entry_nexts.now }
+    ensures fact_2 { Open (table_of scopes.now.words.now scopes.now.list.now) (enclosing (table_of scopes.now.words.now scopes.now.list.now) i) 0 heads.new entry_nexts.now }
+    ensures value { result ≡ count (table_of scopes.now.words.now scopes.now.list.now) i }
 {
-    let node = formula::node_at(words, i);
+    let node = formula::node_at(scopes.words, i);
+    let start = scopes.starts[i] as usize;
     let first = node.a as usize;
     let count = node.b as usize;
-    let mut k = 0;
-    while k < count {
-        heads[list[first + k] as usize] = entry_nexts[start + k + 1];
-        k += 1;
+    for k in 0..count {
+        heads[scopes.list[first + k] as usize] = entry_nexts[start + k + 1];
     }
-    k
+    count
 }

@@ -13,6 +13,7 @@ ghost use Rattle.arrays.specs.Held.{Parents};
 ghost use Rattle.bindings.specs.Found.{Found};
 
 use acceptance::LIMIT;
+use binders::TableScopes;
 
 // One scope for each node, and that outside all blocks.
 const SCOPES: usize = LIMIT + 1;
@@ -45,8 +46,14 @@ pub fn find_bindings(
         starts,
         bound,
     );
-    binders::find_binders(
-        words, list, parents, &firsts, &nexts, starts, highest, bindings,
-    );
+    let scopes = TableScopes {
+        words,
+        list,
+        parents,
+        firsts: &firsts,
+        nexts: &nexts,
+        starts,
+    };
+    binders::find_binders(&scopes, highest, bindings);
     highest
 }

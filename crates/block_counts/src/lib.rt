@@ -12,7 +12,7 @@ const NODES_PER_BLOCK: u32 = 5;
 
 // How many blocks a table has and how many variables they bind, the same of the inner blocks, the
 // nodes that the inner blocks add to the prenex form, and the deepest level.
-#[derive(Clone, Copy)]
+#[derive(Clone, Copy, Default)]
 pub struct Counts {
     pub blocks: u32,
     pub bound: u32,
@@ -26,40 +26,29 @@ pub struct Counts {
 pub fn no_blocks() -> Counts
     ensures { result ≡ no_blocks }
 {
-    Counts {
-        blocks: 0,
-        bound: 0,
-        inner: 0,
-        inner_bound: 0,
-        added: 0,
-        deepest: 0,
-    }
+    Counts::default()
 }
 
-// The counts with a root block that binds so many variables.
-pub fn count_root(counts: Counts, count: u32) -> Counts
-    requires { Small (with_root count counts) }
-    ensures { result ≡ with_root count counts }
-{
-    let mut c = counts;
-    c.blocks += 1;
-    c.bound += count;
-    c
-}
-
-// The counts with an inner block of a level that binds so many variables.
-pub fn count_inner(counts: Counts, count: u32, level: u32) -> Counts
-    requires { Small (with_inner count level counts) }
-    ensures { result ≡ with_inner count level counts }
-{
-    let mut c = counts;
-    c.blocks += 1;
-    c.bound += count;
-    c.inner += 1;
-    c.inner_bound += count;
-    c.added += NODES_PER_VARIABLE * count + NODES_PER_BLOCK;
-    if c.deepest < level {
-        c.deepest = level;
+impl Counts {
+    // Counts a root block that binds so many variables.
+    pub fn count_root(&mut self, count: u32)
+        requires { Small (with_root count self.old) }
+        ensures { self.new ≡ with_root count self.old }
+    {
+        self.blocks += 1;
+        self.bound += count;
     }
-    c
+
+    // Counts an inner block of a level that binds so many variables.
+    pub fn count_inner(&mut self, count: u32, level: u32)
+        requires { Small (with_inner count level self.old) }
+        ensures { self.new ≡ with_inner count level self.old }
+    {
+        self.blocks += 1;
+        self.bound += count;
+        self.inner += 1;
+        self.inner_bound += count;
+        self.added += NODES_PER_VARIABLE * count + NODES_PER_BLOCK;
+        self.deepest = self.deepest.max(level);
+    }
 }

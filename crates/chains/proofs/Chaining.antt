@@ -3,11 +3,9 @@
 use mathlib.Core.Path.{◌≡◌, sym, ◌∙◌, subst}
 use mathlib.Core.Bool.{true, false}
 use mathlib.Core.List.{List}
-use Prim.Native.Nat.{ℕ, suc, ◌+◌, ◌-◌, ◌<◌, ◌≤◌, max}
+use Prim.Native.Nat.{ℕ, suc, ◌+◌, ◌<◌, ◌≤◌, max}
 use native.Mathlib.Numerals.{add-one}
 use native.Mathlib.Omega.{arith}
-use mir.Syntax.{w16}
-use mir.Val.{Fits}
 use lib.ListN.{length, get_or, set, length-set}
 use lib.Seq.{get_or-set_same, get_or-set_other}
 use Rattle.lists.specs.Choice.{clash}
@@ -110,7 +108,7 @@ module _ (ws ls : List ℕ) (ok : verdict ws ls ≡ accepted) (i : ℕ) (h : i <
     highest_with x e = omega (arith, e, s.highest_is, highest_next (λ j. highest_at (node_at ws ls j)) i)
 
     pub plain_passed : (w : NodeWords) → w ≡ words_at ws i → (w.kind ≡ 2 → ⊥) → is_block (node_at ws ls i) ≡ false
-        → ChainedFrom (table_of ws ls) i firsts nexts starts (record { node = i; start = p.start; highest = p.highest })
+        → ChainedFrom (table_of ws ls) i firsts nexts starts (record { start = p.start; highest = p.highest })
     unfolding table_of
     plain_passed w r n e =
         let m = plain_member ws ls i w r n e in
@@ -126,7 +124,7 @@ module _ (ws ls : List ℕ) (ok : verdict ws ls ≡ accepted) (i : ℕ) (h : i <
 
     module _ (firsts' nexts' : List ℕ) (fl : length firsts' ≡ length firsts) (nl : length nexts' ≡ length nexts) (members : MembersFrom (table_of ws ls) i firsts' nexts') where
       pub variable_passed : (w : NodeWords) → w ≡ words_at ws i → w.kind ≡ 2 → (y : ℕ) → y ≡ max p.highest w.a
-          → ChainedFrom (table_of ws ls) i firsts' nexts' starts (record { node = i; start = p.start; highest = y })
+          → ChainedFrom (table_of ws ls) i firsts' nexts' starts (record { start = p.start; highest = y })
       unfolding table_of is_block highest_at
       variable_passed w r k y ey =
           let v = variable_read ws ls i w r k in
@@ -142,34 +140,32 @@ module _ (ws ls : List ℕ) (ok : verdict ws ls ≡ accepted) (i : ℕ) (h : i <
           }
 
       pub block_passed : (w : NodeWords) → w ≡ words_at ws i → is_block (node_at ws ls i) ≡ true
-          → (x y : ℕ) → x ≡ maximum (range ls w.a w.b) → y ≡ max p.highest x
-          → ChainedFrom (table_of ws ls) i firsts' nexts' (set starts i (p.start - w.b)) (record { node = i; start = p.start - w.b; highest = y })
+          → (starts' : List ℕ) (q : Passed) → starts' ≡ set starts i q.start → q.start + w.b ≡ p.start
+          → q.highest ≡ max p.highest (maximum (range ls w.a w.b))
+          → ChainedFrom (table_of ws ls) i firsts' nexts' starts' q
       unfolding table_of
-      block_passed w r e x y ex ey =
-          let v : p.start - w.b ≡ bound_below (table_of ws ls) i = omega (arith, s.start_here, start_before w r e) in
+      block_passed w r e starts' q es eq ey =
+          let v : q.start ≡ bound_below (table_of ws ls) i = omega (arith, s.start_here, start_before w r e) in
           record {
             firsts_length = fl ∙ s.firsts_length;
             nexts_length = nl ∙ s.nexts_length;
-            starts_length = length-set starts i (p.start - w.b) ∙ s.starts_length;
+            starts_length = rw es (length-set starts i q.start ∙ s.starts_length);
             members_linked = members;
             start_is =
-                from_here (λ j. is_block (node_at ws ls j) ≡ true → get_or (set starts i (p.start - w.b)) j 0 ≡ bound_below (table_of ws ls) j) i (node_count ws)
-                (λ y. get_or-set_same starts i (p.start - w.b) 0 (omega (arith, s.starts_length, nodes_few ws ls ok)) ∙ v)
-                (λ j k l y. get_or-set_other starts i j (p.start - w.b) 0 (λ q. omega arith) ∙ s.start_is j (omega arith) l y);
+                rw es (from_here (λ j. is_block (node_at ws ls j) ≡ true → get_or (set starts i q.start) j 0 ≡ bound_below (table_of ws ls) j) i (node_count ws)
+                (λ y. get_or-set_same starts i q.start 0 (omega (arith, s.starts_length, nodes_few ws ls ok)) ∙ v)
+                (λ j k l y. get_or-set_other starts i j q.start 0 (λ d. omega arith) ∙ s.start_is j (omega arith) l y));
             start_here = v;
-            highest_is = rw ey (highest_with x (block_highest ws ls i w r e ∙ sym ex));
+            highest_is = rw ey (highest_with _ (block_highest ws ls i w r e));
           }
 
     -- the block's entries are among those counted
     pub start_fits : (w : NodeWords) → w ≡ words_at ws i → is_block (node_at ws ls i) ≡ true → (w.b ≤ p.start) × (p.start ≤ limit)
     start_fits w r e = (omega (arith, s.start_here, start_before w r e), omega (arith, s.start_here, start_small))
 
-    pub start_narrow : (w : NodeWords) → w ≡ words_at ws i → is_block (node_at ws ls i) ≡ true → Fits w16 (p.start - w.b)
-    start_narrow w r e = omega (arith, (start_fits w r e).1)
-
 module _ (ws ls : List ℕ) (firsts nexts starts : List ℕ) where
   pub passed_none : (q : ℕ) → q ≡ bound_count (table_of ws ls) → Cleared (suc limit) firsts nexts → length starts ≡ limit
-      → ChainedFrom (table_of ws ls) (node_count ws) firsts nexts starts (record { node = node_count ws; start = q; highest = 0 })
+      → ChainedFrom (table_of ws ls) (node_count ws) firsts nexts starts (record { start = q; highest = 0 })
   unfolding table_of bound_count highest_number
   passed_none q e c l =
       record {

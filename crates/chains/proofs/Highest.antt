@@ -3,11 +3,12 @@
 use mathlib.Core.Path.{◌≡◌, refl, sym, ◌∙◌, ap}
 use mathlib.Core.Bool.{true, false}
 use mathlib.Core.List.{List, [], ◌∷◌, ◌++◌}
-use Prim.Native.Nat.{ℕ, max, ◌+◌, ◌<◌}
+use Prim.Native.Nat.{ℕ, max, ◌+◌, ◌-◌, ◌<◌, ◌≤◌}
 use native.Mathlib.Omega.{arith}
 use native.Mathlib.Numerals.{add-one}
-use lib.ListN.{length, get_or, take, drop, length-drop}
-use lib.Seq.{take-suc, get_or-drop}
+use lib.ListN.{length, get_or, take, drop}
+use lib.Seq.{take-suc}
+use Rattle.std.proofs.lemmas.List.{take_all}
 use Rattle.lists.specs.Choice.{clash}
 use Rattle.lists.specs.Members.{maximum}
 use Rattle.lists.specs.Parts.{highest}
@@ -18,21 +19,22 @@ use Rattle.formula.proofs.Nodes.{node_block}
 use Rattle.prenex_form.specs.Names.{highest_at}
 use Rattle.arrays.specs.Held.{is_member}
 
-pub maximum_none : (ls : List ℕ) (first : ℕ) → 0 ≡ maximum (range ls first 0)
-unfolding range maximum
-maximum_none ls first = refl
-
 maximum_snoc : (xs : List ℕ) (y : ℕ) → maximum (xs ++ (y ∷ [])) ≡ max (maximum xs) y
 unfolding maximum
 maximum_snoc [] y = omega arith
 maximum_snoc (x ∷ xs) y = omega (arith, maximum_snoc xs y)
 
-pub maximum_next : (ls : List ℕ) (first k : ℕ) → first + k < length ls
-    → max (maximum (range ls first k)) (get_or ls (first + k) 0) ≡ maximum (range ls first (k + 1))
+-- one entry more
+pub maximum_next : (xs : List ℕ) (k : ℕ) {x y : ℕ} → k < length xs → x ≡ maximum (take k xs) → y ≡ max x (get_or xs k 0) → y ≡ maximum (take (k + 1) xs)
+maximum_next xs k h e f = f ∙ rw (e, add-one, take-suc xs k 0) (sym (maximum_snoc (take k xs) (get_or xs k 0)))
+
+-- all entries of a range
+pub maximum_all : (ls : List ℕ) (first n k : ℕ) {x : ℕ} → length (take (first + n - first) (drop first ls)) ≤ k
+    → x ≡ maximum (take k (take (first + n - first) (drop first ls))) → x ≡ maximum (range ls first n)
 unfolding range
-maximum_next ls first k h =
-    let l : k < length (drop first ls) = omega (arith, length-drop first ls) in
-    rw (add-one, take-suc (drop first ls) k 0, get_or-drop first ls k 0) (sym (maximum_snoc (take k (drop first ls)) (get_or ls (first + k) 0)))
+maximum_all ls first n k h e =
+    let q : first + n - first ≡ n = omega arith in
+    e ∙ ap maximum (take_all k _ h ∙ ap (λ m. take m (drop first ls)) q)
 
 pub highest_next : (f : ℕ → ℕ) (i : ℕ) → highest f (i + 1) ≡ max (highest f i) (f i)
 unfolding highest

@@ -3,21 +3,14 @@
 use mathlib.Core.Path.{◌≡◌, ◌∙◌, ap}
 use mathlib.Core.Bool.{true, false}
 use mathlib.Core.List.{List}
-use Prim.Native.Nat.{ℕ, ◌*◌, ◌<◌}
-use native.Mathlib.Omega.{arith}
-use mir.Syntax.{w64}
-use mir.Val.{Fits}
-use lib.ListN.{length}
+use Prim.Native.Nat.{ℕ}
 use Rattle.lists.specs.Choice.{pick}
 use Rattle.formula.specs.Node.{variable, is_block}
 use Rattle.formula.specs.declared.NodeWords.{NodeWords}
-use Rattle.formula.specs.Words.{node_count, words_at, node_of, node_at}
-use Rattle.refusals.specs.Verdict.{accepted}
-use Rattle.acceptance.specs.Limits.{limit}
-use Rattle.acceptance.specs.Verdict.{verdict}
+use Rattle.formula.specs.Words.{words_at, node_of, node_at}
 use Rattle.arrays.specs.Held.{is_member}
 use Rattle.arrays.proofs.Members.{no_member}
-use Rattle.arrays.proofs.Nodes.{node_read, nodes_few}
+use Rattle.arrays.proofs.Nodes.{node_read}
 
 module _ (ws ls : List ℕ) (i : ℕ) (w : NodeWords) (r : w ≡ words_at ws i) where
   pub variable_read : w.kind ≡ 2 → node_at ws ls i ≡ variable w.a
@@ -30,10 +23,3 @@ module _ (ws ls : List ℕ) (i : ℕ) (w : NodeWords) (r : w ≡ words_at ws i) 
 
   pub plain_member : (w.kind ≡ 2 → ⊥) → is_block (node_at ws ls i) ≡ false → is_member (node_at ws ls i) ≡ false
   plain_member p e = no_member ws ls i (λ k. p (ap (λ (v : NodeWords). v.kind) r ∙ k)) e
-
-module _ (ws ls : List ℕ) (ok : verdict ws ls ≡ accepted) (i : ℕ) (h : i < node_count ws) where
-  pub index_lt : (l : List ℕ) → length l ≡ limit → i < length l
-  index_lt l e = omega (arith, nodes_few ws ls ok)
-
-  pub index_fits : Fits w64 (i * 2)
-  index_fits = omega (arith, nodes_few ws ls ok)

@@ -20,13 +20,12 @@ ghost use Rattle.arrays.specs.Held.{
 };
 ghost use Rattle.chains.specs.Chaining.{Cleared, LevelsFrom, MembersFrom, ChainedFrom};
 
-use formula::VARIABLE;
+use formula::{NodeWords, VARIABLE};
 
-// What the pass over the members has found of the nodes from `node` up: how many entries stand before
+// What the pass over the members has found of the nodes that are done: how many entries stand before
 // theirs, and their highest number.
 #[derive(Clone, Copy)]
 pub struct Passed {
-    pub node: usize,
     pub start: usize,
     pub highest: u32,
 }
@@ -52,59 +51,35 @@ pub fn chain_members(
     ensures highest { (result ≡ highest_number (table_of words.now list.now)) × (result ≤ 65535) }
 {
     let mut passed = Passed {
-        node: words.len() / formula::WIDTH,
         start: bound,
         highest: 0,
     };
-    while 0 < passed.node {
-        passed = chain_node(words, list, parents, firsts, nexts, starts, passed);
+    for i in (0..words.len() / formula::WIDTH).rev() {
+        let node = formula::node_at(words, i);
+        if node.kind == VARIABLE {
+            chain_member(words, list, parents, firsts, nexts, i);
+            passed.highest = passed.highest.max(node.a);
+        } else if formula::is_block_kind(node.kind) {
+            chain_member(words, list, parents, firsts, nexts, i);
+            count_block(list, starts, &mut passed, node, i);
+        }
     }
     passed.highest
 }
 
-// The same of the node below those that are done.
-fn chain_node(
-    words: &[u32],
-    list: &[u32],
-    parents: &[u32],
-    firsts: &mut [u16],
-    nexts: &mut [u16],
-    starts: &mut [u16],
-    passed: Passed,
-) -> Passed
-    requires list_value { verdict words.now list.now ≡ accepted }
-    requires parents_len { (length parents.now ≡ limit) × Parents (table_of words.now list.now) parents.now }
-    requires node_nonzero { (0 < passed.node) × (passed.node ≤ node_count words.now) }
-    requires chained_from { ChainedFrom (table_of words.now list.now) passed.node firsts.old nexts.old starts.old passed }
-    ensures chained_from_2 { ChainedFrom (table_of words.now list.now) result.node firsts.new nexts.new starts.new result }
-    ensures node_value { result.node + 1 ≡ passed.node }
+// Counts the entries of block i, and writes how many stand before them.
+fn count_block(list: &[u32], starts: &mut [u16], passed: &mut Passed, node: NodeWords, i: usize)
+    requires i_in_bounds { i < length starts.old }
+    requires entries_counted { (node.b ≤ passed.old.start) × (passed.old.start ≤ limit) }
+    requires entries_in_bounds { node.a + node.b ≤ length list.now }
+    ensures starts_after { starts.new ≡ set starts.old i passed.new.start }
+    ensures start_value { passed.new.start + node.b ≡ passed.old.start }
+    ensures highest_value { passed.new.highest ≡ max passed.old.highest (maximum (range list.now node.a node.b)) }
 {
-    let i = passed.node - 1;
-    let node = formula::node_at(words, i);
-    if node.kind == VARIABLE {
-        chain_member(words, list, parents, firsts, nexts, i);
-        return Passed {
-            node: i,
-            start: passed.start,
-            highest: larger(passed.highest, node.a),
-        };
-    }
-    if !formula::is_block_kind(node.kind) {
-        return Passed {
-            node: i,
-            start: passed.start,
-            highest: passed.highest,
-        };
-    }
-    chain_member(words, list, parents, firsts, nexts, i);
-    let before = passed.start - node.b as usize;
-    starts[i] = before as u16;
+    passed.start -= node.b as usize;
+    starts[i] = passed.start as u16;
     let highest = highest_entry(list, node.a as usize, node.b as usize);
-    Passed {
-        node: i,
-        start: before,
-        highest: larger(passed.highest, highest),
-    }
+    passed.highest = passed.highest.max(highest);
 }
 
 // Node i, a variable node or a block, goes before those above it that have its parent block.
@@ -141,9 +116,7 @@ pub fn chain_levels(
     requires cleared { Cleared limit firsts.old nexts.old }
     ensures { LevelChains (table_of words.now list.now) firsts.new nexts.new }
 {
-    let mut i = words.len() / formula::WIDTH - 1;
-    while 0 < i {
-        i -= 1;
+    for i in (0..words.len() / formula::WIDTH - 1).rev() {
         chain_level(words, list, levels, firsts, nexts, i);
     }
 }
@@ -187,17 +160,9 @@ fn highest_entry(list: &[u32], first: usize, count: usize) -> u32
     requires { first + count ≤ length list.now }
     ensures { result ≡ maximum (range list.now first count) }
 {
-    let mut highest: u32 = 0;
-    let mut k: usize = 0;
-    while k < count {
-        highest = larger(highest, list[first + k]);
-        k += 1;
+    let mut highest = 0;
+    for x in &list[first..first + count] {
+        highest = highest.max(*x);
     }
     highest
-}
-
-fn larger(a: u32, b: u32) -> u32
-    ensures { result ≡ max a b }
-{
-    if a < b { b } else { a }
 }

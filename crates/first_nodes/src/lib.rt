@@ -16,7 +16,8 @@ use formula::{EXISTS_BLOCK, VARIABLE};
 use names::NameCounter;
 
 // Writes the first nodes of the prenex form, of which there are `count`, and the definition variables
-// of the inner blocks to their array.
+// of the inner blocks to their array: a variable renamed, a block replaced by its definition variable,
+// and any other node as it is.
 pub fn write_first(
     nodes: &mut [u32],
     words: &[u32],
@@ -35,47 +36,20 @@ pub fn write_first(
     ensures definitions { Definitions (table_of words.now list.now) definitions.new }
 {
     let mut counter = counter;
-    let mut i = 0;
-    while i < count {
-        counter = write_node(nodes, words, list, bindings, names, definitions, counter, i);
-        i += 1;
+    for i in 0..count {
+        let node = formula::node_at(words, i);
+        if node.kind == VARIABLE {
+            let name = new_name(words, list, bindings, names, i, node.a);
+            formula::put_node(nodes, i, formula::variable_node(name));
+        } else if node.kind >= EXISTS_BLOCK {
+            let handed = counter.take();
+            definitions[i] = handed.name;
+            formula::put_node(nodes, i, formula::variable_node(handed.name));
+            counter = handed.counter;
+        } else {
+            formula::put_node(nodes, i, node);
+        }
     }
-}
-
-// Writes node i: the input's, a variable renamed, a block replaced by its definition variable.
-fn write_node(
-    nodes: &mut [u32],
-    words: &[u32],
-    list: &[u32],
-    bindings: &[u16],
-    names: u32,
-    definitions: &mut [u32],
-    counter: NameCounter,
-    i: usize,
-) -> NameCounter
-    requires given { Given words.now list.now bindings.now names }
-    requires counted_1 { Counted words.now list.now i definitions.old counter }
-    requires counted_2 { DefinedBelow (table_of words.now list.now) i definitions.old }
-    requires i_bound_1 { i < kept (table_of words.now list.now) }
-    requires i_bound_2 { width * i + width ≤ length nodes.old }
-    ensures nodes_after { nodes.new ≡ overwrite nodes.old (width * i) (node_words (renamed (table_of words.now list.now) i (node_at words.now list.now i))) }
-    ensures counted_2 { Counted words.now list.now (suc i) definitions.new result }
-    ensures defined_below { DefinedBelow (table_of words.now list.now) (suc i) definitions.new }
-{
-    let node = formula::node_at(words, i);
-    if node.kind == VARIABLE {
-        let name = new_name(words, list, bindings, names, i, node.a);
-        formula::put_node(nodes, i, formula::variable_node(name));
-        return counter;
-    }
-    if node.kind >= EXISTS_BLOCK {
-        let handed = counter.take();
-        definitions[i] = handed.name;
-        formula::put_node(nodes, i, formula::variable_node(handed.name));
-        return handed.counter;
-    }
-    formula::put_node(nodes, i, node);
-    counter
 }
 
 // The new name of the number x at variable node i.

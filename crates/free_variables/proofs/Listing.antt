@@ -5,14 +5,13 @@ use mathlib.Core.Bool.{Bool, true, false}
 use mathlib.Core.List.{List, [], ◌∷◌, ◌++◌, append-nil}
 use Prim.Native.Nat.{ℕ, zero, suc, ◌+◌, ◌-◌, ◌≤◌, ◌<◌}
 use native.Mathlib.Omega.{arith}
-use lib.Dec.{eqb}
-use lib.ListN.{length, get_or, length-append}
-use borrow.Author.Tests.{eqb-true, eqb-false, lt-ltb, le-ltb}
-use Rattle.lists.specs.Choice.{pick, pick_yes, pick_no, Is, is_true, is_false, look}
+use lib.ListN.{length, get_or, set, length-append}
+use borrow.Author.Tests.{lt-ltb, le-ltb}
+use Rattle.lists.specs.Choice.{pick, pick_yes, pick_no}
 use Rattle.lists.specs.Parts.{up_to, passing, overwrite}
 use Rattle.lists.proofs.Parts.{up_to_split}
 use Rattle.lists.proofs.Passing.{chosen_length}
-use Rattle.lists.proofs.Overwrite.{overwrite_next, length_next, room_for-part}
+use Rattle.lists.proofs.Overwrite.{set_one, up_to_next, overwrite_next, length_next, room_for-part}
 use Rattle.formula.specs.Words.{table_of}
 use Rattle.formula.specs.FreeVariables.{free_variables}
 use Rattle.refusals.specs.Verdict.{refusal, accepted}
@@ -21,15 +20,7 @@ use Rattle.refusals.specs.declared.Verdict.{Verdict}
 use Rattle.refusals.proofs.Outcome.{call_next, call_refused, call_room, call_short}
 use Rattle.acceptance.specs.Verdict.{verdict}
 use Rattle.free_variables.specs.Outcome.{after, listing, listed}
-use Rattle.free_variables.specs.Steps.{chosen, flagged}
-
-pub chosen_yes : (flag : Bool) (x : ℕ) → flag ≡ true → chosen flag x ≡ x ∷ []
-unfolding chosen
-chosen_yes flag x e = pick_yes _ _ _ e
-
-pub chosen_no : (flag : Bool) (x : ℕ) → flag ≡ false → chosen flag x ≡ []
-unfolding chosen
-chosen_no flag x e = pick_no _ _ _ e
+use Rattle.free_variables.specs.Steps.{flagged}
 
 empty : (xs : List ℕ) → length xs ≡ 0 → xs ≡ []
 empty [] h = refl
@@ -46,20 +37,11 @@ module _ (flags : List Bool) where
   flagged_none zero none = refl
   flagged_none (suc n) none = rw (pick_no (get_or flags n false) (n ∷ []) [] (none n (omega arith)), flagged_none n (λ x h. none x (omega arith)))
 
-  pub flagged_count : (x : ℕ) → length (flagged_below (x + 1)) ≡ length (flagged_below x) + pick (get_or flags x false) 1 0
-  unfolding passing chosen
+  flagged_count : (x : ℕ) → length (flagged_below (x + 1)) ≡ length (flagged_below x) + pick (get_or flags x false) 1 0
+  unfolding passing
   flagged_count x =
-      length_next (λ y. chosen (get_or flags y false) y) x
+      length_next (λ y. pick (get_or flags y false) (y ∷ []) []) x
       ∙ ap (λ n. length (flagged_below x) + n) (chosen_length (get_or flags x false) x)
-
-  -- where some are left, the flags go on
-  pub flagged_on : (x : ℕ) → x ≤ length flags → length (flagged_below x) < length (flagged flags) → x < length flags
-  unfolding flagged
-  flagged_on x l h = go (look (eqb x (length flags)))
-    where
-      go : Is (eqb x (length flags)) → x < length flags
-      go (is_true e) = let q : length (flagged_below x) ≡ length (flagged_below (length flags)) = ap (λ (n : ℕ). length (flagged_below n)) (eqb-true x (length flags) e) in absurd (omega arith)
-      go (is_false e) = let q : x ≡ length flags → ⊥ = eqb-false x (length flags) e in omega arith
 
   -- where none are left, these are all
   pub flagged_all : (x : ℕ) → x ≤ length flags → length (flagged flags) ≤ length (flagged_below x) → flagged_below x ≡ flagged flags
@@ -73,19 +55,32 @@ module _ (flags : List Bool) where
       let none : s.0 ≡ [] = empty s.0 (omega (arith, ap length all, length-append (up_to g x) s.0)) in
       sym (all ∙ ap (λ (r : List ℕ). up_to g x ++ r) none ∙ append-nil (up_to g x))
 
-  pub flagged_room : (x room : ℕ) → x < length flags → length (flagged flags) ≤ room → length (flagged_below (x + 1)) ≤ room
-  unfolding flagged passing
-  flagged_room x room h fits =
-      omega (arith, room_for-part (λ y. pick (get_or flags y false) (y ∷ []) []) 0 x (length flags) room h (omega arith))
+  -- a number whose flag is not set
+  pub flagged_skip : (x : ℕ) → get_or flags x false ≡ false → flagged_below x ≡ flagged_below (x + 1)
+  unfolding passing
+  flagged_skip x e =
+      let g : ℕ → List ℕ = λ y. pick (get_or flags y false) (y ∷ []) [] in
+      sym (up_to_next g x ∙ ap (λ r. up_to g x ++ r) (pick_no (get_or flags x false) (x ∷ []) [] e) ∙ append-nil (up_to g x))
 
-  pub flagged_next : (out cur next : List ℕ) (x : ℕ) → cur ≡ overwrite out 0 (flagged_below x)
-      → next ≡ overwrite cur (length (flagged_below x)) (chosen (get_or flags x false) x) → length (flagged_below (x + 1)) ≤ length out
-      → next ≡ overwrite out 0 (flagged_below (x + 1))
-  unfolding passing chosen
-  flagged_next out cur next x p q fits =
-      let at : length (flagged_below x) ≡ 0 + length (flagged_below x) = omega arith in
-      overwrite_next (λ y. chosen (get_or flags y false) y) out cur next 0 x p
-      (q ∙ ap (λ n. overwrite cur n (chosen (get_or flags x false) x)) at) (omega arith)
+  -- one whose flag is set: it has room, and is written
+  module _ (x : ℕ) (h : x < length flags) (set_here : get_or flags x false ≡ true) where
+    pub flagged_more : length (flagged_below x) + 1 ≡ length (flagged_below (x + 1))
+    flagged_more = omega (arith, flagged_count x, pick_yes {A = ℕ} (get_or flags x false) 1 0 set_here)
+
+    pub flagged_room : (room : ℕ) → length (flagged flags) ≤ room → length (flagged_below x) < room
+    unfolding flagged passing
+    flagged_room room fits =
+        omega (arith, flagged_more, room_for-part (λ y. pick (get_or flags y false) (y ∷ []) []) 0 x (length flags) room h (omega arith))
+
+    pub flagged_next : (out cur : List ℕ) (at : ℕ) → length cur ≡ length out → length (flagged flags) ≤ length out
+        → at ≡ length (flagged_below x) → cur ≡ overwrite out 0 (flagged_below x) → set cur at x ≡ overwrite out 0 (flagged_below (x + 1))
+    unfolding passing
+    flagged_next out cur at l fits e p =
+        let room = flagged_room (length out) fits in
+        let one : pick (get_or flags x false) (x ∷ []) [] ≡ x ∷ [] = pick_yes (get_or flags x false) (x ∷ []) [] set_here in
+        let start : at ≡ 0 + length (flagged_below x) = omega arith in
+        overwrite_next (λ y. pick (get_or flags y false) (y ∷ []) []) out cur (set cur at x) 0 x p
+        (rw (← start, one) (set_one cur at x (omega arith))) (omega (arith, flagged_more))
 
 -- The answer and the buffer at each return.
 

@@ -1,7 +1,6 @@
 -- The listing in steps: what the functions of this crate compute. The public contract cites none of these definitions.
 -- Assumes nothing.
-use Rattle.std.specs.Prelude.{Bool, false, List, [], ◌∷◌, ◌≡◌, ℕ, ◌<◌, ◌≤◌, length, get_or}
-use Rattle.lists.specs.Choice.{pick}
+use Rattle.std.specs.Prelude.{Bool, false, List, ◌≡◌, ℕ, ◌<◌, ◌≤◌, length, get_or}
 use Rattle.lists.specs.Search.{some_below}
 use Rattle.lists.specs.Parts.{passing}
 use Rattle.formula.specs.Node.{Table}
@@ -34,7 +33,3 @@ pub record Flagged (t : Table) (flags : List Bool) (i : ℕ) (s : FlagsSet) : Ty
 -- Before that.
 abbrev pub Clear : Table → List Bool → Type 0
 Clear t flags = Flagged t flags 0 (record { count = 0; lowest = length flags })
-
--- x, if its flag is set.
-unfoldable pub chosen : Bool → ℕ → List ℕ
-chosen flag x = pick flag (x ∷ []) []

@@ -2,7 +2,6 @@
 #![tactic(auto)]
 
 ghost use Rattle.std.specs.Prelude.{true, ◌≡◌, ◌+◌, ◌<◌, ◌≤◌, length, set};
-ghost use Rattle.lists.specs.Choice.{pick};
 ghost use Rattle.lists.specs.Parts.{overwrite};
 ghost use Rattle.formula.specs.Words.{node_count, table_of};
 ghost use Rattle.formula.specs.FreeVariables.{free_variables};
@@ -12,7 +11,7 @@ ghost use Rattle.acceptance.specs.Verdict.{verdict};
 ghost use Rattle.prenex_form.specs.Names.{highest_number};
 ghost use Rattle.arrays.specs.Held.{Bound};
 ghost use Rattle.free_variables.specs.Outcome.{after, listing, listed};
-ghost use Rattle.free_variables.specs.Steps.{AreSet, Flagged, Clear, chosen, flagged};
+ghost use Rattle.free_variables.specs.Steps.{AreSet, Flagged, Clear, flagged};
 
 use acceptance::LIMIT;
 use formula::VARIABLE;
@@ -143,10 +142,8 @@ fn flag_unbound(words: &[u32], list: &[u32], bindings: &[u16], flags: &mut [bool
         count: 0,
         lowest: flags.len(),
     };
-    let mut i: usize = 0;
-    while i < words.len() / formula::WIDTH {
-        found = flag_node(words, list, bindings, flags, found, i);
-        i += 1;
+    for i in 0..words.len() / formula::WIDTH {
+        flag_node(words, list, bindings, flags, &mut found, i);
     }
     found
 }
@@ -157,46 +154,37 @@ fn flag_node(
     list: &[u32],
     bindings: &[u16],
     flags: &mut [bool],
-    found: FlagsSet,
+    found: &mut FlagsSet,
     i: usize,
-) -> FlagsSet
+)
     requires list_value { verdict words.now list.now ≡ accepted }
     requires bound { Bound words.now list.now bindings.now }
     requires i_bound { i < node_count words.now }
-    requires flagged { Flagged (table_of words.now list.now) flags.old i found }
-    ensures { Flagged (table_of words.now list.now) flags.new (i + 1) result }
+    requires flagged { Flagged (table_of words.now list.now) flags.old i found.old }
+    ensures { Flagged (table_of words.now list.now) flags.new (i + 1) found.new }
 {
     let node = formula::node_at(words, i);
     if node.kind != VARIABLE {
-        return found;
+        return;
     }
     if bindings[i] > 0 {
-        return found;
+        return;
     }
-    set_flag(flags, node.a as usize, found)
+    set_flag(flags, node.a as usize, found);
 }
 
 // Sets the flag of x.
-fn set_flag(flags: &mut [bool], x: usize, found: FlagsSet) -> FlagsSet
+fn set_flag(flags: &mut [bool], x: usize, found: &mut FlagsSet)
     requires x_in_bounds { (x < length flags.old) × (length flags.old ≤ 65536) }
-    requires are_set { AreSet flags.old found }
-    ensures { (flags.new ≡ set flags.old x true) × AreSet flags.new result }
+    requires are_set { AreSet flags.old found.old }
+    ensures { (flags.new ≡ set flags.old x true) × AreSet flags.new found.new }
 {
     let seen = flags[x];
     flags[x] = true;
-    if seen {
-        return found;
+    if !seen {
+        found.count += 1;
+        found.lowest = found.lowest.min(x);
     }
-    FlagsSet {
-        count: found.count + 1,
-        lowest: lower(found.lowest, x),
-    }
-}
-
-fn lower(a: usize, b: usize) -> usize
-    ensures { (result ≤ a) × (result ≤ b) }
-{
-    if a < b { a } else { b }
 }
 
 // Writes the numbers whose flag is set ascending to the start of `names`. It looks at no flag below the
@@ -206,22 +194,14 @@ fn write_flagged(flags: &[bool], found: FlagsSet, names: &mut [u32])
     requires count_in_bounds { found.count ≤ length names.old }
     ensures { names.new ≡ overwrite names.old 0 (flagged flags.now) }
 {
-    let mut at: usize = 0;
-    let mut x = found.lowest;
-    while at < found.count {
-        at = write_one(names, at, flags[x], x as u32);
-        x += 1;
+    let mut at = 0;
+    for x in found.lowest..flags.len() {
+        if flags[x] {
+            names[at] = x as u32;
+            at += 1;
+            if at == found.count {
+                return;
+            }
+        }
     }
-}
-
-// Writes x at index `at` if its flag is set. The result is the index where the next name goes.
-fn write_one(names: &mut [u32], at: usize, flag: bool, x: u32) -> usize
-    requires { at < length names.old }
-    ensures { (names.new ≡ overwrite names.old at (chosen flag x)) × (result ≡ at + pick flag 1 0) }
-{
-    if !flag {
-        return at;
-    }
-    names[at] = x;
-    at + 1
 }

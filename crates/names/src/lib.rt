@@ -3,7 +3,8 @@
 
 ghost use Rattle.std.specs.Prelude.{◌≡◌, ◌+◌, ◌≤◌, ◌<◌};
 
-// The next free number. Every new name is handed out by it.
+// The next free number. Every new name is handed out by it. It is a value that each naming hands on to the
+// next: a rule of the project asks for this form, in place of a counter changed where it stands.
 #[derive(Clone, Copy)]
 pub struct NameCounter {
     pub next: u32,

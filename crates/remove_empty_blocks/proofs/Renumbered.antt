@@ -15,7 +15,7 @@ module _ (index : ℕ → ℕ) (w : NodeWords) where
   unfolding renumbered pick is_block_kind words_of
   renumbered_operator e = rw e
 
-  pub renumbered_negation : w.kind ≡ 3 → record { kind = 3; a = index w.a; b = w.b; c = w.c } ≡ renumbered index w
+  pub renumbered_negation : w.kind ≡ 3 → record { kind = w.kind; a = index w.a; b = w.b; c = w.c } ≡ renumbered index w
   unfolding renumbered pick is_block_kind
   renumbered_negation e = rw e
 

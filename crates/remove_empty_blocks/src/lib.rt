@@ -71,10 +71,8 @@ fn count_left(words: &[u32]) -> usize
     ensures { result ≡ left_below words.now (node_count words.now) }
 {
     let mut left: usize = 0;
-    let mut i: usize = 0;
-    while i < words.len() / WIDTH {
+    for i in 0..words.len() / WIDTH {
         left += stays(words, i) as usize;
-        i += 1;
     }
     left
 }
@@ -96,10 +94,8 @@ fn write_left(words: &[u32], nodes: &mut [u32])
 {
     let mut indices = [0u16; LIMIT];
     let mut at: usize = 0;
-    let mut i: usize = 0;
-    while i < words.len() / WIDTH {
+    for i in 0..words.len() / WIDTH {
         at = write_node(words, nodes, &mut indices, i, at);
-        i += 1;
     }
 }
 
@@ -144,12 +140,7 @@ fn renumber(node: NodeWords, indices: &[u16]) -> NodeWords
     }
     if node.kind == NEGATION {
         let operand = indices[node.a as usize] as u32;
-        return NodeWords {
-            kind: NEGATION,
-            a: operand,
-            b: node.b,
-            c: node.c,
-        };
+        return NodeWords { a: operand, ..node };
     }
     node
 }

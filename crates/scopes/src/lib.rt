@@ -37,16 +37,15 @@ pub fn fill_scopes(words: &[u32], list: &[u32], parents: &mut [u32], levels: &mu
     ensures visited { result.visited ≡ node_count words.now }
     ensures counts { BlockCounts (table_of words.now list.now) result.counts }
 {
-    let mut i = words.len() / formula::WIDTH;
-    parents[i - 1] = i as u32;
-    levels[i - 1] = 0;
+    let count = words.len() / formula::WIDTH;
+    parents[count - 1] = count as u32;
+    levels[count - 1] = 0;
     let mut pass = Pass {
         visited: 0,
         counts: block_counts::no_blocks(),
     };
-    while 0 < i {
-        i -= 1;
-        pass = fill_node(words, list, parents, levels, pass, i);
+    for i in (0..count).rev() {
+        fill_node(words, list, parents, levels, &mut pass, i);
     }
     pass
 }
@@ -59,37 +58,30 @@ fn fill_node(
     list: &[u32],
     parents: &mut [u32],
     levels: &mut [u16],
-    pass: Pass,
+    pass: &mut Pass,
     i: usize,
-) -> Pass
+)
     requires list_value { verdict words.now list.now ≡ accepted }
-    requires i_bound { (i < node_count words.now) × (pass.visited < limit) }
+    requires i_bound { (i < node_count words.now) × (pass.old.visited < limit) }
     requires parents_len { (length parents.old ≡ limit) × (length levels.old ≡ limit) }
     requires scopes_from { ScopesFrom (table_of words.now list.now) (i + 1) parents.old levels.old }
-    requires counts_from { CountsFrom (table_of words.now list.now) (i + 1) pass.counts }
+    requires counts_from { CountsFrom (table_of words.now list.now) (i + 1) pass.old.counts }
     ensures scopes_from_2 { ScopesFrom (table_of words.now list.now) i parents.new levels.new }
-    ensures visited_value { result.visited ≡ pass.visited + 1 }
-    ensures counts_from_2 { CountsFrom (table_of words.now list.now) i result.counts }
+    ensures visited_value { pass.new.visited ≡ pass.old.visited + 1 }
+    ensures counts_from_2 { CountsFrom (table_of words.now list.now) i pass.new.counts }
 {
     let node = formula::node_at(words, i);
     let block = parents[i];
     let level = levels[i];
-    let visited = pass.visited + 1;
-    let counts = pass.counts;
+    pass.visited += 1;
     if node.kind == OPERATOR {
         hand_down(parents, levels, node.b, block, level);
         hand_down(parents, levels, node.c, block, level);
-        return Pass { visited, counts };
-    }
-    if node.kind == NEGATION {
+    } else if node.kind == NEGATION {
         hand_down(parents, levels, node.a, block, level);
-        return Pass { visited, counts };
+    } else if formula::is_block_kind(node.kind) {
+        fill_block(words, list, parents, levels, &mut pass.counts, i);
     }
-    if formula::is_block_kind(node.kind) {
-        let counts = fill_block(words, list, parents, levels, counts, i);
-        return Pass { visited, counts };
-    }
-    Pass { visited, counts }
 }
 
 // The same of a block, but for the visit: it is its body's parent block. An inner one is one level below
@@ -99,27 +91,28 @@ fn fill_block(
     list: &[u32],
     parents: &mut [u32],
     levels: &mut [u16],
-    counts: Counts,
+    counts: &mut Counts,
     i: usize,
-) -> Counts
+)
     requires list_value { verdict words.now list.now ≡ accepted }
     requires i_bound { (i < node_count words.now) × (is_block (node_at words.now list.now i) ≡ true) }
     requires parents_len { (length parents.old ≡ limit) × (length levels.old ≡ limit) }
     requires scopes_from { ScopesFrom (table_of words.now list.now) (i + 1) parents.old levels.old }
-    requires counts_from { CountsFrom (table_of words.now list.now) (i + 1) counts }
+    requires counts_from { CountsFrom (table_of words.now list.now) (i + 1) counts.old }
     ensures scopes_from_2 { ScopesFrom (table_of words.now list.now) i parents.new levels.new }
-    ensures counts_from_2 { CountsFrom (table_of words.now list.now) i result }
+    ensures counts_from_2 { CountsFrom (table_of words.now list.now) i counts.new }
 {
     let node = formula::node_at(words, i);
     let inherited = levels[i];
     let level = inherited + 1;
     if i + 1 == words.len() / formula::WIDTH {
         hand_down(parents, levels, node.c, i as u32, inherited);
-        return block_counts::count_root(counts, node.b);
+        counts.count_root(node.b);
+    } else {
+        levels[i] = level;
+        hand_down(parents, levels, node.c, i as u32, level);
+        counts.count_inner(node.b, level as u32);
     }
-    levels[i] = level;
-    hand_down(parents, levels, node.c, i as u32, level);
-    block_counts::count_inner(counts, node.b, level as u32)
 }
 
 // Operand x of a node inherits a parent block and a level.

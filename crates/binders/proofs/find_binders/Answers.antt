@@ -10,17 +10,15 @@ use Rattle.binders.proofs.find_binders.Goals as goal
 pub walk-requires : goal.walk-requires
 unfolding table_of
 walk-requires c =
-    let a = accepted_holds _ _ c.requires.scopes.accepts in record {
-      scopes = c.requires.scopes;
+    let a = accepted_holds _ _ c.args.scopes.now.held.accepts in record {
       bindings_len = c.requires.bindings_len;
-      fact = open_outside (table_of c.args.words.now c.args.list.now) a.proper.tree 4096 (omega (arith, c.requires.highest_value, c.if-highest-lt-FEW_NUMBERS.true));
+      fact = open_outside (table_of c.args.scopes.now.words.now c.args.scopes.now.list.now) a.proper.tree 4096 (omega (arith, c.requires.highest_value, c.if-highest-lt-FEW_NUMBERS.true));
     }
 
 pub walk-requires-2 : goal.walk-requires-2
 unfolding table_of
 walk-requires-2 c =
-    let a = accepted_holds _ _ c.requires.scopes.accepts in record {
-      scopes = c.requires.scopes;
+    let a = accepted_holds _ _ c.args.scopes.now.held.accepts in record {
       bindings_len = c.requires.bindings_len;
-      fact = open_outside (table_of c.args.words.now c.args.list.now) a.proper.tree 65536 (omega (arith, highest_limit _ _ a));
+      fact = open_outside (table_of c.args.scopes.now.words.now c.args.scopes.now.list.now) a.proper.tree 65536 (omega (arith, highest_limit _ _ a));
     }

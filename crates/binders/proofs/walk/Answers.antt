@@ -1,7 +1,7 @@
--- `binders::walk` meets its contract. The loop's invariant: `Walking`, as many heads, and the steps taken and those left are those of the
+-- `binders::walk` meets its contract. The loop's invariant: `Walking`, and the steps taken and those left are those of the
 -- whole walk. The measure is the steps left.
 -- Assumes nothing.
-use mathlib.Core.Path.{◌≡◌, refl, sym, ◌∙◌}
+use mathlib.Core.Path.{◌≡◌, refl, ◌∙◌}
 use mathlib.Core.Logic.{inl, inr}
 use Prim.Native.Nat.{ℕ, ◌<◌}
 use native.Mathlib.Omega.{arith}
@@ -10,14 +10,14 @@ use Rattle.binders.proofs.Walked.{nodes_few, begun, begun_steps, ended, ended_st
 use Rattle.binders.proofs.walk.Goals.{then-place-ne0, else-place-ne0+then-place-size}
 use Rattle.binders.proofs.walk.Goals as goal
 
-pub offset_bounds-firsts-size : goal.offset_bounds-firsts-size
-offset_bounds-firsts-size c = omega (arith, nodes_few c.requires.scopes)
+pub offset_bounds-scopes-size : goal.offset_bounds-scopes-size
+offset_bounds-scopes-size c = omega (arith, nodes_few c.args.scopes.now.held)
 
-pub bounds-firsts-size : goal.bounds-firsts-size
-bounds-firsts-size c = omega (arith, nodes_few c.requires.scopes, c.requires.scopes.firsts_length)
+pub bounds-scopes-size : goal.bounds-scopes-size
+bounds-scopes-size c = omega (arith, nodes_few c.args.scopes.now.held, c.args.scopes.now.held.firsts_length)
 
 pub loop-place-init : goal.loop-place-init
-loop-place-init c = (begun c.requires.scopes _ _ c.requires.bindings_len c.requires.fact refl refl, refl, begun_steps c.requires.scopes _ refl refl refl)
+loop-place-init c = (begun c.args.scopes.now.held _ _ c.requires.bindings_len c.requires.fact refl refl, begun_steps c.args.scopes.now.held _ refl refl refl)
 
 -- the loop's test
 goes_on : (link : ℕ) → (link ≡ 0 → ⊥) → 0 < link
@@ -25,11 +25,10 @@ goes_on link n = omega arith
 
 pub step-place-requires : goal.step-place-requires
 step-place-requires c =
-    let go : Unfinished c.args.words.now c.args.list.now c.loop-place.place = elim c.if-place-ne0.branch [ then-place-ne0 w ↦ inr (goes_on _ w.if-place-ne0.true) | else-place-ne0+then-place-size w ↦ inl (omega (arith, w.if-place-size.true)) ] in record {
-      scopes = c.requires.scopes;
+    let go : Unfinished c.args.scopes.now.words.now c.args.scopes.now.list.now c.loop-place.place = elim c.if-place-ne0.branch [ then-place-ne0 w ↦ inr (goes_on _ w.if-place-ne0.true) | else-place-ne0+then-place-size w ↦ inl (omega (arith, w.if-place-size.true)) ] in record {
       walking = c.loop-place.invariant.0;
       unfinished = go;
-      place_value = c.loop-place.invariant.2;
+      place_value = c.loop-place.invariant.1;
     }
 
 pub loop-place-smaller : goal.loop-place-smaller
@@ -38,24 +37,15 @@ loop-place-smaller c = let d = c.step-place.ensures in omega (arith, d.result_va
 pub loop-place-preserved : goal.loop-place-preserved
 loop-place-preserved c =
     let v = c.loop-place.invariant in
-    (c.step-place.ensures.walking_2, c.step-place.auto.heads ∙ v.1, c.step-place.ensures.result_value ∙ v.2)
-
-pub shape_of-bindings : goal.shape_of-bindings
-shape_of-bindings c = c.loop-place.invariant.0.bindings_length ∙ sym c.requires.bindings_len
-
-pub shape_of-heads : goal.shape_of-heads
-shape_of-heads c = c.loop-place.invariant.1
-
-pub shape_of-entry_nexts : goal.shape_of-entry_nexts
-shape_of-entry_nexts c = c.loop-place.invariant.0.opened.nexts_length ∙ sym c.requires.fact.nexts_length
+    (c.step-place.ensures.walking_2, c.step-place.ensures.result_value ∙ v.1)
 
 pub returns : goal.returns
 returns c =
-    let s = c.requires.scopes in
+    let s = c.args.scopes.now.held in
     let v = c.loop-place.invariant in
     let z = c.if-place-ne0.false in
     let h = c.if-place-size.false in
-    let n = ended_steps s v.0 h z v.2 in record {
+    let n = ended_steps s v.0 h z v.1 in record {
       bindings = ended s v.0 h z;
       steps = n;
       linear = omega (arith, steps_linear s);

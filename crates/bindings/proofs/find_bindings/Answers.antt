@@ -13,25 +13,6 @@ chain_members-highest-requires c =
       cleared = (record { firsts_length = refl; nexts_length = refl; firsts_clear = λ k. get_or-filled 4097 k 0 }, p.starts_len.0);
     }
 
-pub find_binders-requires : goal.find_binders-requires
-find_binders-requires c =
-    let p = c.requires in
-    let e = c.chain_members-highest.ensures in
-    let k = c.chain_members-highest.auto in record {
-      scopes = record {
-        accepts = p.list_value;
-        parents_length = p.parents_len.0;
-        firsts_length = k.firsts;
-        nexts_length = k.nexts;
-        starts_length = k.starts ∙ p.starts_len.0;
-        parents_hold = p.parents_len.1;
-        chains_hold = e.chains;
-        starts_hold = e.starts;
-      };
-      highest_value = e.highest.0;
-      bindings_len = p.starts_len.1;
-    }
-
 pub returns : goal.returns
 returns c =
     let p = c.requires in

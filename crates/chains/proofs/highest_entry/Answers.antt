@@ -1,18 +1,17 @@
--- `chains::highest_entry` meets its contract. The loop's invariant: the highest so far is that of the first k entries. The measure is what is left of the count.
+-- `chains::highest_entry` meets its contract. The loop's invariant: the highest so far is that of the entries passed.
 -- Assumes nothing.
-use mathlib.Core.Path.{◌≡◌}
-use native.Mathlib.Omega.{arith}
-use Rattle.chains.proofs.Highest.{maximum_none, maximum_next}
+use mathlib.Core.Path.{refl}
+use borrow.Author.Rules.{rules}
+use Rattle.lists.specs.Members.{maximum}
+use Rattle.chains.proofs.Highest.{maximum_next, maximum_all}
 use Rattle.chains.proofs.highest_entry.Goals as goal
 
-pub loop-k-init : goal.loop-k-init
-loop-k-init c = (omega arith, maximum_none _ _)
+pub loop-x-init : goal.loop-x-init
+unfolding maximum
+loop-x-init c = refl
 
-pub loop-k-preserved : goal.loop-k-preserved
-loop-k-preserved c = omega (arith, maximum_next c.args.list.now c.args.first c.loop-k.k (omega arith))
+pub loop-x-preserved : goal.loop-x-preserved
+loop-x-preserved c = maximum_next _ c.loop-x.x-index c.loop-x-test.true c.loop-x.invariant (search rules)
 
 pub returns : goal.returns
-returns c =
-    let v = c.loop-k.invariant in
-    let e : c.loop-k.k ≡ c.args.count = omega arith in
-    rw (← e) v.1
+returns c = maximum_all c.args.list.now c.args.first c.args.count c.loop-x.x-index c.loop-x-test.false c.loop-x.invariant

@@ -2,8 +2,6 @@
 -- them have their definition variables.
 -- Assumes nothing.
 use mathlib.Core.Path.{◌≡◌}
-use Prim.Native.Nat.{◌-◌, ◌≤◌}
-use lib.ListN.{length}
 use Rattle.lists.specs.Parts.{overwrite}
 use Rattle.formula.specs.Words.{table_of}
 use Rattle.first_nodes.specs.Given.{Counted, DefinedBelow}
@@ -11,11 +9,6 @@ use Rattle.first_nodes.proofs.Renamed.{first_words}
 use Rattle.first_nodes.proofs.write_first.Given as goal
 
 abbrev pub invariant-loop-i : goal.invariant-loop-i
-invariant-loop-i l = (l.i ≤ l.count)
-    × (length l.nodes ≡ length l.initial.nodes)
-    × (l.nodes ≡ overwrite l.initial.nodes 0 (first_words (table_of l.words l.list) l.i))
+invariant-loop-i l = (l.nodes ≡ overwrite l.initial.nodes 0 (first_words (table_of l.words l.list) l.i))
     × Counted l.words l.list l.i l.definitions l.counter
     × DefinedBelow (table_of l.words l.list) l.i l.definitions
-
-abbrev pub decreases-loop-i : goal.decreases-loop-i
-decreases-loop-i l = l.count - l.i

@@ -1,7 +1,7 @@
 -- `remove_empty_blocks::write_left` meets its contract. The invariant: what is left of the nodes passed stands at the start of the
 -- buffer, `at` nodes of it, and their new indices in the array.
 -- Assumes nothing.
-use mathlib.Core.Path.{◌≡◌, refl, sym, ◌∙◌}
+use mathlib.Core.Path.{◌≡◌, refl, sym}
 use Prim.Native.Nat.{ℕ, ◌+◌, ◌*◌, ◌<◌}
 use native.Mathlib.Omega.{arith}
 use lib.ListN.{length, length-replicate}
@@ -16,8 +16,6 @@ use Rattle.remove_empty_blocks.proofs.write_left.Goals as goal
 pub loop-i-init : goal.loop-i-init
 unfolding left_below sum up_to
 loop-i-init c = (
-  omega arith,
-  refl,
   refl,
   record { long = length-replicate {A = ℕ} 4096 0; index_is = λ j l. absurd (omega arith) },
   sym (overwrite_nil _ _),
@@ -29,9 +27,9 @@ write_node-at-requires c =
     let g = left_grows c.args.words.now (l.i + 1) (node_count c.args.words.now) (omega arith) in record {
       small_table = c.requires.small_table;
       i_bound = c.loop-i-test.true;
-      new_indices = l.invariant.3;
-      at_value = l.invariant.2;
-      i_in_bounds = omega (arith, g, c.requires.words_in_bounds, l.invariant.1);
+      new_indices = l.invariant.1;
+      at_value = l.invariant.0;
+      i_in_bounds = omega (arith, g, c.requires.words_in_bounds);
     }
 
 pub loop-i-preserved : goal.loop-i-preserved
@@ -39,22 +37,17 @@ loop-i-preserved c =
     let l = c.loop-i in
     let ws = c.args.words.now in
     let g = left_of ws in
-    let at : width * l.at ≡ 0 + length (up_to g l.i) = omega (arith, length_left ws l.i, l.invariant.2) in
+    let at : width * l.at ≡ 0 + length (up_to g l.i) = omega (arith, length_left ws l.i, l.invariant.0) in
     let n = node_count ws in
     let more : l.i < n = c.loop-i-test.true in
     let room = room_for-part g 0 l.i n (length c.args.nodes.now) more (omega (arith, length_left ws n, c.requires.words_in_bounds)) in (
-      omega arith,
-      c.write_node-at.auto.nodes ∙ l.invariant.1,
       c.write_node-at.ensures.value,
       c.write_node-at.ensures.new_indices_2,
-      overwrite_next g _ _ _ 0 l.i l.invariant.4 (rw (← at) c.write_node-at.ensures.nodes_after) room,
+      overwrite_next g _ _ _ 0 l.i l.invariant.2 (rw (← at) c.write_node-at.ensures.nodes_after) room,
     )
-
-pub shape_of-nodes : goal.shape_of-nodes
-shape_of-nodes c = c.loop-i.invariant.1
 
 pub returns : goal.returns
 unfolding without_empty_blocks
 returns c =
     let l = c.loop-i in
-    let all : node_count c.args.words.now ≡ l.i = omega arith in rw all l.invariant.4
+    let all : node_count c.args.words.now ≡ l.i = omega arith in rw all l.invariant.2

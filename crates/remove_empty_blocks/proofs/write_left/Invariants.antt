@@ -2,17 +2,11 @@
 -- buffer, `at` nodes of it, and their new indices in the array.
 -- Assumes nothing.
 use mathlib.Core.Path.{◌≡◌}
-use Prim.Native.Nat.{◌-◌, ◌≤◌}
-use lib.ListN.{length}
 use Rattle.lists.specs.Parts.{up_to, overwrite}
-use Rattle.formula.specs.Words.{node_count}
 use Rattle.empty_blocks.specs.Removal.{left_below, left_of}
 use Rattle.remove_empty_blocks.specs.Steps.{NewIndices}
 use Rattle.remove_empty_blocks.proofs.write_left.Given as goal
 
 abbrev pub invariant-loop-i : goal.invariant-loop-i
-invariant-loop-i l = (l.i ≤ node_count l.words) × (length l.nodes ≡ length l.initial.nodes) × (l.at ≡ left_below l.words l.i) × NewIndices l.words l.indices l.i
+invariant-loop-i l = (l.at ≡ left_below l.words l.i) × NewIndices l.words l.indices l.i
     × (l.nodes ≡ overwrite l.initial.nodes 0 (up_to (left_of l.words) l.i))
-
-abbrev pub decreases-loop-i : goal.decreases-loop-i
-decreases-loop-i l = node_count l.words - l.i

@@ -38,14 +38,14 @@ returns-then-i-words c =
       counts_from_2 = rw c.count_root.ensures (root_counted c.args.words.now c.args.list.now c.requires.list_value c.args.i c.requires.i_bound.0 _ c.requires.counts_from _ r c.requires.i_bound.1 z);
     }
 
-pub bounds-levels-i-2 : goal.bounds-levels-i-2
-bounds-levels-i-2 c = omega (arith, nodes_few c.args.words.now c.args.list.now c.requires.list_value)
+pub bounds-levels-i-else-i-words : goal.bounds-levels-i-else-i-words
+bounds-levels-i-else-i-words c = omega (arith, nodes_few c.args.words.now c.args.list.now c.requires.list_value)
 
-pub overflow_cast-i-2 : goal.overflow_cast-i-2
-overflow_cast-i-2 c = omega (arith, nodes_few c.args.words.now c.args.list.now c.requires.list_value)
+pub overflow_cast-i-else-i-words : goal.overflow_cast-i-else-i-words
+overflow_cast-i-else-i-words c = omega (arith, nodes_few c.args.words.now c.args.list.now c.requires.list_value)
 
-pub hand_down-requires-2 : goal.hand_down-requires-2
-hand_down-requires-2 c =
+pub hand_down-requires-else-i-words : goal.hand_down-requires-else-i-words
+hand_down-requires-else-i-words c =
     let r = c.node_at-node.ensures in
     (operand_lt c.args.words.now c.args.list.now c.requires.list_value c.args.i _ _ c.requires.i_bound.0 (body_read c.args.words.now c.args.list.now c.args.i _ r c.requires.i_bound.1) (mem_head _ _), c.requires.parents_len.0, simp length-set c.requires.parents_len.1)
 
@@ -58,14 +58,11 @@ count_inner-requires c =
     let n = c.if-i-words.false in
     counted_small c.args.words.now c.args.list.now c.requires.list_value c.args.i c.requires.i_bound.0 _ (inner_counted c.args.words.now c.args.list.now c.requires.list_value c.args.i c.requires.i_bound.0 _ c.requires.counts_from _ r c.requires.i_bound.1 _ n (inner_own c.args.words.now c.args.list.now c.requires.list_value c.args.i c.requires.i_bound.0 _ _ c.requires.scopes_from c.requires.i_bound.1 n))
 
-pub shape_of-levels : goal.shape_of-levels
-shape_of-levels c = simp length-set at c.hand_down-2.auto.levels
-
-pub returns : goal.returns
-returns c =
+pub returns-else-i-words : goal.returns-else-i-words
+returns-else-i-words c =
     let r = c.node_at-node.ensures in
     let n = c.if-i-words.false in
-    let d = c.hand_down-2.ensures in record {
+    let d = c.hand_down-else-i-words.ensures in record {
       scopes_from_2 = inner_filled c.args.words.now c.args.list.now c.requires.list_value c.args.i c.requires.i_bound.0 _ _ c.requires.scopes_from _ _ _ (body_read c.args.words.now c.args.list.now c.args.i _ r c.requires.i_bound.1) c.requires.i_bound.1 n c.requires.parents_len.1 d.stored d.stored_2;
       counts_from_2 = rw c.count_inner.ensures (inner_counted c.args.words.now c.args.list.now c.requires.list_value c.args.i c.requires.i_bound.0 _ c.requires.counts_from _ r c.requires.i_bound.1 _ n (inner_own c.args.words.now c.args.list.now c.requires.list_value c.args.i c.requires.i_bound.0 _ _ c.requires.scopes_from c.requires.i_bound.1 n));
     }

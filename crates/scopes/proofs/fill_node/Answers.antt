@@ -17,8 +17,8 @@ bounds-parents-i c = omega (arith, nodes_few c.args.words.now c.args.list.now c.
 pub bounds-levels-i : goal.bounds-levels-i
 bounds-levels-i c = omega (arith, nodes_few c.args.words.now c.args.list.now c.requires.list_value)
 
-pub overflow_add-visited : goal.overflow_add-visited
-overflow_add-visited c = let h = c.requires.i_bound.1 in omega arith
+pub overflow_add-pass : goal.overflow_add-pass
+overflow_add-pass c = let h = c.requires.i_bound.1 in omega arith
 
 pub hand_down-requires : goal.hand_down-requires
 hand_down-requires c = (operand_lt c.args.words.now c.args.list.now c.requires.list_value c.args.i _ _ c.requires.i_bound.0 (operator_read _ _ _ _ c.node_at-node.ensures c.if-node-eq-OPERATOR.true) (mem_head _ _), c.requires.parents_len.0, c.requires.parents_len.1)
@@ -56,19 +56,19 @@ returns-then-node-eq-NEGATION c =
       counts_from_2 = plain_counted c.args.words.now c.args.list.now c.requires.list_value c.args.i c.requires.i_bound.0 _ c.requires.counts_from p;
     }
 
-pub fill_block-counts-requires : goal.fill_block-counts-requires
-fill_block-counts-requires c = let e = sym (c.is_block_kind.ensures ∙ block_read c.args.words.now c.args.list.now c.args.i _ c.node_at-node.ensures) ∙ c.if-is_block_kind.true in record { list_value = c.requires.list_value; i_bound = (c.requires.i_bound.0, e); parents_len = c.requires.parents_len; scopes_from = c.requires.scopes_from; counts_from = c.requires.counts_from }
+pub fill_block-requires : goal.fill_block-requires
+fill_block-requires c = let e = sym (c.is_block_kind.ensures ∙ block_read c.args.words.now c.args.list.now c.args.i _ c.node_at-node.ensures) ∙ c.if-is_block_kind.true in record { list_value = c.requires.list_value; i_bound = (c.requires.i_bound.0, e); parents_len = c.requires.parents_len; scopes_from = c.requires.scopes_from; counts_from = c.requires.counts_from }
 
 pub returns-then-is_block_kind : goal.returns-then-is_block_kind
 returns-then-is_block_kind c =
-    let f = c.fill_block-counts.ensures in record {
+    let f = c.fill_block.ensures in record {
       scopes_from_2 = f.scopes_from_2;
       visited_value = refl;
       counts_from_2 = f.counts_from_2;
     }
 
-pub returns : goal.returns
-returns c =
+pub returns-else-is_block_kind : goal.returns-else-is_block_kind
+returns-else-is_block_kind c =
     let r = c.node_at-node.ensures in
     let p = sym (c.is_block_kind.ensures ∙ block_read c.args.words.now c.args.list.now c.args.i _ r) ∙ c.if-is_block_kind.false in record {
       scopes_from_2 = plain_filled c.args.words.now c.args.list.now c.requires.list_value c.args.i c.requires.i_bound.0 _ _ c.requires.scopes_from _ _ _ (none_read _ _ _ _ r c.if-node-eq-NEGATION.false c.if-node-eq-OPERATOR.false p) p (stored_none _ _) (stored_none _ _);

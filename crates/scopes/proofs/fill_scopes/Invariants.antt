@@ -1,18 +1,12 @@
 -- `scopes::fill_scopes` meets its contract. The loop's invariant: the pass has visited the nodes from i up, one by one, and counted their
--- blocks. The measure is i.
+-- blocks.
 -- Assumes nothing.
 use mathlib.Core.Path.{◌≡◌}
 use Prim.Native.Nat.{◌+◌}
-use lib.ListN.{length}
 use Rattle.formula.specs.Words.{node_count, table_of}
-use Rattle.acceptance.specs.Limits.{limit}
 use Rattle.block_counts.specs.Counting.{CountsFrom}
 use Rattle.scopes.specs.Passes.{ScopesFrom}
 use Rattle.scopes.proofs.fill_scopes.Given as goal
 
 abbrev pub invariant-loop-i : goal.invariant-loop-i
-invariant-loop-i l = (l.pass.visited + l.i ≡ node_count l.words) × (length l.parents ≡ limit) × (length l.levels ≡ limit)
-    × ScopesFrom (table_of l.words l.list) l.i l.parents l.levels × CountsFrom (table_of l.words l.list) l.i l.pass.counts
-
-abbrev pub decreases-loop-i : goal.decreases-loop-i
-decreases-loop-i l = l.i
+invariant-loop-i l = (l.pass.visited + l.i ≡ node_count l.words) × ScopesFrom (table_of l.words l.list) l.i l.parents l.levels × CountsFrom (table_of l.words l.list) l.i l.pass.counts
