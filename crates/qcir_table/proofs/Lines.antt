@@ -217,7 +217,7 @@ part_is i end xs h =
 
 -- A line's block, written as a node, with its entries counted.
 pub line_wrote : {o m : List ℕ} {p q : Progress} (k count : ℕ) (node : NodeWords) → node ≡ block_words (line_block_kind k) p.listed count p.node → Wrote o p (add_node p node) m q
-    → Wrote o p (add_line p k count) m (record { next = q.next; listed = p.listed + count; node = q.node; kind = q.kind; gate = q.gate; ready = q.ready; first = q.first })
+    → Wrote o p (add_line p k count) m (record { next = q.next; listed = p.listed + count; node = q.node; kind = q.kind; gate = q.gate; inputs = q.inputs; first = q.first })
 line_wrote {o} {m} {p} {q} k count node e w =
     record {
       words_are = w.words_are ∙ ap (λ n. overwrite o (width * p.next) (word_list n)) e;
@@ -225,4 +225,4 @@ line_wrote {o} {m} {p} {q} k count node e w =
     }
   where
     counted_line : ℕ → Progress → Progress
-    counted_line n s = record { next = s.next; listed = p.listed + n; node = s.node; kind = s.kind; gate = s.gate; ready = s.ready; first = s.first }
+    counted_line n s = record { next = s.next; listed = p.listed + n; node = s.node; kind = s.kind; gate = s.gate; inputs = s.inputs; first = s.first }

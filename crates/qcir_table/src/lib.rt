@@ -63,7 +63,7 @@ fn write_gates(
         node: 0,
         kind: 0,
         gate: 0,
-        ready: false,
+        inputs: None,
         first: 0,
     };
     for i in first..count {
