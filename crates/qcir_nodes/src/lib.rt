@@ -72,17 +72,15 @@ pub fn write_node(words: &mut [u32], p: Progress, node: NodeWords) -> Progress
     }
 }
 
-// Writes a name's variable node, unless the name is a gate's, whose node is then gate - 1.
+// Writes a name's variable node, unless the name is a gate's, whose node is then gate - 1: `gate` is one more than the node, or
+// 0, as the array holds it, in which an `Option` would take twice the room.
 fn write_name(words: &mut [u32], p: Progress, gate: u32, x: u32) -> Progress
     requires { Room words.old (add_name p gate x) }
     ensures { Wrote words.old p (add_name p gate x) words.new result }
 {
-    if gate == 0 {
-        return write_node(words, p, variable_node(x));
-    }
-    Progress {
-        node: gate - 1,
-        ..p
+    match gate.checked_sub(1) {
+        Some(node) => Progress { node, ..p },
+        None => write_node(words, p, variable_node(x)),
     }
 }
 

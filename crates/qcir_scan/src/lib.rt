@@ -24,7 +24,8 @@ mod table;
 use qcir_header::HEADER;
 use table::{COLUMNS, MOVES};
 
-// Numbers of places: where no file goes on, right after the header, and where a file may end.
+// Numbers of places: where no file goes on, right after the header, and where a file may end. They are numbers and no enum,
+// since the table is read at them, and has a place and what is done in 16 bits.
 const DEAD: usize = 0;
 
 const HEADED: usize = 1;
@@ -47,11 +48,7 @@ const NAME: u8 = 25;
 // The highest number of a name.
 const HIGHEST: u32 = 65535;
 
-const TAB: u8 = b'\t';
-
 const LF: u8 = b'\n';
-
-const SPACE: u8 = b' ';
 
 // The bytes so far, the place's number, the pending name, and how many tokens there are.
 #[derive(Clone, Copy)]
@@ -239,9 +236,14 @@ fn skip_spaces(text: &[u8], q: Progress) -> Progress
     requires between { Between q.place × (q.at ≤ length text.now) }
     ensures { GoesOn text.now q result }
 {
-    let spaces = leading_spaces(&text[q.at..]);
+    // By index: mostly there is one space, and `position` takes some more instructions to start.
+    for at in q.at..text.len() {
+        if !is_space(text[at]) {
+            return Progress { at, ..q };
+        }
+    }
     Progress {
-        at: q.at + spaces,
+        at: text.len(),
         ..q
     }
 }
@@ -257,17 +259,6 @@ fn skip_comment(text: &[u8], q: Progress) -> Progress
         at: q.at + bytes,
         ..q
     }
-}
-
-// How many spaces and tabs stand at the start.
-fn leading_spaces(bytes: &[u8]) -> usize
-    ensures within { result ≤ length bytes.now }
-    ensures spaces { (k : ℕ) → k < result → is_space (get_or bytes.now k 0) ≡ true }
-{
-    bytes
-        .iter()
-        .position(|byte| !is_space(*byte))
-        .unwrap_or(bytes.len())
 }
 
 // How many bytes stand before the first LF.
@@ -321,7 +312,7 @@ fn stopped(q: Progress) -> Progress
 fn is_space(byte: u8) -> bool
     ensures { result ≡ is_space byte }
 {
-    (byte == SPACE) | (byte == TAB)
+    (byte == b' ') | (byte == b'\t')
 }
 
 fn is_digit(byte: u8) -> bool

@@ -11,12 +11,6 @@ use Rattle.qcir_scan.specs.Held.{Holds}
 use Rattle.qcir_scan.proofs.Steps.{further_on, further_too_high}
 use Rattle.qcir_scan.proofs.read_digits.Goals as goal
 
-pub loop-at-init : goal.loop-at-init
-loop-at-init c = (c.requires.in_name.1, λ rs ns ps h. h)
-
-pub returns-then-not-is_digit : goal.returns-then-not-is_digit
-returns-then-not-is_digit c = (omega arith, c.loop-at.invariant.1)
-
 pub returns-then-further-gt-HIGHEST : goal.returns-then-further-gt-HIGHEST
 returns-then-further-gt-HIGHEST c =
     let text = c.args.text.now in
