@@ -53,7 +53,7 @@ pub struct Progress {
     // the role of the gate's definition, and the gate's number
     pub kind: u8,
     pub gate: u16,
-    // the node over the gate's inputs so far, if one is stored
+    // the node over the gate's inputs so far, if there are any
     pub inputs: Option<u32>,
     // the first entry of the gate's variables
     pub first: u32,

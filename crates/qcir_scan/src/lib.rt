@@ -236,7 +236,7 @@ fn skip_spaces(text: &[u8], q: Progress) -> Progress
     requires between { Between q.place × (q.at ≤ length text.now) }
     ensures { GoesOn text.now q result }
 {
-    // By index: mostly there is one space, and `position` takes some more instructions to start.
+    // An index and no `position`: mostly there is one space, where `position` takes more instructions.
     for at in q.at..text.len() {
         if !is_space(text[at]) {
             return Progress { at, ..q };
@@ -261,10 +261,11 @@ fn skip_comment(text: &[u8], q: Progress) -> Progress
     }
 }
 
-// How many bytes stand before the first LF.
+// How many bytes stand before the first LF, or in all.
 fn bytes_before_end(bytes: &[u8]) -> usize
     ensures within { result ≤ length bytes.now }
     ensures no_end { (k : ℕ) → k < result → get_or bytes.now k 0 ≢ 10 }
+    ensures at_end { result < length bytes.now → get_or bytes.now result 0 ≡ 10 }
 {
     bytes
         .iter()

@@ -209,6 +209,7 @@ pub fn write_table(roles: &[u8], numbers: &[u16], count: usize, words: &mut [u32
         → (words.new ≡ overwrite words.old 0 (table_words f))
         × (list.new ≡ overwrite list.old 0 (table_list f)) }
 {
+    // for each number, one more than the node of the gate that it names, or 0: an `Option` would take twice the room
     let mut nodes = [0u16; NUMBERS];
     let output = output_index(roles, count);
     let p = write_gates(roles, numbers, output + 1, count, words, list, &mut nodes);
