@@ -4,7 +4,7 @@
 ghost use Rattle.std.specs.Prelude.{◌≡◌, ◌≢◌, ℕ, true, ◌+◌, ◌%◌, ◌≤◌, ◌<◌, eqb, length, get_or, set};
 ghost use Rattle.qcir.specs.Spelling.{is_space, is_digit};
 ghost use Rattle.qcir_header.specs.Header.{header_end};
-ghost use Rattle.qcir_scan.specs.Tables.{Tables, entry_at};
+ghost use Rattle.qcir_scan.specs.Tables.{entry_at};
 ghost use Rattle.qcir_scan.specs.Held.{
   Holds,
   Wide,
@@ -80,20 +80,17 @@ pub fn scan(
     if at < HEADER.len() {
         return Err(at as u32);
     }
-    walk(&MOVES, &COLUMNS, text, at, roles, numbers, positions)
+    walk(text, at, roles, numbers, positions)
 }
 
 // Takes the bytes after the header one after the other, up to the first where no file goes on.
 fn walk(
-    moves: &[u16; 2990],
-    columns: &[u16; 256],
     text: &[u8],
     at: usize,
     roles: &mut [u8],
     numbers: &mut [u16],
     positions: &mut [u16],
 ) -> Result<usize, u32>
-    requires tables { Tables moves.now columns.now }
     requires text_len_bound { length text.now ≤ 65536 }
     requires at_value { (at ≡ header_end text.now 0) × (9 ≤ at) }
     requires wide { Wide roles.old numbers.old positions.old }
@@ -108,12 +105,12 @@ fn walk(
     };
     // A `while`, since a turn takes as many bytes as the run is long: no range and no iterator has these steps.
     while q.at < text.len() {
-        q = advance(moves, columns, text, q, roles, numbers, positions);
+        q = advance(text, q, roles, numbers, positions);
         if q.place == DEAD {
             return Err((q.at - 1) as u32);
         }
     }
-    if !is_done(moves, columns, q.place) {
+    if !is_done(q.place) {
         return Err(q.at as u32);
     }
     Ok(q.count)
@@ -121,15 +118,12 @@ fn walk(
 
 // Takes one byte and the run after it, or the digits of a name.
 fn advance(
-    moves: &[u16; 2990],
-    columns: &[u16; 256],
     text: &[u8],
     q: Progress,
     roles: &mut [u8],
     numbers: &mut [u16],
     positions: &mut [u16],
 ) -> Progress
-    requires tables { Tables moves.now columns.now }
     requires text_len_bound { length text.now ≤ 65536 }
     requires at_in_bounds { (q.at < length text.now) × (0 < q.place) }
     requires holds { Holds text.now roles.old numbers.old positions.old q }
@@ -138,7 +132,7 @@ fn advance(
 {
     let at = q.at;
     let byte = text[at];
-    let entry = entry_at(moves, columns, q.place, byte);
+    let entry = entry_at(q.place, byte);
     let act = (entry / 256) as u8;
     let place = (entry % 256) as usize;
     if act < NAME {
@@ -323,12 +317,11 @@ fn is_digit(byte: u8) -> bool
 }
 
 // The table's entry for a byte at a place.
-fn entry_at(moves: &[u16; 2990], columns: &[u16; 256], place: usize, byte: u8) -> u16
-    requires tables { Tables moves.now columns.now }
-    requires place_bound { place < 115 }
+fn entry_at(place: usize, byte: u8) -> u16
+    requires { place < 115 }
     ensures { result ≡ entry_at place byte }
 {
-    moves[columns[byte as usize] as usize + place]
+    MOVES[COLUMNS[byte as usize] as usize + place]
 }
 
 // Writes the pending name as the next token. It counts once the name has ended.
@@ -378,10 +371,9 @@ fn count_after(role: u8, count: usize) -> usize
 }
 
 // The text may end here: its end is read as LF.
-fn is_done(moves: &[u16; 2990], columns: &[u16; 256], place: usize) -> bool
-    requires tables { Tables moves.now columns.now }
-    requires place_bound { place < 115 }
+fn is_done(place: usize) -> bool
+    requires { place < 115 }
     ensures { result ≡ eqb (entry_at place 10 % 256) 27 }
 {
-    (entry_at(moves, columns, place, LF) % 256) as usize == DONE
+    (entry_at(place, LF) % 256) as usize == DONE
 }
