@@ -2,6 +2,7 @@
 -- addition.
 -- Assumes nothing.
 use mathlib.Core.Bool.{Bool, true, false}
+use Rattle.std.specs.Prelude.{Option, Some, None}
 use mathlib.Core.List.{List, []}
 use mathlib.Core.Path.{◌≡◌, refl, sym, ◌∙◌, ap, subst}
 use Prim.Native.Nat.{ℕ, ◌+◌, ◌-◌, ◌*◌, ◌≤◌, ◌<◌}
@@ -10,7 +11,7 @@ use lib.Dec.{eqb, leb}
 use lib.ListN.{length, length-append}
 use Rattle.lists.specs.Choice.{pick, pick_yes, pick_no}
 use Rattle.lists.proofs.Overwrite.{overwrite_nil}
-use Rattle.formula.specs.Node.{constant, variable, negation}
+use Rattle.formula.specs.Node.{constant, variable, negation, operator}
 use Rattle.formula.specs.Words.{width, words_of}
 use Rattle.formula.specs.declared.NodeWords.{NodeWords}
 use Rattle.formula.proofs.Nodes.{word_list-length}
@@ -20,13 +21,14 @@ use Rattle.qcir_nodes.specs.declared.Progress.{Progress}
 use Rattle.qcir_nodes.specs.Nodes.{
   Added,
   moved,
-  readied,
+  with_inputs,
   add_none,
   add_node,
   and_then,
   add_name,
   add_minus,
   add_literal,
+  join_table,
   add_join,
   add_input,
   empty_constant,
@@ -57,9 +59,6 @@ follows_none p = record { counted = omega arith; listed_kept = refl; kind_kept =
 follows_moved : (p : Progress) (node : ℕ) → Follows p (record { words = []; progress = moved p p.next node })
 follows_moved p node = record { counted = omega arith; listed_kept = refl; kind_kept = refl; gate_kept = refl; first_kept = refl }
 
-follows_ready : (p : Progress) → Follows p (record { words = []; progress = readied p })
-follows_ready p = record { counted = omega arith; listed_kept = refl; kind_kept = refl; gate_kept = refl; first_kept = refl }
-
 follows_pick : {p : Progress} {a b : Added} (t : Bool) → Follows p a → Follows p b → Follows p (pick t a b)
 unfolding pick
 follows_pick true f g = f
@@ -89,13 +88,15 @@ pub follows_literal : (p : Progress) (g x : ℕ) (minus : Bool) → Follows p (a
 unfolding add_literal
 follows_literal p g x minus = follows_then (follows_name p g x) (follows_minus minus)
 
-pub follows_join : (ready : Bool) (left : ℕ) (p : Progress) → Follows p (add_join ready left p)
+pub follows_join : (left : Option ℕ) (p : Progress) → Follows p (add_join left p)
 unfolding add_join
-follows_join ready left p = follows_pick ready (follows_node p _) (follows_ready p)
+follows_join (Some left) p =
+    record { counted = omega (arith, word_list-length (words_of (operator (join_table p.kind) left p.node))); listed_kept = refl; kind_kept = refl; gate_kept = refl; first_kept = refl }
+follows_join None p = record { counted = omega arith; listed_kept = refl; kind_kept = refl; gate_kept = refl; first_kept = refl }
 
 pub follows_input : (p : Progress) (g x : ℕ) (minus : Bool) → Follows p (add_input p g x minus)
 unfolding add_input
-follows_input p g x minus = follows_then (follows_literal p g x minus) (follows_join p.ready p.node)
+follows_input p g x minus = follows_then (follows_literal p g x minus) (follows_join p.inputs)
 
 pub follows_operand : (p : Progress) (g role x : ℕ) → Follows p (add_operand p g role x)
 unfolding add_operand
@@ -129,6 +130,12 @@ wrote_no o p t a b m r h w = subst (λ c. Wrote o p c m r) (sym (pick_no t a b h
 -- Nothing is written.
 pub wrote_none : (o : List ℕ) (p r : Progress) → Wrote o p (record { words = []; progress = r }) o r
 wrote_none o p r = record { words_are = sym (overwrite_nil o (width * p.next)); progress_is = refl }
+
+-- An operator over the inputs is written as a node.
+pub wrote_join : {o m : List ℕ} {p q : Progress} (left : ℕ) → Wrote o p (add_node p (words_of (operator (join_table p.kind) left p.node))) m q
+    → Wrote o p (add_join (Some left) p) m (with_inputs q)
+unfolding add_join
+wrote_join left w = record { words_are = w.words_are; progress_is = ap with_inputs w.progress_is }
 
 module _ (o : List ℕ) (a : Added) (f : Progress → Added) (follows : (q : Progress) → Follows q (f q)) (room : Room o (and_then a f)) where
   -- where there is room for both, there is for the first
@@ -169,9 +176,10 @@ small_minus : (minus : Bool) → KeepsSmall (add_minus minus)
 unfolding add_minus
 small_minus minus p n s = small_pick _ _ minus (omega arith) s
 
-small_join : (ready : Bool) (left : ℕ) → KeepsSmall (add_join ready left)
+small_join : (left : Option ℕ) → KeepsSmall (add_join left)
 unfolding add_join
-small_join ready left p n s = small_pick _ _ ready (omega arith) s
+small_join (Some left) p n s = omega arith
+small_join None p n s = s
 
 pub small_block : KeepsSmall add_block
 unfolding add_block
@@ -189,8 +197,8 @@ module _ (p : Progress) (g x : ℕ) (low : g < 65536) where
       let r = (add_minus minus q).progress in
       let f = follows_name p g x in
       let h = follows_minus minus q in
-      let k = follows_join p.ready p.node r in
-      small_join p.ready p.node r (omega arith) (small_minus minus q (omega arith) (small_name (omega arith)))
+      let k = follows_join p.inputs r in
+      small_join p.inputs r (omega arith) (small_minus minus q (omega arith) (small_name (omega arith)))
 
   small_operand_of : (a : Added) (t : Bool) (role : ℕ) → a.progress.node < 65535 → (pick t a (add_input p g x (is_minus role))).progress.next ≤ limit
       → (pick t a (add_input p g x (is_minus role))).progress.node < 65535

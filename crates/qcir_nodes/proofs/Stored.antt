@@ -2,6 +2,7 @@
 -- Assumes nothing.
 use mathlib.Core.Bool.{Bool, true, false}
 use mathlib.Core.List.{List, [], ◌++◌, append_assoc, append-nil}
+use Rattle.std.specs.Prelude.{Option, Some, None}
 use mathlib.Core.Path.{◌≡◌, ◌∙◌, ap}
 use Prim.Native.Nat.{ℕ, ◌-◌, ◌*◌}
 use native.Mathlib.Omega.{arith}
@@ -14,7 +15,7 @@ use Rattle.formula.specs.declared.NodeWords.{NodeWords}
 use Rattle.qcir.specs.File.{Literal}
 use Rattle.qcir.specs.Table.{Draft, Stored, store, store_name, store_literal}
 use Rattle.qcir_nodes.specs.declared.Progress.{Progress}
-use Rattle.qcir_nodes.specs.Nodes.{Added, moved, readied, add_node, and_then, add_name, add_minus, add_literal, join_table, add_join, add_input}
+use Rattle.qcir_nodes.specs.Nodes.{Added, moved, with_inputs, add_node, and_then, add_name, add_minus, add_literal, join_table, add_join, add_input}
 use Rattle.qcir_nodes.proofs.Nodes.{Follows, follows_name, follows_literal}
 
 -- A draft with what is added to it.
@@ -65,26 +66,28 @@ with_literal d p l h =
     ∙ with_minus (with_added d a).draft a.progress l.minus (aligned_after d p a h (follows_name p (d.gate x) x))
     ∙ ap (λ s. pick l.minus (store s.draft (words_of (negation s.node))) s) (with_name d p x h)
 
--- The operator of truth table t over what is stored and the input that follows; the input alone where it is the first.
-unfoldable pub store_joined : Bool → ℕ → Stored → Literal → Stored
-store_joined ready t s l =
-    let r = store_literal s.draft l in
-    pick ready (store r.draft (words_of (operator t s.node r.node))) r
+-- The operator of truth table t over the inputs so far, of node `left`, and what was stored last; that alone where it is the first input.
+unfoldable pub join_stored : Option ℕ → ℕ → Stored → Stored
+join_stored (Some left) t r = store r.draft (words_of (operator t left r.node))
+join_stored None t r = r
 
-with_join : (d : Draft) (p : Progress) (ready : Bool) (left : ℕ) → Aligned d p
-    → with_added d (add_join ready left p) ≡ pick ready (store d (words_of (operator (join_table p.kind) left p.node))) (record { draft = d; node = p.node })
-unfolding add_join
-with_join d p ready left h = with_pick ready d _ _ _ _ (with_node_lem d p (words_of (operator (join_table p.kind) left p.node)) h) (with_none d (readied p))
+-- The same with the input that follows.
+abbrev pub store_joined : Option ℕ → ℕ → Draft → Literal → Stored
+store_joined left t d l = join_stored left t (store_literal d l)
+
+with_join : (left : Option ℕ) (d : Draft) (p : Progress) → Aligned d p → with_added d (add_join left p) ≡ join_stored left (join_table p.kind) (record { draft = d; node = p.node })
+unfolding add_join join_stored
+with_join (Some left) d p h = with_node_lem d p (words_of (operator (join_table p.kind) left p.node)) h
+with_join None d p h = with_none d (with_inputs p)
 
 pub with_input : (d : Draft) (p : Progress) (l : Literal) → Aligned d p
-    → with_added d (add_input p (d.gate l.name.number) l.name.number l.minus)
-    ≡ store_joined p.ready (join_table p.kind) (record { draft = d; node = p.node }) l
-unfolding add_input store_joined
+    → with_added d (add_input p (d.gate l.name.number) l.name.number l.minus) ≡ store_joined p.inputs (join_table p.kind) d l
+unfolding add_input
 with_input d p l h =
     let x = l.name.number in
     let a = add_literal p (d.gate x) x l.minus in
     let f = follows_literal p (d.gate x) x l.minus in
-    with_then d a (add_join p.ready p.node)
-    ∙ with_join (with_added d a).draft a.progress p.ready p.node (aligned_after d p a h f)
-    ∙ ap (λ k. pick p.ready (store (with_added d a).draft (words_of (operator (join_table k) p.node a.progress.node))) (with_added d a)) f.kind_kept
-    ∙ ap (λ s. pick p.ready (store s.draft (words_of (operator (join_table p.kind) p.node s.node))) s) (with_literal d p l h)
+    with_then d a (add_join p.inputs)
+    ∙ with_join p.inputs (with_added d a).draft a.progress (aligned_after d p a h f)
+    ∙ ap (λ k. join_stored p.inputs (join_table k) (with_added d a)) f.kind_kept
+    ∙ ap (join_stored p.inputs (join_table p.kind)) (with_literal d p l h)

@@ -1,6 +1,6 @@
 -- What each token of a gate line adds to the table, given how far the writing has come.
 -- Assumes nothing.
-use Rattle.std.specs.Prelude.{Bool, true, false, not, List, [], ◌∷◌, ◌++◌, ◌≡◌, ℕ, ◌+◌, ◌-◌, ◌*◌, ◌≤◌, eqb, leb, length}
+use Rattle.std.specs.Prelude.{Bool, not, Option, Some, None, List, [], ◌∷◌, ◌++◌, ◌≡◌, ℕ, ◌+◌, ◌-◌, ◌*◌, ◌≤◌, eqb, leb, length}
 use Rattle.lists.specs.Choice.{pick}
 use Rattle.lists.specs.Parts.{overwrite}
 use Rattle.formula.specs.Node.{constant, variable, negation, operator}
@@ -18,22 +18,22 @@ pub record Added : Type 0 where
 -- The same gate, with another next node and another node that stands for what was stored last.
 abbrev pub moved : Progress → ℕ → ℕ → Progress
 moved p next node =
-    record { next = next; listed = p.listed; node = node; kind = p.kind; gate = p.gate; ready = p.ready; first = p.first }
+    record { next = next; listed = p.listed; node = node; kind = p.kind; gate = p.gate; inputs = p.inputs; first = p.first }
 
--- The same, with an input of the gate stored.
-abbrev pub readied : Progress → Progress
-readied p =
-    record { next = p.next; listed = p.listed; node = p.node; kind = p.kind; gate = p.gate; ready = true; first = p.first }
+-- The same, with what was stored last as the node over the gate's inputs.
+abbrev pub with_inputs : Progress → Progress
+with_inputs p =
+    record { next = p.next; listed = p.listed; node = p.node; kind = p.kind; gate = p.gate; inputs = Some p.node; first = p.first }
 
 -- A new gate, with the role of its definition and its number.
 abbrev pub begun : Progress → ℕ → ℕ → Progress
 begun p role number =
-    record { next = p.next; listed = p.listed; node = p.node; kind = role; gate = number; ready = false; first = p.listed }
+    record { next = p.next; listed = p.listed; node = p.node; kind = role; gate = number; inputs = None; first = p.listed }
 
 -- The same gate, with `count` list entries more.
 abbrev pub lengthened : Progress → ℕ → Progress
 lengthened p count =
-    record { next = p.next; listed = p.listed + count; node = p.node; kind = p.kind; gate = p.gate; ready = p.ready; first = p.first }
+    record { next = p.next; listed = p.listed + count; node = p.node; kind = p.kind; gate = p.gate; inputs = p.inputs; first = p.first }
 
 abbrev pub add_none : Progress → Added
 add_none p = record { words = []; progress = p }
@@ -62,12 +62,13 @@ unfoldable pub join_table : ℕ → ℕ
 join_table kind = pick (eqb kind 13) 8 (pick (eqb kind 14) 14 6)
 
 -- The operator over the inputs so far, of node `left`, and the one stored last; nothing at the first input.
-unfoldable pub add_join : Bool → ℕ → Progress → Added
-add_join ready left p =
-    pick ready (add_node p (words_of (operator (join_table p.kind) left p.node))) (record { words = []; progress = readied p })
+unfoldable pub add_join : Option ℕ → Progress → Added
+add_join (Some left) p =
+    let a = add_node p (words_of (operator (join_table p.kind) left p.node)) in record { words = a.words; progress = with_inputs a.progress }
+add_join None p = record { words = []; progress = with_inputs p }
 
 unfoldable pub add_input : Progress → ℕ → ℕ → Bool → Added
-add_input p g x minus = and_then (add_literal p g x minus) (add_join p.ready p.node)
+add_input p g x minus = and_then (add_literal p g x minus) (add_join p.inputs)
 
 -- The constant that a gate without inputs is, by the role of its definition.
 abbrev pub empty_constant : ℕ → Bool

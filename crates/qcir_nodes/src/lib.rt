@@ -53,8 +53,8 @@ pub struct Progress {
     // the role of the gate's definition, and the gate's number
     pub kind: u8,
     pub gate: u16,
-    // whether an input of the gate is stored
-    pub ready: bool,
+    // the node over the gate's inputs so far, if there are any
+    pub inputs: Option<u32>,
     // the first entry of the gate's variables
     pub first: u32,
 }
@@ -65,23 +65,23 @@ pub fn write_node(words: &mut [u32], p: Progress, node: NodeWords) -> Progress
     ensures { Wrote words.old p (add_node p node) words.new result }
 {
     put_node(words, p.next as usize, node);
-    let mut q = p;
-    q.next = p.next + 1;
-    q.node = p.next;
-    q
+    Progress {
+        next: p.next + 1,
+        node: p.next,
+        ..p
+    }
 }
 
-// Writes a name's variable node, unless the name is a gate's, whose node is then gate - 1.
+// Writes a name's variable node, unless the name is a gate's, whose node is then gate - 1: `gate` is one more than the node, or
+// 0, as the array holds it, in which an `Option` would take twice the room.
 fn write_name(words: &mut [u32], p: Progress, gate: u32, x: u32) -> Progress
     requires { Room words.old (add_name p gate x) }
     ensures { Wrote words.old p (add_name p gate x) words.new result }
 {
-    if gate == 0 {
-        return write_node(words, p, variable_node(x));
+    match gate.checked_sub(1) {
+        Some(node) => Progress { node, ..p },
+        None => write_node(words, p, variable_node(x)),
     }
-    let mut q = p;
-    q.node = gate - 1;
-    q
 }
 
 // Writes the not of what was stored last where there is a minus sign.
@@ -117,17 +117,24 @@ fn join_table(kind: u8) -> u32
     XOR
 }
 
-// Joins the input that was stored last to those before it, whose node is left.
-fn write_join(words: &mut [u32], p: Progress, ready: bool, left: u32) -> Progress
-    requires { Room words.old (add_join ready left p) }
-    ensures { Wrote words.old p (add_join ready left p) words.new result }
+// Joins the input that was stored last to those before it, if there are any, whose node is `left`.
+fn write_join(words: &mut [u32], p: Progress, left: Option<u32>) -> Progress
+    requires { Room words.old (add_join left p) }
+    ensures { Wrote words.old p (add_join left p) words.new result }
 {
-    if ready {
-        return write_node(words, p, operator_node(join_table(p.kind), left, p.node));
+    match left {
+        Some(left) => {
+            let q = write_node(words, p, operator_node(join_table(p.kind), left, p.node));
+            Progress {
+                inputs: Some(q.node),
+                ..q
+            }
+        }
+        None => Progress {
+            inputs: Some(p.node),
+            ..p
+        },
     }
-    let mut q = p;
-    q.ready = true;
-    q
 }
 
 // Writes an input, and the operator right after its second operand.
@@ -136,7 +143,7 @@ fn write_input(words: &mut [u32], p: Progress, gate: u32, x: u32, minus: bool) -
     ensures { Wrote words.old p (add_input p gate x minus) words.new result }
 {
     let q = write_literal(words, p, gate, x, minus);
-    write_join(words, q, p.ready, p.node)
+    write_join(words, q, p.inputs)
 }
 
 // The constant that a gate without inputs is.
@@ -221,18 +228,21 @@ pub fn write_token(
     ensures list_after { list.new ≡ overwrite list.old p.listed (token_entries role x) }
     ensures nodes_after { nodes.new ≡ pick (is_last role) (set nodes.old result.gate (result.node + 1)) nodes.old }
 {
-    let mut q = p;
     if is_definition(role) {
-        q.kind = role;
-        q.gate = x;
-        q.ready = false;
-        q.first = p.listed;
-        return q;
+        return Progress {
+            kind: role,
+            gate: x,
+            inputs: None,
+            first: p.listed,
+            ..p
+        };
     }
     if is_bound(role) {
         list[p.listed as usize] = x as u32;
-        q.listed = p.listed + 1;
-        return q;
+        return Progress {
+            listed: p.listed + 1,
+            ..p
+        };
     }
     write_use(words, nodes, p, role, x)
 }

@@ -126,11 +126,10 @@ fn read_spelled(text: &[u8], at: usize, words: &mut [u32], list: &mut [u32]) -> 
     let mut roles = [0u8; TOKENS];
     let mut numbers = [0u16; TOKENS];
     let mut positions = [0u16; TOKENS];
-    let scanned = qcir_scan::scan(text, at, &mut roles, &mut numbers, &mut positions);
-    if scanned.spelled {
-        return read_tokens(&roles, &numbers, &positions, scanned.count, words, list);
+    match qcir_scan::scan(text, at, &mut roles, &mut numbers, &mut positions) {
+        Ok(count) => read_tokens(&roles, &numbers, &positions, count, words, list),
+        Err(position) => refused(refusal(MISSPELLED, position)),
     }
-    refused(refusal(MISSPELLED, scanned.position))
 }
 
 // Reads the tokens of a file: refusals 11, 13 and 12, then its table.

@@ -13,7 +13,7 @@ use Rattle.lists.proofs.Members.{place_lt, get_or-place}
 use Rattle.lists.proofs.Parts.{length_numbers, get_or-numbers}
 use Rattle.qcir_spelling.specs.Machine.{dead}
 use Rattle.qcir_scan.specs.Places.{places, place_of}
-use Rattle.qcir_scan.specs.Tables.{samples, sample_of, columns, entry_for, moves, entry_at}
+use Rattle.qcir_scan.specs.Tables.{samples, sample_of, columns, entry_for, moves, entry_at, Tables}
 use Rattle.qcir_scan.proofs.Rule.{places_length, sampled}
 
 module _ {A B : Type 0} where
@@ -56,14 +56,22 @@ module _ (i : ℕ) (low : i < 115) (b : ℕ) (byte : b < 256) where
       ∙ ap (λ x. 115 * place (sample_of x) samples) n
 
   -- the index is within the table
-  pub in_table : get_or columns b 0 + i < 2990
+  in_table : get_or columns b 0 + i < 2990
   in_table = let c = column_is in let l = class_low in omega (arith, samples_length)
 
   -- and the entry stands there
-  pub table_entry : get_or moves (get_or columns b 0 + i) 0 ≡ entry_at i b
+  table_entry : get_or moves (get_or columns b 0 + i) 0 ≡ entry_at i b
   unfolding moves entry_at place_of class
   table_entry =
       ap (λ j. get_or moves (j + i) 0) column_is
       ∙ get_or-column (λ x. map (λ p. entry_for p x) places) 115 (λ x. length-map places (λ p. entry_for p x) ∙ places_length) samples class i 0 0 class_low low
       ∙ ap (λ x. get_or (map (λ p. entry_for p x) places) i 0) (get_or-place (sample_of b) samples 0 (sampled b byte))
       ∙ get_d_map (λ p. entry_for p (sample_of b)) places i dead 0 (rw places_length low)
+
+  -- the same of the code's tables
+  module _ {ms cs : List ℕ} (t : Tables ms cs) where
+    pub index_low : get_or cs b 0 + i < 2990
+    index_low = rw t.columns_are in_table
+
+    pub entry_is : get_or ms (get_or cs b 0 + i) 0 ≡ entry_at i b
+    entry_is = rw (t.moves_are, t.columns_are) table_entry

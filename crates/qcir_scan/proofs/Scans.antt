@@ -1,22 +1,22 @@
 -- A scan as a whole: its start, and what it answers.
 -- Assumes nothing.
-use mathlib.Core.Bool.{Bool, true, false}
+use mathlib.Core.Bool.{true, false}
 use mathlib.Core.List.{List}
-use mathlib.Core.Path.{◌≡◌, refl, sym, ◌∙◌, ap}
+use mathlib.Core.Path.{◌≡◌, sym, ◌∙◌, ap}
 use Prim.Native.Nat.{ℕ, suc, ◌+◌, ◌-◌, ◌/◌, ◌%◌, ◌≤◌, ◌<◌}
 use native.Mathlib.Omega.{arith}
 use lib.Dec.{eqb}
 use lib.ListN.{length, take, drop}
 use lib.Seq.{take_all}
 use borrow.Author.Tests.{eq-eqb}
-use Rattle.lists.specs.Choice.{pick_yes, clash}
+use Rattle.lists.specs.Choice.{pick_yes}
 use Rattle.qcir_tokens.specs.Held.{tokens_from}
 use Rattle.qcir_spelling.specs.Machine.{start, emit, step, run, alive, accepts, tokens_of, is_dead, is_done}
 use Rattle.qcir_scan.specs.declared.Progress.{Progress}
 use Rattle.qcir_header.specs.Header.{header_end}
 use Rattle.qcir_scan.specs.Places.{places, place_of, spare_of, spare}
 use Rattle.qcir_scan.specs.Tables.{entry_at}
-use Rattle.qcir_scan.specs.Held.{highest, state_of, Wide, Lives, Holds, Answers}
+use Rattle.qcir_scan.specs.Held.{highest, state_of, Wide, Lives, Holds, Spelled, Misspelled}
 use Rattle.qcir_scan.proofs.Effects.{apply, step_effect}
 use Rattle.qcir_scan.proofs.Rule.{effect_of, entry_effect, next_low, at_line_end, done_number}
 use Rattle.qcir_scan.proofs.Runs.{dead_refused, alive_dead, alive_next, alive_end}
@@ -25,9 +25,8 @@ use Rattle.qcir_scan.proofs.Steps.{place_dead, lives_here}
 
 module _ (text rs ns ps : List ℕ) (at : ℕ) (is : at ≡ header_end text 0) where
   -- where the header is wrong, or cut short
-  pub answers_headless : at < 9 → Answers text rs ns ps (record { spelled = false; position = at; count = 0 })
-  answers_headless l =
-      record { spelled_is = sym (short_spelled highest text at is l); position_is = short_position highest text at is l; tokens_are = λ t. clash t refl; few = omega arith }
+  pub headless : at < 9 → Misspelled text at
+  headless l = record { refused = short_spelled highest text at is l; position_is = short_position highest text at is l }
 
   -- the header is taken
   module _ (l : 9 ≤ at) where
@@ -55,15 +54,14 @@ module _ (text rs ns ps : List ℕ) (at : ℕ) (is : at ≡ header_end text 0) w
 
 module _ (text rs ns ps : List ℕ) (q : Progress) (h : Holds text rs ns ps q) (short : length text ≤ 65536) where
   -- where no file goes on
-  pub answers_dead : 0 < q.at → q.place ≡ 0 → Answers text rs ns ps (record { spelled = false; position = q.at - 1; count = q.count })
-  answers_dead l d =
+  pub dead_misspelled : 0 < q.at → q.place ≡ 0 → Misspelled text (q.at - 1)
+  dead_misspelled l d =
       let w = h.within in
       let k : q.at - 1 + 1 ≡ q.at = omega arith in
       let gone : is_dead (run highest start (take q.at text)).place ≡ true = place_dead text rs ns ps q h ∙ eq-eqb q.place 0 d in
       let z = alive_dead highest text (q.at - 1) (omega arith) (rw k gone) in
       let lives = h.lives in
-      let room = h.room in
-      record { spelled_is = sym (dead_refused highest text q.at gone); position_is = omega arith; tokens_are = λ t. clash t refl; few = omega arith }
+      record { refused = dead_refused highest text q.at gone; position_is = omega arith }
 
   -- at the text's end
   module _ (going : 0 < q.place) (end : length text ≤ q.at) where
@@ -86,11 +84,15 @@ module _ (text rs ns ps : List ℕ) (q : Progress) (h : Holds text rs ns ps q) (
         ∙ ap is_done last_step
         ∙ done_number (entry_at q.place 10 % 256) (next_low q.place h.place_low 10 (omega arith))
 
-    pub answers_end : {t : Bool} → t ≡ eqb (entry_at q.place 10 % 256) 27 → Answers text rs ns ps (record { spelled = t; position = q.at; count = q.count })
+    pub end_spelled : eqb (entry_at q.place 10 % 256) 27 ≡ true → Spelled text rs ns ps q.count
     unfolding tokens_of state_of
-    answers_end r =
-        let z = alive_end highest text (run highest start (take q.at text)) q.at end in
-        let lives = lives_here text rs ns ps q h going in
+    end_spelled t =
         let w = h.within in
         let room = h.room in
-        record { spelled_is = r ∙ sym accepts_end; position_is = omega arith; tokens_are = λ _. ap (λ s. s.tokens) (sym whole); few = omega arith }
+        record { accepted = accepts_end ∙ t; tokens_are = ap (λ s. s.tokens) (sym whole); few = omega arith }
+
+    pub end_misspelled : eqb (entry_at q.place 10 % 256) 27 ≡ false → Misspelled text q.at
+    end_misspelled t =
+        let z = alive_end highest text (run highest start (take q.at text)) q.at end in
+        let lives = lives_here text rs ns ps q h going in
+        record { refused = accepts_end ∙ t; position_is = omega arith }

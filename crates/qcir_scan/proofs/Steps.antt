@@ -3,12 +3,13 @@
 use mathlib.Core.Bool.{true, false}
 use mathlib.Core.List.{List, [], ◌∷◌, ◌++◌}
 use mathlib.Core.Path.{◌≡◌, refl, sym, ◌∙◌, ap, subst}
-use Prim.Native.Nat.{ℕ, ◌+◌, ◌*◌, ◌-◌, ◌/◌, ◌%◌, ◌≤◌, ◌<◌}
+use Prim.Native.Nat.{ℕ, zero, suc, ◌+◌, ◌*◌, ◌-◌, ◌/◌, ◌%◌, ◌≤◌, ◌<◌}
 use native.Mathlib.Nat.{mul-add-mod_self_left, mul-add-div, mod-eq_of_lt, div-eq_of_lt}
 use native.Mathlib.Numerals.{add-one}
 use native.Mathlib.Omega.{arith}
 use lib.Dec.{eqb, leb, ltb}
-use lib.ListN.{length, get_or, set, take, length-set}
+use lib.ListN.{length, get_or, set, take, drop, length-set}
+use Rattle.std.proofs.lemmas.Grind.{common_steps}
 use borrow.Author.Tests.{eqb-true, eqb-false, eq-eqb, ne_eqb, le-leb, lt-leb, ltb-true, ltb-false}
 use Rattle.lists.specs.Choice.{pick, pick_yes, pick_no, Is, is_true, is_false, look, or_left, or_right, or_neither}
 use Rattle.qcir.specs.Spelling.{is_digit}
@@ -297,6 +298,25 @@ module _ (text rs ns ps : List ℕ) (q : Progress) (h : Holds text rs ns ps q) (
   -- a space between two signs, or a byte of a comment line
   pub passes : passed q.place (get_or text q.at 0) ≡ true → Holds text rs ns ps (record { at = q.at + 1; place = q.place; number = q.number; begin = q.begin; count = q.count })
   passes t = idles (stays q.place h.place_low (get_or text q.at 0) byte t) h.place_low
+
+-- what is behind a position of a text
+pub behind_length : (text : List ℕ) (at : ℕ) → length (take (length text - at) (drop at text)) ≡ length text - at
+behind_length text at = grind (arith, common_steps)
+
+pub behind_at : (text : List ℕ) (at k : ℕ) → at ≤ length text → get_or (take (length text - at) (drop at text)) k 0 ≡ get_or text (at + k) 0
+behind_at text at k l = grind (arith, common_steps)
+
+-- a run of such bytes
+module _ (text rs ns ps : List ℕ) (q : Progress) (long : length text ≤ 65536) (bytes : (k : ℕ) → get_or text k 0 < 256) (going : 0 < q.place) where
+  pub passes_run : (n : ℕ) → q.at + n ≤ length text → ((k : ℕ) → k < n → passed q.place (get_or text (q.at + k) 0) ≡ true) → Holds text rs ns ps q → Holds text rs ns ps (record { at = q.at + n; place = q.place; number = q.number; begin = q.begin; count = q.count })
+  passes_run zero l f h =
+      let e : q.at ≡ q.at + 0 = omega arith in
+      subst (λ x. Holds text rs ns ps (record { at = x; place = q.place; number = q.number; begin = q.begin; count = q.count })) e h
+  passes_run (suc n) l f h =
+      let m : Progress = record { at = q.at + n; place = q.place; number = q.number; begin = q.begin; count = q.count } in
+      let e : q.at + n + 1 ≡ q.at + suc n = omega arith in
+      subst (λ x. Holds text rs ns ps (record { at = x; place = q.place; number = q.number; begin = q.begin; count = q.count })) e
+      (passes text rs ns ps m (passes_run n (omega arith) (λ k a. f k (omega arith)) h) (omega arith) going long (bytes (q.at + n)) (f n (omega arith)))
 
 -- two bytes
 pub two_idle : (text rs ns ps : List ℕ) (q : Progress) → Holds text rs ns ps q → length text ≤ 65536 → (first second next : ℕ) → Leads q.place first second next → q.at + 2 ≤ length text → get_or text q.at 0 ≡ first → get_or text (q.at + 1) 0 ≡ second → Holds text rs ns ps (record { at = q.at + 2; place = next; number = q.number; begin = q.begin; count = q.count })

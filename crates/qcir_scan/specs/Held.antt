@@ -1,11 +1,10 @@
 -- What the code's variables and arrays hold of the machine's state.
 -- Assumes nothing.
-use Rattle.std.specs.Prelude.{true, List, ◌≡◌, ℕ, ◌+◌, ◌*◌, ◌-◌, ◌≤◌, ◌<◌, eqb, length, take, drop}
+use Rattle.std.specs.Prelude.{true, false, Result, MatchResult, List, ◌≡◌, ℕ, ◌+◌, ◌*◌, ◌-◌, ◌≤◌, ◌<◌, eqb, length, take, drop}
 use Rattle.lists.specs.Choice.{pick}
 use Rattle.qcir_tokens.specs.Held.{tokens_from, token_limit}
 use Rattle.qcir_spelling.specs.Machine.{State, start, run, alive, accepts, tokens_of}
 use Rattle.qcir_scan.specs.declared.Progress.{Progress}
-use Rattle.qcir_scan.specs.declared.Scanned.{Scanned}
 use Rattle.qcir_scan.specs.Places.{place_of, spare}
 use Rattle.qcir_scan.specs.Tables.{entry_at}
 
@@ -79,9 +78,17 @@ pub record Leads (place first second next : ℕ) : Type 0 where
 abbrev pub GoesOn : List ℕ → Progress → Progress → Type 0
 GoesOn text q r = (q.at ≤ r.at) × ((roles numbers positions : List ℕ) → Holds text roles numbers positions q → Holds text roles numbers positions r)
 
+-- The text is a file, and the arrays hold its tokens.
+pub record Spelled (text roles numbers positions : List ℕ) (count : ℕ) : Type 0 where
+  pub accepted : accepts highest text ≡ true
+  pub tokens_are : tokens_from roles numbers positions 0 count ≡ tokens_of highest text
+  pub few : count ≤ token_limit
+
+-- The text is no file, and some file begins with this many of its bytes, but none with more.
+pub record Misspelled (text : List ℕ) (position : ℕ) : Type 0 where
+  pub refused : accepts highest text ≡ false
+  pub position_is : position ≡ alive highest start text
+
 -- What scanning a text answers, and leaves in the arrays.
-pub record Answers (text roles numbers positions : List ℕ) (r : Scanned) : Type 0 where
-  pub spelled_is : r.spelled ≡ accepts highest text
-  pub position_is : r.position ≡ alive highest start text
-  pub tokens_are : r.spelled ≡ true → tokens_from roles numbers positions 0 r.count ≡ tokens_of highest text
-  pub few : r.count ≤ token_limit
+abbrev pub Answers : List ℕ → List ℕ → List ℕ → List ℕ → Result ℕ ℕ → Type 0
+Answers text roles numbers positions r = MatchResult r (Spelled text roles numbers positions) (Misspelled text)

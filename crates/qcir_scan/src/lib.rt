@@ -1,10 +1,10 @@
 // Takes the bytes of a QCIR text and collects the file's tokens: the machine of qcir_spelling, by tables.
 #![tactic(auto)]
 
-ghost use Rattle.std.specs.Prelude.{◌≡◌, ◌+◌, ◌%◌, ◌≤◌, ◌<◌, eqb, length, set};
+ghost use Rattle.std.specs.Prelude.{◌≡◌, ◌≢◌, ℕ, true, ◌+◌, ◌%◌, ◌≤◌, ◌<◌, eqb, length, get_or, set};
 ghost use Rattle.qcir.specs.Spelling.{is_space, is_digit};
 ghost use Rattle.qcir_header.specs.Header.{header_end};
-ghost use Rattle.qcir_scan.specs.Tables.{Tables, entry_at};
+ghost use Rattle.qcir_scan.specs.Tables.{entry_at};
 ghost use Rattle.qcir_scan.specs.Held.{
   Holds,
   Wide,
@@ -24,7 +24,8 @@ mod table;
 use qcir_header::HEADER;
 use table::{COLUMNS, MOVES};
 
-// Numbers of places: where no file goes on, right after the header, and where a file may end.
+// Numbers of places: where no file goes on, right after the header, and where a file may end. They are numbers and no enum,
+// since the table is read at them, and has a place and what is done in 16 bits.
 const DEAD: usize = 0;
 
 const HEADED: usize = 1;
@@ -47,11 +48,7 @@ const NAME: u8 = 25;
 // The highest number of a name.
 const HIGHEST: u32 = 65535;
 
-const TAB: u8 = 9;
-
-const LF: u8 = 10;
-
-const SPACE: u8 = 32;
+const LF: u8 = b'\n';
 
 // The bytes so far, the place's number, the pending name, and how many tokens there are.
 #[derive(Clone, Copy)]
@@ -63,15 +60,8 @@ pub struct Progress {
     pub count: usize,
 }
 
-// Whether the text is a file, how many of its bytes some file begins with, and how many tokens it has.
-#[derive(Clone, Copy)]
-pub struct Scanned {
-    pub spelled: bool,
-    pub position: u32,
-    pub count: usize,
-}
-
-// Scans a text whose header ends at a position, or is wrong there. If the text is a file, the arrays hold its tokens.
+// Scans a text whose header ends at a position, or is wrong there. If the text is a file, the arrays hold its tokens, and
+// how many there are is answered; else how many of its bytes some file begins with.
 //
 // The contract rules out a scanner that reports a spelling error late, one that accepts a name above 65,535, and one that
 // accepts a name with a leading zero.
@@ -81,34 +71,26 @@ pub fn scan(
     roles: &mut [u8],
     numbers: &mut [u16],
     positions: &mut [u16],
-) -> Scanned
+) -> Result<usize, u32>
     requires text_len_bound { length text.now ≤ 65536 }
     requires at_value { at ≡ header_end text.now 0 }
     requires wide { Wide roles.old numbers.old positions.old }
     ensures { Answers text.now roles.new numbers.new positions.new result }
 {
     if at < HEADER.len() {
-        let position = at as u32;
-        return Scanned {
-            spelled: false,
-            position,
-            count: 0,
-        };
+        return Err(at as u32);
     }
-    walk(&MOVES, &COLUMNS, text, at, roles, numbers, positions)
+    walk(text, at, roles, numbers, positions)
 }
 
 // Takes the bytes after the header one after the other, up to the first where no file goes on.
 fn walk(
-    moves: &[u16; 2990],
-    columns: &[u16; 256],
     text: &[u8],
     at: usize,
     roles: &mut [u8],
     numbers: &mut [u16],
     positions: &mut [u16],
-) -> Scanned
-    requires tables { Tables moves.now columns.now }
+) -> Result<usize, u32>
     requires text_len_bound { length text.now ≤ 65536 }
     requires at_value { (at ≡ header_end text.now 0) × (9 ≤ at) }
     requires wide { Wide roles.old numbers.old positions.old }
@@ -121,37 +103,27 @@ fn walk(
         begin: 0,
         count: 0,
     };
+    // A `while`, since a turn takes as many bytes as the run is long: no range and no iterator has these steps.
     while q.at < text.len() {
-        q = advance(moves, columns, text, q, roles, numbers, positions);
+        q = advance(text, q, roles, numbers, positions);
         if q.place == DEAD {
-            let position = (q.at - 1) as u32;
-            return Scanned {
-                spelled: false,
-                position,
-                count: q.count,
-            };
+            return Err((q.at - 1) as u32);
         }
     }
-    let spelled = is_done(moves, columns, q.place);
-    let position = q.at as u32;
-    Scanned {
-        spelled,
-        position,
-        count: q.count,
+    if !is_done(q.place) {
+        return Err(q.at as u32);
     }
+    Ok(q.count)
 }
 
 // Takes one byte and the run after it, or the digits of a name.
 fn advance(
-    moves: &[u16; 2990],
-    columns: &[u16; 256],
     text: &[u8],
     q: Progress,
     roles: &mut [u8],
     numbers: &mut [u16],
     positions: &mut [u16],
 ) -> Progress
-    requires tables { Tables moves.now columns.now }
     requires text_len_bound { length text.now ≤ 65536 }
     requires at_in_bounds { (q.at < length text.now) × (0 < q.place) }
     requires holds { Holds text.now roles.old numbers.old positions.old q }
@@ -160,7 +132,7 @@ fn advance(
 {
     let at = q.at;
     let byte = text[at];
-    let entry = entry_at(moves, columns, q.place, byte);
+    let entry = entry_at(q.place, byte);
     let act = (entry / 256) as u8;
     let place = (entry % 256) as usize;
     if act < NAME {
@@ -171,9 +143,8 @@ fn advance(
             Progress {
                 at: at + 1,
                 place,
-                number: q.number,
-                begin: q.begin,
                 count,
+                ..q
             },
         );
     }
@@ -189,7 +160,7 @@ fn advance(
             place,
             number,
             begin,
-            count: q.count,
+            ..q
         },
     )
 }
@@ -249,9 +220,7 @@ fn skip_two(text: &[u8], q: Progress, place: usize, first: u8, second: u8, next:
     Progress {
         at: at + 2,
         place: next,
-        number: q.number,
-        begin: q.begin,
-        count: q.count,
+        ..q
     }
 }
 
@@ -261,16 +230,16 @@ fn skip_spaces(text: &[u8], q: Progress) -> Progress
     requires between { Between q.place × (q.at ≤ length text.now) }
     ensures { GoesOn text.now q result }
 {
-    let mut q = q;
-    while q.at < text.len() {
-        let at = q.at;
-        let byte = text[at];
-        if !is_space(byte) {
-            return q;
+    // An index and no `position`: mostly there is one space, where `position` takes more instructions.
+    for at in q.at..text.len() {
+        if !is_space(text[at]) {
+            return Progress { at, ..q };
         }
-        q.at = at + 1;
     }
-    q
+    Progress {
+        at: text.len(),
+        ..q
+    }
 }
 
 // Takes what is left of a comment line.
@@ -279,16 +248,23 @@ fn skip_comment(text: &[u8], q: Progress) -> Progress
     requires in_comment { InComment q.place × (q.at ≤ length text.now) }
     ensures { GoesOn text.now q result }
 {
-    let mut q = q;
-    while q.at < text.len() {
-        let at = q.at;
-        let byte = text[at];
-        if byte == LF {
-            return q;
-        }
-        q.at = at + 1;
+    let bytes = bytes_before_end(&text[q.at..]);
+    Progress {
+        at: q.at + bytes,
+        ..q
     }
-    q
+}
+
+// How many bytes stand before the first LF, or in all.
+fn bytes_before_end(bytes: &[u8]) -> usize
+    ensures within { result ≤ length bytes.now }
+    ensures no_end { (k : ℕ) → k < result → get_or bytes.now k 0 ≢ 10 }
+    ensures at_end { result < length bytes.now → get_or bytes.now result 0 ≡ 10 }
+{
+    bytes
+        .iter()
+        .position(|byte| *byte == LF)
+        .unwrap_or(bytes.len())
 }
 
 // Takes the further digits of the pending name.
@@ -297,21 +273,23 @@ fn read_digits(text: &[u8], q: Progress) -> Progress
     requires in_name { InName q.place × (q.number ≤ 65535) × (q.at ≤ length text.now) }
     ensures { GoesOn text.now q result }
 {
-    let mut q = q;
-    while q.at < text.len() {
-        let at = q.at;
+    let mut number = q.number;
+    for at in q.at..text.len() {
         let byte = text[at];
         if !is_digit(byte) {
-            return q;
+            return Progress { at, number, ..q };
         }
-        let number = 10 * q.number + (byte % 16) as u32;
-        if HIGHEST < number {
-            return stopped(q);
+        let further = 10 * number + (byte % 16) as u32;
+        if HIGHEST < further {
+            return stopped(Progress { at, number, ..q });
         }
-        q.number = number;
-        q.at = at + 1;
+        number = further;
     }
-    q
+    Progress {
+        at: text.len(),
+        number,
+        ..q
+    }
 }
 
 // Takes a digit that makes the pending name too high.
@@ -322,31 +300,28 @@ fn stopped(q: Progress) -> Progress
     Progress {
         at: q.at + 1,
         place: DEAD,
-        number: q.number,
-        begin: q.begin,
-        count: q.count,
+        ..q
     }
 }
 
 fn is_space(byte: u8) -> bool
     ensures { result ≡ is_space byte }
 {
-    (byte == SPACE) | (byte == TAB)
+    (byte == b' ') | (byte == b'\t')
 }
 
 fn is_digit(byte: u8) -> bool
     ensures { result ≡ is_digit byte }
 {
-    (48 <= byte) & (byte <= 57)
+    byte.is_ascii_digit()
 }
 
 // The table's entry for a byte at a place.
-fn entry_at(moves: &[u16; 2990], columns: &[u16; 256], place: usize, byte: u8) -> u16
-    requires tables { Tables moves.now columns.now }
-    requires place_bound { place < 115 }
+fn entry_at(place: usize, byte: u8) -> u16
+    requires { place < 115 }
     ensures { result ≡ entry_at place byte }
 {
-    moves[columns[byte as usize] as usize + place]
+    MOVES[COLUMNS[byte as usize] as usize + place]
 }
 
 // Writes the pending name as the next token. It counts once the name has ended.
@@ -396,10 +371,9 @@ fn count_after(role: u8, count: usize) -> usize
 }
 
 // The text may end here: its end is read as LF.
-fn is_done(moves: &[u16; 2990], columns: &[u16; 256], place: usize) -> bool
-    requires tables { Tables moves.now columns.now }
-    requires place_bound { place < 115 }
+fn is_done(place: usize) -> bool
+    requires { place < 115 }
     ensures { result ≡ eqb (entry_at place 10 % 256) 27 }
 {
-    (entry_at(moves, columns, place, LF) % 256) as usize == DONE
+    (entry_at(place, LF) % 256) as usize == DONE
 }

@@ -1,7 +1,8 @@
-// The tables that `columns` and `moves` of specs/Tables.antt make from the machine. The proof of `scan` computes both.
+// The tables that `columns` and `moves` of specs/Tables.antt make from the machine. The proof of `entry_at` computes both. They
+// are statics, which are read where they stand: no table is lent or copied.
 
 // For each byte, where the column of its class begins in `MOVES`.
-pub const COLUMNS: [u16; 256] = [
+pub static COLUMNS: [u16; 256] = [
     0, 0, 0, 0, 0, 0, 0, 0, 0, 230, 115, 0, 0, 0, 0, 0, 0, 0, 0, 0, 0, 0, 0, 0, 0, 0, 0, 0, 0, 0,
     0, 0, 230, 0, 0, 345, 0, 0, 0, 0, 460, 575, 0, 0, 690, 805, 0, 0, 920, 1035, 1035, 1035, 1035,
     1035, 1035, 1035, 1035, 1035, 0, 1150, 0, 1265, 0, 0, 0, 0, 0, 0, 0, 0, 0, 0, 0, 0, 0, 0, 0, 0,
@@ -15,7 +16,7 @@ pub const COLUMNS: [u16; 256] = [
 ];
 
 // For each class of bytes, and for each place in turn: the number of the next place, and 256 times what is done.
-pub const MOVES: [u16; 2990] = [
+pub static MOVES: [u16; 2990] = [
     0, 0, 0, 0, 0, 0, 0, 0, 0, 0, 0, 0, 0, 0, 0, 0, 0, 0, 0, 0, 0, 0, 0, 0, 0, 0, 0, 0, 0, 0, 0, 0,
     0, 0, 0, 0, 0, 0, 0, 0, 0, 0, 0, 0, 0, 0, 0, 0, 0, 0, 0, 0, 0, 0, 0, 0, 0, 0, 0, 0, 0, 0, 0, 0,
     0, 65, 66, 67, 0, 0, 0, 0, 0, 0, 0, 0, 0, 0, 0, 0, 0, 0, 0, 0, 0, 0, 0, 0, 0, 0, 0, 0, 0, 0, 0,

@@ -6,9 +6,10 @@ use mathlib.Core.Path.{◌≡◌, refl, sym, ◌∙◌, ap}
 use Prim.Native.Nat.{ℕ, suc, ◌+◌, ◌-◌}
 use native.Mathlib.Omega.{arith}
 use lib.Dec.{eqb, leb}
+use Rattle.std.specs.Prelude.{Option, Some, None}
 use lib.ListN.{length}
 use Rattle.lists.specs.Choice.{pick, pick_yes, pick_no}
-use Rattle.formula.specs.Node.{Quantifier, exists, for_all, constant, variable, negation}
+use Rattle.formula.specs.Node.{Quantifier, exists, for_all, constant}
 use Rattle.formula.specs.Words.{words_of, block_words}
 use Rattle.formula.specs.Form.{kind_of}
 use Rattle.qcir.specs.File.{Name, Literal, Junction, conjunction, disjunction, Gate, junction_gate, xor_gate, quantifier_gate, gate_name, numbers_of}
@@ -34,32 +35,10 @@ use Rattle.qcir_tokens.specs.Tokens.{
 }
 use Rattle.qcir_tokens.proofs.Roles.{junction_defines, xor_defines}
 use Rattle.qcir_nodes.specs.declared.Progress.{Progress}
-use Rattle.qcir_nodes.specs.Nodes.{
-  Added,
-  begun,
-  lengthened,
-  moved,
-  add_none,
-  add_node,
-  and_then,
-  add_name,
-  add_minus,
-  add_literal,
-  join_table,
-  add_join,
-  add_input,
-  empty_constant,
-  add_operand,
-  gate_block_kind,
-  add_block,
-  add_end,
-  add_use,
-  add_token,
-  token_entries,
-}
+use Rattle.qcir_nodes.specs.Nodes.{Added, begun, lengthened, add_none, add_node, and_then, add_literal, join_table, add_join, add_input, empty_constant, add_operand, gate_block_kind, add_block, add_end, add_use, add_token, token_entries}
 use Rattle.qcir_nodes.proofs.Nodes.{follows_input, follows_use}
 use Rattle.qcir_nodes.proofs.Roles.{definition_not_last, bound_not_last, entries_definition, entries_bound, entries_use}
-use Rattle.qcir_nodes.proofs.Stored.{with_added, Aligned, aligned_after, with_node_lem, with_none, with_then, with_literal, with_input, store_joined}
+use Rattle.qcir_nodes.proofs.Stored.{with_added, Aligned, aligned_after, with_node_lem, with_none, with_then, with_literal, with_input, join_stored, store_joined}
 use Rattle.qcir_table.specs.Passes.{Writing, gates_after, write_token}
 use Rattle.qcir_table.proofs.Gates.{Counted, counted_token}
 
@@ -161,25 +140,15 @@ no_block : (p : Progress) → leb 16 p.kind ≡ false → add_block p ≡ add_no
 unfolding add_block
 no_block p h = pick_no _ _ _ h
 
-ready_by : (t : Bool) (p : Progress) (a b : Added) → a.progress.ready ≡ p.ready → b.progress.ready ≡ p.ready → (pick t a b).progress.ready ≡ p.ready
-unfolding pick
-ready_by true p a b e f = e
-ready_by false p a b e f = f
+-- once an input is stored, what was stored last is the node over the inputs so far
+join_inputs : (left : Option ℕ) (p : Progress) → (add_join left p).progress.inputs ≡ Some (add_join left p).progress.node
+unfolding add_join
+join_inputs (Some left) p = refl
+join_inputs None p = refl
 
-literal_ready : (p : Progress) (g x : ℕ) (minus : Bool) → (add_literal p g x minus).progress.ready ≡ p.ready
-unfolding add_literal add_name add_minus and_then
-literal_ready p g x minus =
-    let q = (pick (eqb g 0) (add_node p (words_of (variable x))) (record { words = []; progress = moved p p.next (g - 1) })).progress in
-    ready_by minus q (add_node q (words_of (negation q.node))) (add_none q) refl refl ∙ ready_by (eqb g 0) p (add_node p (words_of (variable x))) (record { words = []; progress = moved p p.next (g - 1) }) refl refl
-
-join_ready : (t : Bool) (left : ℕ) (p : Progress) → p.ready ≡ t → (add_join t left p).progress.ready ≡ true
-unfolding add_join pick
-join_ready true left p e = e
-join_ready false left p e = refl
-
-input_ready : (p : Progress) (g x : ℕ) (minus : Bool) → (add_input p g x minus).progress.ready ≡ true
+input_inputs : (p : Progress) (g x : ℕ) (minus : Bool) → (add_input p g x minus).progress.inputs ≡ Some (add_input p g x minus).progress.node
 unfolding add_input and_then
-input_ready p g x minus = join_ready p.ready p.node (add_literal p g x minus).progress (literal_ready p g x minus)
+input_inputs p g x minus = join_inputs p.inputs (add_literal p g x minus).progress
 
 module _ (w : Writing) (counted : Counted w) (l : Literal) where
   abbrev p : Progress
@@ -192,7 +161,7 @@ module _ (w : Writing) (counted : Counted w) (l : Literal) where
   g = w.draft.gate x
 
   abbrev joined : Stored
-  joined = store_joined p.ready (join_table p.kind) (at_hand w) l
+  joined = store_joined p.inputs (join_table p.kind) w.draft l
 
   -- an input that is not the last
   input_token : at_hand (write_token w (input_role l.minus false) x) ≡ joined
@@ -222,16 +191,16 @@ module _ (w : Writing) (counted : Counted w) (l : Literal) where
       ∙ with_end w.draft a (add_end_if true) (no_block a.progress k)
       ∙ with_input w.draft p l counted.words_counted)
 
--- the gate closed over the inputs ms, where kind, ready, stored and gate are those before them
-abbrev closed_inputs : Literal → List Literal → ℕ → Bool → Stored → ℕ → Draft
-closed_inputs m ms kind ready s gate = closed (store_inputs (join_table kind) (store_joined ready (join_table kind) s m) ms) gate
+-- the gate closed over the inputs ms, where kind, left, d and gate are those before them
+abbrev closed_inputs : Literal → List Literal → ℕ → Option ℕ → Draft → ℕ → Draft
+closed_inputs m ms kind left d gate = closed (store_inputs (join_table kind) (store_joined left (join_table kind) d m) ms) gate
 
-joined_next : (t : ℕ) (s : Stored) (m : Literal) (ms : List Literal) → store_inputs t (store_joined true t s m) ms ≡ store_inputs t s (m ∷ ms)
-unfolding store_joined store_inputs pick
+joined_next : (t : ℕ) (s : Stored) (m : Literal) (ms : List Literal) → store_inputs t (store_joined (Some s.node) t s.draft m) ms ≡ store_inputs t s (m ∷ ms)
+unfolding join_stored store_inputs
 joined_next t s m ms = refl
 
 inputs_law : (l : Literal) (ls : List Literal) (w : Writing) → Counted w → leb 16 w.progress.kind ≡ false
-    → (write_tokens w (inputs_tokens l ls)).draft ≡ closed_inputs l ls w.progress.kind w.progress.ready (at_hand w) w.progress.gate
+    → (write_tokens w (inputs_tokens l ls)).draft ≡ closed_inputs l ls w.progress.kind w.progress.inputs w.draft w.progress.gate
 unfolding write_tokens inputs_tokens store_inputs token
 inputs_law l [] w k h = last_input w k l h
 inputs_law l (m ∷ ms) w k h =
@@ -242,13 +211,13 @@ inputs_law l (m ∷ ms) w k h =
     let e : v.progress ≡ a.progress = input_progress w k l in
     let kind : v.progress.kind ≡ w.progress.kind = ap (λ z. z.kind) e ∙ f.kind_kept in
     let gate : v.progress.gate ≡ w.progress.gate = ap (λ z. z.gate) e ∙ f.gate_kept in
-    let s = store_joined w.progress.ready (join_table w.progress.kind) (at_hand w) l in
-    let ready : v.progress.ready ≡ true = ap (λ z. z.ready) e ∙ input_ready w.progress (w.draft.gate x) x l.minus in
+    let s = store_joined w.progress.inputs (join_table w.progress.kind) w.draft l in
+    let inputs : v.progress.inputs ≡ Some v.progress.node = ap (λ z. z.inputs) e ∙ input_inputs w.progress (w.draft.gate x) x l.minus ∙ ap (λ z. Some z.node) (sym e) in
     inputs_law m ms v (counted_token w _ x k) (ap (leb 16) kind ∙ h)
-    ∙ ap (λ z. closed_inputs m ms z v.progress.ready (at_hand v) v.progress.gate) kind
-    ∙ ap (λ z. closed_inputs m ms w.progress.kind z (at_hand v) v.progress.gate) ready
-    ∙ ap (λ z. closed_inputs m ms w.progress.kind true z v.progress.gate) (input_token w k l)
-    ∙ ap (λ z. closed_inputs m ms w.progress.kind true s z) gate
+    ∙ ap (λ z. closed_inputs m ms z v.progress.inputs v.draft v.progress.gate) kind
+    ∙ ap (λ z. closed_inputs m ms w.progress.kind z v.draft v.progress.gate) inputs
+    ∙ ap (λ (z : Stored). closed_inputs m ms w.progress.kind (Some z.node) z.draft v.progress.gate) (input_token w k l)
+    ∙ ap (λ z. closed_inputs m ms w.progress.kind (Some s.node) s.draft z) gate
     ∙ ap (λ z. closed z w.progress.gate) (joined_next (join_table w.progress.kind) s m ms)
 
 -- The variables of a quantified gate.
@@ -277,7 +246,7 @@ bound_law x (y ∷ ys) w =
 
 -- A quantified gate's only input, with the block over it.
 module _ (d : Draft) (q : Quantifier) (ns : List ℕ) (l : Literal) (p : Progress) (aligned : Aligned d p) (listed : length d.entries ≡ p.first)
-    (count : p.listed - p.first ≡ length ns) (ready : p.ready ≡ false) (kind : leb 16 p.kind ≡ true) (block : gate_block_kind p.kind ≡ kind_of q) where
+    (count : p.listed - p.first ≡ length ns) (fresh : p.inputs ≡ None) (kind : leb 16 p.kind ≡ true) (block : gate_block_kind p.kind ≡ kind_of q) where
   abbrev x' : ℕ
   x' = l.name.number
 
@@ -288,10 +257,10 @@ module _ (d : Draft) (q : Quantifier) (ns : List ℕ) (l : Literal) (p : Progres
   input = add_input p (d.gate x') x' l.minus
 
   input_is : with_added (with_entries d ns) input ≡ with_added (with_entries d ns) literal
-  unfolding store_joined pick
+  unfolding join_stored
   input_is =
       with_input (with_entries d ns) p l aligned
-      ∙ ap (λ t. store_joined t (join_table p.kind) (record { draft = with_entries d ns; node = p.node }) l) ready
+      ∙ ap (λ t. store_joined t (join_table p.kind) (with_entries d ns) l) fresh
       ∙ sym (with_literal (with_entries d ns) p l aligned)
 
   block_is : with_added (with_entries d ns) (and_then input add_block) ≡ store_block q ns (store_literal d l)
@@ -347,7 +316,7 @@ empty_law j g w k =
 -- a gate whose inputs are joined
 joined_law : (role t : ℕ) (g : Name) (l : Literal) (ls : List Literal) (w : Writing) → Counted w → is_definition role ≡ true → leb 16 role ≡ false → join_table role ≡ t
     → (write_tokens (defined w role g.number) (inputs_tokens l ls)).draft ≡ closed (store_inputs t (store_literal w.draft l) ls) g.number
-unfolding store_joined pick
+unfolding join_stored
 joined_law role t g l ls w k d h e =
     inputs_law l ls (defined w role g.number) (counted_defined w role g.number d k) h
     ∙ ap (λ z. closed (store_inputs z (store_literal w.draft l) ls) g.number) e

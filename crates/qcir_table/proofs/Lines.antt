@@ -2,11 +2,12 @@
 -- Assumes nothing.
 use mathlib.Core.Bool.{Bool, true, false}
 use mathlib.Core.List.{List, [], ◌∷◌, ◌++◌}
-use mathlib.Core.Path.{◌≡◌, refl, sym, ◌∙◌, ap, subst}
+use mathlib.Core.Path.{◌≡◌, refl, sym, ◌∙◌, ap}
 use Prim.Native.Nat.{ℕ, zero, suc, ◌+◌, ◌-◌, ◌*◌, ◌≤◌, ◌<◌}
 use native.Mathlib.Omega.{arith}
-use lib.ListN.{length, get_or, length-append}
-use lib.Seq.{slice, slice_empty, slice-cons, length-slice}
+use lib.ListN.{length, get_or, take, drop, length-append}
+use lib.Seq.{slice, slice_empty, slice-cons}
+use Rattle.std.proofs.lemmas.List.{drop-take}
 use Rattle.lists.specs.Choice.{pick}
 use Rattle.lists.specs.Parts.{overwrite}
 use Rattle.lists.proofs.Overwrite.{overwrite_nil}
@@ -129,7 +130,7 @@ module _ (roles numbers : List ℕ) (start : Progress) where
       pub few_entries : (lines_written roles numbers start 0 outer).progress.listed ≤ limit
 
     module _ (i end : ℕ) (words₀ list₀ words list : List ℕ) (p : Progress) (r : Reached (suc i) end words₀ list₀ words list p) (long : outer ≤ length numbers)
-        (fits : Fits words₀ list₀) where
+        (fits : Fits words₀ list₀) (variables : List ℕ) (part : variables ≡ slice i end numbers) where
       abbrev role : ℕ
       role = get_or roles i 0
 
@@ -137,31 +138,28 @@ module _ (roles numbers : List ℕ) (start : Progress) where
       before = lines_from (suc i)
 
       -- the line's variables so far
-      line_is : get_or numbers i 0 ∷ before.pending ≡ slice i end numbers
+      line_is : get_or numbers i 0 ∷ before.pending ≡ variables
       line_is =
           let a = r.from_le in
           let b = r.end_le in
-          sym (slice-cons i end numbers 0 (omega arith) (omega arith) ∙ ap (λ xs. get_or numbers i 0 ∷ xs) (sym r.waiting_are))
-
-      line_length : length (get_or numbers i 0 ∷ before.pending) ≡ end - i
-      line_length =
-          let b = r.end_le in ap length line_is ∙ length-slice i end numbers (omega arith)
+          sym (part ∙ slice-cons i end numbers 0 (omega arith) (omega arith) ∙ ap (λ xs. get_or numbers i 0 ∷ xs) (sym r.waiting_are))
 
       -- what the token adds, in the code's terms
       after_is : lines_from i ≡ record {
-        words = before.words ++ (add_if_line p role (end - i)).words;
-        entries = before.entries ++ pick (starts_line role) (slice i end numbers) [];
-        progress = (add_if_line p role (end - i)).progress;
-        pending = pick (starts_line role) [] (slice i end numbers);
+        words = before.words ++ (add_if_line p role (length variables)).words;
+        entries = before.entries ++ pick (starts_line role) variables [];
+        progress = (add_if_line p role (length variables)).progress;
+        pending = pick (starts_line role) [] variables;
       }
       unfolding add_outer
       after_is =
           let a = r.from_le in
           let b = r.end_le in
-          next_is i (omega arith) ∙ rw (line_length, line_is, ← r.progress_is)
+          let e : length (get_or numbers i 0 ∷ before.pending) ≡ length variables = ap length line_is in
+          next_is i (omega arith) ∙ rw (e, line_is, ← r.progress_is)
 
-      adds : LineAdds p (add_if_line p role (end - i)) (pick (starts_line role) (slice i end numbers) [])
-      adds = subst (λ n. LineAdds p (add_if_line p role n) (pick (starts_line role) (slice i end numbers) [])) (sym (ap length line_is) ∙ line_length) (line_adds p role (slice i end numbers))
+      adds : LineAdds p (add_if_line p role (length variables)) (pick (starts_line role) variables [])
+      adds = line_adds p role variables
 
       -- the progress before it, as far as it is added
       before_counted : (width * start.next + length before.words ≡ width * p.next) × (start.listed + length before.entries ≡ p.listed)
@@ -173,26 +171,26 @@ module _ (roles numbers : List ℕ) (start : Progress) where
           (omega arith, omega arith)
 
       -- there is room for what the token adds
-      pub outer_room : Room words (add_if_line p role (end - i))
+      pub outer_room : Room words (add_if_line p role (length variables))
       outer_room =
           let l : i ≤ outer = omega (arith, r.from_le, r.end_le) in
           let g = grows i l in
-          let a : (lines_from i).progress.next ≡ (add_if_line p role (end - i)).progress.next = ap (λ s. s.progress.next) after_is in
+          let a : (lines_from i).progress.next ≡ (add_if_line p role (length variables)).progress.next = ap (λ s. s.progress.next) after_is in
           record { fits = omega (arith, fits.words_fit, r.words_kept); small = omega (arith, fits.few_words) }
 
-      pub outer_listed : ((add_if_line p role (end - i)).progress.listed ≤ length list) × ((add_if_line p role (end - i)).progress.listed ≤ limit)
+      pub outer_listed : ((add_if_line p role (length variables)).progress.listed ≤ length list) × ((add_if_line p role (length variables)).progress.listed ≤ limit)
       outer_listed =
           let l : i ≤ outer = omega (arith, r.from_le, r.end_le) in
           let g = grows i l in
-          let a : (lines_from i).progress.listed ≡ (add_if_line p role (end - i)).progress.listed = ap (λ s. s.progress.listed) after_is in
+          let a : (lines_from i).progress.listed ≡ (add_if_line p role (length variables)).progress.listed = ap (λ s. s.progress.listed) after_is in
           (omega (arith, fits.list_fits, r.list_kept), omega (arith, fits.few_entries))
 
-      pub reached_outer : (words' list' : List ℕ) (q : Progress) (end' : ℕ) → Wrote words p (add_if_line p role (end - i)) words' q
-          → list' ≡ overwrite list p.listed (pick (starts_line role) (slice i end numbers) []) → end' ≡ pick (starts_line role) i end
+      pub reached_outer : (words' list' : List ℕ) (q : Progress) (end' : ℕ) → Wrote words p (add_if_line p role (length variables)) words' q
+          → list' ≡ overwrite list p.listed (pick (starts_line role) variables []) → end' ≡ pick (starts_line role) i end
           → length words' ≡ length words → length list' ≡ length list → Reached i end' words₀ list₀ words' list' q
       reached_outer words' list' q end' w l e kw kl =
-          let a = add_if_line p role (end - i) in
-          let es : List ℕ = pick (starts_line role) (slice i end numbers) [] in
+          let a = add_if_line p role (length variables) in
+          let es : List ℕ = pick (starts_line role) variables [] in
           let b = before_counted in
           let rm = outer_room in
           let ls = outer_listed in
@@ -205,16 +203,21 @@ module _ (roles numbers : List ℕ) (start : Progress) where
                 write_after list₀ list list' start.listed p.listed before.entries es r.list_is l (omega arith) (omega (arith, adds.entries_counted, ls.0, r.list_kept))
                 ∙ ap (λ s. overwrite list₀ start.listed s.entries) (sym after_is);
             progress_is = w.progress_is ∙ ap (λ s. s.progress) (sym after_is);
-            waiting_are = ap (λ s. s.pending) after_is ∙ waiting_by (starts_line role) _ numbers i end refl ∙ ap (λ z. slice i z numbers) (sym e);
+            waiting_are = ap (λ s. s.pending) after_is ∙ waiting_by (starts_line role) variables numbers i end part ∙ ap (λ z. slice i z numbers) (sym e);
             from_le = omega (arith, bounds.0);
             end_le = omega (arith, bounds.1);
             words_kept = kw ∙ r.words_kept;
             list_kept = kl ∙ r.list_kept;
           }
 
+-- a part of a list, as the code takes it
+pub part_is : (i end : ℕ) (xs : List ℕ) → i ≤ end → take (end - i) (drop i xs) ≡ slice i end xs
+part_is i end xs h =
+    let e : i + (end - i) ≡ end = omega arith in sym (drop-take i (end - i) xs) ∙ ap (λ n. drop i (take n xs)) e
+
 -- A line's block, written as a node, with its entries counted.
 pub line_wrote : {o m : List ℕ} {p q : Progress} (k count : ℕ) (node : NodeWords) → node ≡ block_words (line_block_kind k) p.listed count p.node → Wrote o p (add_node p node) m q
-    → Wrote o p (add_line p k count) m (record { next = q.next; listed = p.listed + count; node = q.node; kind = q.kind; gate = q.gate; ready = q.ready; first = q.first })
+    → Wrote o p (add_line p k count) m (record { next = q.next; listed = p.listed + count; node = q.node; kind = q.kind; gate = q.gate; inputs = q.inputs; first = q.first })
 line_wrote {o} {m} {p} {q} k count node e w =
     record {
       words_are = w.words_are ∙ ap (λ n. overwrite o (width * p.next) (word_list n)) e;
@@ -222,4 +225,4 @@ line_wrote {o} {m} {p} {q} k count node e w =
     }
   where
     counted_line : ℕ → Progress → Progress
-    counted_line n s = record { next = s.next; listed = p.listed + n; node = s.node; kind = s.kind; gate = s.gate; ready = s.ready; first = s.first }
+    counted_line n s = record { next = s.next; listed = p.listed + n; node = s.node; kind = s.kind; gate = s.gate; inputs = s.inputs; first = s.first }

@@ -1,6 +1,6 @@
 -- The two passes over the tokens: the gate lines forward, the prefix lines backward.
 -- Assumes nothing.
-use Rattle.std.specs.Prelude.{Bool, false, not, ◌&&◌, List, [], ◌∷◌, ◌++◌, ◌≡◌, ℕ, zero, suc, ◌+◌, eqb, leb, length, get_or}
+use Rattle.std.specs.Prelude.{Bool, not, None, ◌&&◌, List, [], ◌∷◌, ◌++◌, ◌≡◌, ℕ, zero, suc, ◌+◌, eqb, leb, length, get_or}
 use Rattle.lists.specs.Choice.{pick}
 use Rattle.lists.specs.Search.{lowest}
 use Rattle.formula.specs.Words.{block_words, word_list}
@@ -11,7 +11,7 @@ use Rattle.qcir_nodes.specs.declared.Progress.{Progress}
 use Rattle.qcir_nodes.specs.Nodes.{Added, moved, lengthened, add_none, add_token, token_entries}
 
 abbrev pub no_progress : Progress
-no_progress = record { next = 0; listed = 0; node = 0; kind = 0; gate = 0; ready = false; first = 0 }
+no_progress = record { next = 0; listed = 0; node = 0; kind = 0; gate = 0; inputs = None; first = 0 }
 
 -- What is stored, and how far the writing has come.
 pub record Writing : Type 0 where

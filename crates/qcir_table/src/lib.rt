@@ -3,7 +3,6 @@
 #![tactic(auto)]
 
 ghost use Rattle.std.specs.Prelude.{[], ◌≡◌, ◌+◌, ◌-◌, ◌*◌, ◌≤◌, length, get_or};
-ghost use Rattle.std.proofs.Math.Seq.{slice};
 ghost use Rattle.lists.specs.Choice.{pick};
 ghost use Rattle.lists.specs.Parts.{overwrite};
 ghost use Rattle.formula.specs.Words.{width};
@@ -64,13 +63,11 @@ fn write_gates(
         node: 0,
         kind: 0,
         gate: 0,
-        ready: false,
+        inputs: None,
         first: 0,
     };
-    let mut i = first;
-    while i < count {
+    for i in first..count {
         p = write_token(words, list, nodes, p, roles[i], numbers[i]);
-        i += 1;
     }
     p
 }
@@ -80,14 +77,12 @@ fn output_index(roles: &[u8], count: usize) -> usize
     requires { count ≤ length roles.now }
     ensures { result ≡ output_index roles.now count }
 {
-    let mut i: usize = 0;
-    while i < count {
-        if !is_outer(roles[i]) {
+    for (i, role) in roles[..count].iter().enumerate() {
+        if !is_outer(*role) {
             return i;
         }
-        i += 1;
     }
-    i
+    count
 }
 
 // Whether a prefix line starts with this token.
@@ -107,40 +102,37 @@ fn line_block_kind(role: u8) -> u32
     FOR_ALL_BLOCK
 }
 
-// Copies the numbers from i up to end into the list, from entry `at` on.
-fn copy_numbers(list: &mut [u32], at: usize, numbers: &[u16], i: usize, end: usize)
-    requires { (i ≤ end) × (end ≤ length numbers.now) × (at + (end - i) ≤ length list.old) }
-    ensures { list.new ≡ overwrite list.old at (slice i end numbers.now) }
+// Copies the numbers into the list, from entry `at` on.
+fn copy_numbers(list: &mut [u32], at: usize, numbers: &[u16])
+    requires { at + length numbers.now ≤ length list.old }
+    ensures { list.new ≡ overwrite list.old at numbers.now }
 {
-    let mut k = i;
-    while k < end {
-        list[at + (k - i)] = numbers[k] as u32;
-        k += 1;
+    for (k, number) in numbers.iter().enumerate() {
+        list[at + k] = u32::from(*number);
     }
 }
 
-// Writes the block of the prefix line whose tokens are those from i up to end.
+// Writes the block of a prefix line, whose variables are these.
 fn write_line(
     words: &mut [u32],
     list: &mut [u32],
     p: Progress,
     role: u8,
-    numbers: &[u16],
-    i: usize,
-    end: usize,
+    variables: &[u16],
 ) -> Progress
-    requires i_le_end { (i ≤ end) × (end ≤ length numbers.now) × (p.listed + (end - i) ≤ length list.old)
-        × (p.listed + (end - i) ≤ limit) }
-    requires room { Room words.old (add_line p role (end - i)) }
-    ensures wrote { Wrote words.old p (add_line p role (end - i)) words.new result }
-    ensures list_after { list.new ≡ overwrite list.old p.listed (slice i end numbers.now) }
+    requires listed { (p.listed + length variables.now ≤ length list.old)
+        × (p.listed + length variables.now ≤ limit) }
+    requires room { Room words.old (add_line p role (length variables.now)) }
+    ensures wrote { Wrote words.old p (add_line p role (length variables.now)) words.new result }
+    ensures list_after { list.new ≡ overwrite list.old p.listed variables.now }
 {
-    let count = (end - i) as u32;
-    copy_numbers(list, p.listed as usize, numbers, i, end);
+    let count = variables.len() as u32;
+    copy_numbers(list, p.listed as usize, variables);
     let block = block_node(line_block_kind(role), p.listed, count, p.node);
-    let mut q = write_node(words, p, block);
-    q.listed = p.listed + count;
-    q
+    Progress {
+        listed: p.listed + count,
+        ..write_node(words, p, block)
+    }
 }
 
 // Writes the prefix lines as blocks over what was stored last, the last line first. Their tokens are
@@ -167,11 +159,9 @@ fn write_lines(
 {
     let mut p = start;
     let mut end = outer;
-    let mut i = outer;
-    while 0 < i {
-        i -= 1;
+    for i in (0..outer).rev() {
         let role = roles[i];
-        p = write_outer(words, list, p, role, numbers, i, end);
+        p = write_outer(words, list, p, role, &numbers[i..end]);
         end = line_end(role, i, end);
     }
 }
@@ -186,27 +176,24 @@ fn line_end(role: u8, i: usize, end: usize) -> usize
     end
 }
 
-// Writes the block of the prefix line that starts with token i and ends before `end`, if one starts
-// there.
+// Writes the block of a prefix line if one starts at this token; the variables are those from the
+// token up to its line's end.
 fn write_outer(
     words: &mut [u32],
     list: &mut [u32],
     p: Progress,
     role: u8,
-    numbers: &[u16],
-    i: usize,
-    end: usize,
+    variables: &[u16],
 ) -> Progress
-    requires i_le_end { (i ≤ end) × (end ≤ length numbers.now) }
-    requires room { Room words.old (add_if_line p role (end - i)) }
-    requires i_in_bounds { ((add_if_line p role (end - i)).progress.listed ≤ length list.old)
-        × ((add_if_line p role (end - i)).progress.listed ≤ limit) }
-    ensures wrote { Wrote words.old p (add_if_line p role (end - i)) words.new result }
+    requires room { Room words.old (add_if_line p role (length variables.now)) }
+    requires listed { ((add_if_line p role (length variables.now)).progress.listed ≤ length list.old)
+        × ((add_if_line p role (length variables.now)).progress.listed ≤ limit) }
+    ensures wrote { Wrote words.old p (add_if_line p role (length variables.now)) words.new result }
     ensures list_after { list.new
-        ≡ overwrite list.old p.listed (pick (starts_line role) (slice i end numbers.now) []) }
+        ≡ overwrite list.old p.listed (pick (starts_line role) variables.now []) }
 {
     if starts_line(role) {
-        return write_line(words, list, p, role, numbers, i, end);
+        return write_line(words, list, p, role, variables);
     }
     p
 }
@@ -222,6 +209,7 @@ pub fn write_table(roles: &[u8], numbers: &[u16], count: usize, words: &mut [u32
         → (words.new ≡ overwrite words.old 0 (table_words f))
         × (list.new ≡ overwrite list.old 0 (table_list f)) }
 {
+    // for each number, one more than the node of the gate that it names, or 0: an `Option` would take twice the room
     let mut nodes = [0u16; NUMBERS];
     let output = output_index(roles, count);
     let p = write_gates(roles, numbers, output + 1, count, words, list, &mut nodes);

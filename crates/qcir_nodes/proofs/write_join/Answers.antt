@@ -1,19 +1,18 @@
 -- `qcir_nodes::write_join` meets its contract: an operator from the second input on.
 -- Assumes nothing.
 use Rattle.qcir_nodes.specs.Nodes.{add_join}
-use Rattle.qcir_nodes.proofs.Nodes.{room_yes, wrote_yes, wrote_no, wrote_none}
+use Rattle.qcir_nodes.proofs.Nodes.{wrote_none, wrote_join}
 use Rattle.qcir_nodes.proofs.write_join.Goals as goal
 
-pub write_node-requires : goal.write_node-requires
+pub write_node-q-requires : goal.write_node-q-requires
 unfolding add_join
-write_node-requires c =
-    let r = room_yes _ _ _ _ c.if-ready.true c.requires in
+write_node-q-requires c =
+    let r = rw c.in-Some.is at c.requires in
     record { fits = r.fits; small = r.small }
 
-pub returns-then-ready : goal.returns-then-ready
-unfolding add_join
-returns-then-ready c = wrote_yes _ _ _ _ _ _ _ c.if-ready.true (rw (c.operator_node.ensures, c.join_table.ensures) at c.write_node.ensures)
+pub returns-in-Some : goal.returns-in-Some
+returns-in-Some c = rw c.in-Some.is (wrote_join _ (rw (c.operator_node.ensures, c.join_table.ensures) at c.write_node-q.ensures))
 
-pub returns : goal.returns
+pub returns-in-None : goal.returns-in-None
 unfolding add_join
-returns c = wrote_no _ _ _ _ _ _ _ c.if-ready.false (wrote_none _ _ _)
+returns-in-None c = rw c.in-None.is (wrote_none _ _ _)

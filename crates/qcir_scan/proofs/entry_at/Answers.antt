@@ -1,43 +1,32 @@
--- `qcir_scan::entry_at` meets its contract: the index is within the table.
+-- `qcir_scan::entry_at` meets its contract: the index is within the table. The code's tables are those of specs/Tables.antt: both are
+-- computed here.
 -- Assumes nothing.
-use Prim.Native.Nat.{◌+◌, ◌<◌}
-use native.Mathlib.Omega.{arith}
-use lib.ListN.{get_or}
+use mathlib.Core.List.{flat_map}
+use mathlib.Core.Path.{refl}
+use Rattle.lists.specs.Choice.{pick}
+use Rattle.lists.specs.Members.{mem, place}
+use Rattle.lists.specs.Parts.{numbers}
+use Rattle.qcir.specs.Spelling.{is_space, is_digit}
+use Rattle.qcir_tokens.specs.Tokens.{token}
+use Rattle.qcir_spelling.specs.Machine.{row, arrow, points, row_at, arrow_of, some_begins, same, begins, move, move_name, emit, read_word, end_line, read_digit, between, step_at}
+use Rattle.qcir_scan.specs.Places.{places, code, index_in, number_of}
+use Rattle.qcir_scan.specs.Tables.{samples, sample_of, columns, trial, first_role, done, entry_for, moves, Tables}
+use Prim.Native.Nat.{◌<◌}
 use borrow.Author.Rules.{rules}
-use Rattle.qcir_scan.proofs.Columns.{in_table, table_entry}
+use Rattle.qcir_scan.specs.declared.table.TheConstants.{COLUMNS, MOVES}
+use Rattle.qcir_scan.proofs.Columns.{index_low, entry_is}
 use Rattle.qcir_scan.proofs.entry_at.Goals as goal
 
-pub overflow_cast-result-2 : goal.overflow_cast-result-2
-overflow_cast-result-2 c =
-    let a = c.args in
-    let w : a.byte < 256 = search rules in
-    let l : get_or a.columns.now a.byte 0 + a.place < 2990 = rw c.requires.tables.columns_are (in_table a.place c.requires.place_bound a.byte w) in
-    omega arith
-
-pub overflow_add-result : goal.overflow_add-result
-overflow_add-result c =
-    let a = c.args in
-    let w : a.byte < 256 = search rules in
-    let l : get_or a.columns.now a.byte 0 + a.place < 2990 = rw c.requires.tables.columns_are (in_table a.place c.requires.place_bound a.byte w) in
-    omega arith
-
-pub offset_bounds-moves-columns : goal.offset_bounds-moves-columns
-offset_bounds-moves-columns c =
-    let a = c.args in
-    let w : a.byte < 256 = search rules in
-    let l : get_or a.columns.now a.byte 0 + a.place < 2990 = rw c.requires.tables.columns_are (in_table a.place c.requires.place_bound a.byte w) in
-    omega arith
-
-pub bounds-moves-columns : goal.bounds-moves-columns
-bounds-moves-columns c =
-    let a = c.args in
-    let w : a.byte < 256 = search rules in
-    let l : get_or a.columns.now a.byte 0 + a.place < 2990 = rw c.requires.tables.columns_are (in_table a.place c.requires.place_bound a.byte w) in
-    omega arith
+pub bounds-byte-2 : goal.bounds-byte-2
+unfolding moves columns entry_for sample_of samples mem place numbers is_space is_digit places number_of index_in code trial first_role done step_at between end_line read_digit read_word move move_name emit arrow_of some_begins same begins pick row arrow points row_at token flat_map
+bounds-byte-2 c =
+    let w : c.args.byte < 256 = search rules in
+    let t : Tables MOVES COLUMNS = record { moves_are = refl; columns_are = refl } in
+    index_low c.args.place c.requires c.args.byte w t
 
 pub returns : goal.returns
+unfolding moves columns entry_for sample_of samples mem place numbers is_space is_digit places number_of index_in code trial first_role done step_at between end_line read_digit read_word move move_name emit arrow_of some_begins same begins pick row arrow points row_at token flat_map
 returns c =
-    let a = c.args in
-    let w : a.byte < 256 = search rules in
-    let t = c.requires.tables in
-    rw (t.moves_are, t.columns_are) (table_entry a.place c.requires.place_bound a.byte w)
+    let w : c.args.byte < 256 = search rules in
+    let t : Tables MOVES COLUMNS = record { moves_are = refl; columns_are = refl } in
+    entry_is c.args.place c.requires c.args.byte w t

@@ -1,10 +1,9 @@
--- `qcir_table::write_lines` meets its contract. The loop's invariant: what the tokens from token i on add is written. The measure is how many tokens are left.
+-- `qcir_table::write_lines` meets its contract. The loop's invariant: what the tokens from token i on add is written.
 -- Assumes nothing.
 use mathlib.Core.Path.{◌≡◌}
 use Prim.Native.Nat.{suc, ◌-◌}
 use native.Mathlib.Omega.{arith}
-use borrow.Author.Rules.{rules}
-use Rattle.qcir_table.proofs.Lines.{Fits, reached_start, outer_room, outer_listed, reached_outer, reached_end}
+use Rattle.qcir_table.proofs.Lines.{Fits, reached_start, outer_room, outer_listed, reached_outer, reached_end, part_is}
 use Rattle.qcir_table.proofs.write_lines.Goals as goal
 
 pub loop-i-init : goal.loop-i-init
@@ -17,10 +16,10 @@ write_outer-p-requires c =
     let t = c.loop-i-test.true in
     let e : v.i ≡ suc (v.i - 1) = omega arith in
     let r = rw e at v.invariant in
-    let f : Fits a.roles.now a.numbers.now a.start a.outer a.words.now a.list.now = record { words_fit = c.requires.outer_in_bounds_2.0; few_words = c.requires.outer_in_bounds_2.1; list_fits = c.requires.outer_in_bounds_3.0; few_entries = c.requires.outer_in_bounds_3.1 } in record {
-      i_le_end = search rules;
-      room = outer_room _ _ _ _ _ _ _ _ _ _ _ r c.requires.outer_in_bounds.1 f;
-      i_in_bounds = outer_listed _ _ _ _ _ _ _ _ _ _ _ r c.requires.outer_in_bounds.1 f;
+    let f : Fits a.roles.now a.numbers.now a.start a.outer a.words.now a.list.now = record { words_fit = c.requires.outer_in_bounds_2.0; few_words = c.requires.outer_in_bounds_2.1; list_fits = c.requires.outer_in_bounds_3.0; few_entries = c.requires.outer_in_bounds_3.1 } in
+    let part = part_is (v.i - 1) v.end a.numbers.now (omega (arith, r.from_le)) in record {
+      room = outer_room _ _ _ _ _ _ _ _ _ _ _ r c.requires.outer_in_bounds.1 f _ part;
+      listed = outer_listed _ _ _ _ _ _ _ _ _ _ _ r c.requires.outer_in_bounds.1 f _ part;
     }
 
 pub loop-i-preserved : goal.loop-i-preserved
@@ -31,13 +30,7 @@ loop-i-preserved c =
     let e : v.i ≡ suc (v.i - 1) = omega arith in
     let r = rw e at v.invariant in
     let f : Fits a.roles.now a.numbers.now a.start a.outer a.words.now a.list.now = record { words_fit = c.requires.outer_in_bounds_2.0; few_words = c.requires.outer_in_bounds_2.1; list_fits = c.requires.outer_in_bounds_3.0; few_entries = c.requires.outer_in_bounds_3.1 } in
-    reached_outer _ _ _ _ _ _ _ _ _ _ _ r c.requires.outer_in_bounds.1 f _ _ _ _ c.write_outer-p.ensures.wrote c.write_outer-p.ensures.list_after c.line_end-end.ensures c.write_outer-p.auto.words c.write_outer-p.auto.list
-
-pub shape_of-words : goal.shape_of-words
-shape_of-words c = c.loop-i.invariant.words_kept
-
-pub shape_of-list : goal.shape_of-list
-shape_of-list c = c.loop-i.invariant.list_kept
+    reached_outer _ _ _ _ _ _ _ _ _ _ _ r c.requires.outer_in_bounds.1 f _ (part_is (v.i - 1) v.end a.numbers.now (omega (arith, r.from_le))) _ _ _ _ c.write_outer-p.ensures.wrote c.write_outer-p.ensures.list_after c.line_end-end.ensures c.write_outer-p.auto.words c.write_outer-p.auto.list
 
 pub returns : goal.returns
 returns c = let w = reached_end _ _ _ _ _ _ _ _ _ _ _ (omega arith) c.loop-i.invariant in record { words_after = w.0; list_after = w.1 }

@@ -1,7 +1,7 @@
 -- `qcir_table::write_outer` meets its contract: a block where a line starts.
 -- Assumes nothing.
 use mathlib.Core.Path.{sym, ◌∙◌, ap}
-use Prim.Native.Nat.{◌-◌}
+use lib.ListN.{length}
 use native.Mathlib.Omega.{arith}
 use Rattle.lists.specs.Choice.{pick_yes, pick_no}
 use Rattle.qcir_nodes.specs.Nodes.{add_none}
@@ -15,8 +15,8 @@ unfolding add_if_line
 write_line-requires c =
     let a = c.args in
     let t = sym c.starts_line.ensures ∙ c.if-starts_line.true in
-    let e = ap (λ z. z.progress.listed) (pick_yes _ (add_line a.p a.role (a.end - a.i)) (add_none a.p) t) in record {
-      i_le_end = (c.requires.i_le_end.0, c.requires.i_le_end.1, omega (arith, c.requires.i_in_bounds.0), omega (arith, c.requires.i_in_bounds.1));
+    let e = ap (λ z. z.progress.listed) (pick_yes _ (add_line a.p a.role (length a.variables.now)) (add_none a.p) t) in record {
+      listed = (omega (arith, c.requires.listed.0), omega (arith, c.requires.listed.1));
       room = room_yes _ _ _ _ t c.requires.room;
     }
 
