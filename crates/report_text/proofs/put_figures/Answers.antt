@@ -9,9 +9,6 @@ use Rattle.report_text.proofs.put_figures.Goals as goal
 pub loop-x-init : goal.loop-x-init
 loop-x-init c = (figures_none _ c.args.figures.now _, omega arith)
 
-pub put_figure-next-requires : goal.put_figure-next-requires
-put_figure-next-requires c = omega (arith, c.loop-x.invariant.1)
-
 pub loop-x-preserved : goal.loop-x-preserved
 loop-x-preserved c =
     let turn = c.loop-x in
@@ -19,9 +16,6 @@ loop-x-preserved c =
       figures_next _ turn.x-index c.loop-x-test.true turn.invariant.0 put.0,
       omega (arith, turn.invariant.1, put.1),
     )
-
-pub shape_of-out : goal.shape_of-out
-shape_of-out c = c.loop-x.invariant.0.kept
 
 pub returns : goal.returns
 returns c =

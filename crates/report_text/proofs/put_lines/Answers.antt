@@ -16,9 +16,6 @@ use Rattle.report_text.proofs.put_lines.Goals as goal
 pub loop-i-init : goal.loop-i-init
 loop-i-init c = lines_none _ _ _ _ c.requires
 
-pub line_at-line-requires : goal.line_at-line-requires
-line_at-line-requires c = omega (arith, c.requires.lines, c.loop-i-test.true)
-
 pub put_name_line-at-requires : goal.put_name_line-at-requires
 put_name_line-at-requires c =
     let pre = c.requires in
@@ -42,9 +39,6 @@ loop-i-preserved c =
     let this : List ℕ = part c.args.names.now c.next_name-name.result.from c.next_name-name.result.end in
     lines_next _ _ _ _ _ _ _ turn.invariant _ c.next_name-name.ensures left _ _
     (put_as (ap (λ l. line_text this (line_figures l)) (sym line)) put.0) put.1
-
-pub shape_of-out : goal.shape_of-out
-shape_of-out c = c.loop-i.invariant.put.kept
 
 pub returns : goal.returns
 returns c =

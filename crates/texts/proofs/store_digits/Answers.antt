@@ -1,7 +1,6 @@
 -- `texts::store_digits` meets its contract. The loop's invariant: the digits after those of `left` are stored.
 -- Assumes nothing.
 use native.Mathlib.Omega.{arith}
-use lib.ListN.{length-set}
 use Rattle.texts.proofs.Stores.{back_start, back_room, back_length, back_step, back_end}
 use Rattle.texts.proofs.store_digits.Goals as goal
 
@@ -34,11 +33,6 @@ bounds-text-from-2 c =
     let p = c.requires in
     let b = c.loop-left.invariant in
     omega (arith, back_room _ _ _ _ _ _ b p.0 p.1, back_length _ _ _ _ _ _ b p.0 p.1)
-
-pub shape_of-text : goal.shape_of-text
-shape_of-text c =
-    let p = c.requires in
-    simp length-set (back_length _ _ _ _ _ _ c.loop-left.invariant p.0 p.1)
 
 pub returns : goal.returns
 returns c =
