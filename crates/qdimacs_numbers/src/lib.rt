@@ -12,7 +12,8 @@ ghost use Rattle.qdimacs_numbers.specs.Numbering.{FlaggedBelow, NumberedBelow, c
 use formula::NodeWords;
 
 // Gives each name at a variable node, also below an operand that an operator ignores, the flag 2 if it has
-// none. The result is the highest name that got one, 0 if none did.
+// none. The result is the highest name that got one, 0 if none did: no Option, since its user takes the maximum of it
+// and another name.
 //
 // The contract rules out a pass that leaves out the name at the last node, and one that flags a name at
 // every node.

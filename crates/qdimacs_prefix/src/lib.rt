@@ -262,7 +262,8 @@ fn put_gates(gates: Gates, text: &mut [u8], line: Line) -> Line
     }
 }
 
-// Puts the numbers from `first` up to `end`, each with a space behind it.
+// Puts the numbers from `first` up to `end`, each with a space behind it. No one function over an iterator does this
+// and `put_names`: its contract would have to say which numbers come and how many, where a slice and a range say it.
 fn put_numbers(text: &mut [u8], at: usize, first: u32, end: u32) -> usize
     requires { (first ≤ end) × (end ≤ number_bound) × (at ≤ last_line + 4) }
     ensures loose { Loose text.old at (names_text (numbers first (end - first))) text.new result }

@@ -123,7 +123,8 @@ fn store_rows(text: &mut [u8], at: usize, gate: u64, table: u32, x: u64, y: u64)
     store_three(text, next, turned_left, turned_right, both)
 }
 
-// Stores a clause of three literals.
+// Stores a clause of three literals. It is a piece and a clause of two, and no loop over an array of pieces, whose
+// contract would speak of a list of lists of bytes.
 fn store_three(text: &mut [u8], at: usize, a: Piece, b: Piece, c: Piece) -> usize
     requires length_bound { (a.length ≤ 8) × (b.length ≤ 8) × (c.length ≤ 8) }
     requires length_in_bounds { at + a.length + b.length + c.length + 10 ≤ length text.old }

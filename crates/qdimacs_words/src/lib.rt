@@ -94,6 +94,7 @@ pub fn store_end(text: &mut [u8], at: usize) -> usize
     ensures loose { Loose text.old at (48 ∷ 10 ∷ []) text.new result }
     ensures value { result ≡ at + 2 }
 {
+    // By hand: a copy from a slice was tried, and is slower for two bytes.
     text[at] = b'0';
     text[at + 1] = b'\n';
     at + 2
