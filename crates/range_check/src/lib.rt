@@ -18,7 +18,7 @@ ghost use Rattle.range_check.specs.Chains.{good_range, buckets, Ready, Chains, C
 use acceptance::LIMIT;
 
 // Entries are chained by the remainders that their variables leave by this.
-pub const BUCKETS: usize = 1024;
+const BUCKETS: usize = 1024;
 
 // Variables are numbered from 1 to this.
 const HIGHEST_VARIABLE: u32 = 65535;
