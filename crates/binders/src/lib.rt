@@ -141,8 +141,8 @@ fn step(
     }
 }
 
-// Enters block i: puts its entries before those of the scope around it. It goes from the last entry down, so that a chain ascends within a block too. It returns how
-// many it has put.
+// Enters block i: puts its entries before those of the scope around it. It goes from the last entry
+// down, so that a chain ascends within a block too. It returns how many it has put.
 fn enter(scopes: &TableScopes, heads: &mut [u16], entry_nexts: &mut [u16], i: usize) -> usize
     requires i_bound { (i < node_count scopes.now.words.now) × (is_block (node_at scopes.now.words.now scopes.now.list.now i) ≡ true) }
     requires fact { Open (table_of scopes.now.words.now scopes.now.list.now) (enclosing (table_of scopes.now.words.now scopes.now.list.now) i) 0 heads.old entry_nexts.old }
