@@ -21,9 +21,7 @@ pub fn mark_gates(roles: &[u8], numbers: &[u16], count: usize, gates: &mut [u16]
     requires by_index { (x : ℕ) → get_or gates.old x 0 ≡ 0 }
     ensures { DefinitionsIn roles.now numbers.now count gates.new }
 {
-    let mut i = count;
-    while 0 < i {
-        i -= 1;
+    for i in (0..count).rev() {
         mark_gate(roles[i], numbers[i], i, gates);
     }
 }
@@ -61,9 +59,7 @@ fn count_uses(roles: &[u8], numbers: &[u16], count: usize, uses: &mut [u8])
         → get_or uses.new x 0
         ≡ min 2 (uses_in (tokens_from roles.now numbers.now ps 0 count) x) }
 {
-    let mut i = count;
-    while 0 < i {
-        i -= 1;
+    for i in (0..count).rev() {
         count_use(roles[i], numbers[i], uses);
     }
 }
@@ -104,9 +100,7 @@ fn lowest_not_once(roles: &[u8], numbers: &[u16], count: usize, uses: &[u8]) -> 
         found: false,
         lowest: 0,
     };
-    let mut i = count;
-    while 0 < i {
-        i -= 1;
+    for i in (0..count).rev() {
         lowest = with_token(roles[i], numbers[i], uses, lowest);
     }
     lowest

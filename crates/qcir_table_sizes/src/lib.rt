@@ -73,12 +73,10 @@ fn outer_end(roles: &[u8], count: usize) -> usize
     ensures { (result ≤ count) × ((j : ℕ) → j < result → is_outer (get_or roles.now j 0) ≡ true)
         × (result < count → is_outer (get_or roles.now result 0) ≡ false) }
 {
-    let mut i = 0;
-    while i < count {
-        if !qcir_tokens::is_outer(roles[i]) {
+    for (i, role) in roles[..count].iter().enumerate() {
+        if !qcir_tokens::is_outer(*role) {
             return i;
         }
-        i += 1;
     }
     count
 }
@@ -134,11 +132,9 @@ fn gates_pass(roles: &[u8], numbers: &[u16], count: usize, gates: &[u16], from: 
         (tokens_from roles.now numbers.now ps from (count - from)) start }
 {
     let mut s = start();
-    let mut i = from;
-    while i < count {
+    for i in from..count {
         let gate = gate_of(numbers, gates, i);
         s = add_token(roles[i], gate, i as u32, s);
-        i += 1;
     }
     s
 }
@@ -277,9 +273,7 @@ fn outer_pass(roles: &[u8], end: usize, inner: Pass) -> Pass
     ensures { result ≡ outer_pass roles.now end inner }
 {
     let mut s = inner;
-    let mut i = end;
-    while 0 < i {
-        i -= 1;
+    for i in (0..end).rev() {
         s = add_outer(roles[i], s);
     }
     s
