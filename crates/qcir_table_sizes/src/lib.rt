@@ -73,12 +73,10 @@ fn outer_end(roles: &[u8], count: usize) -> usize
     ensures { (result ≤ count) × ((j : ℕ) → j < result → is_outer (get_or roles.now j 0) ≡ true)
         × (result < count → is_outer (get_or roles.now result 0) ≡ false) }
 {
-    for (i, role) in roles[..count].iter().enumerate() {
-        if !qcir_tokens::is_outer(*role) {
-            return i;
-        }
-    }
-    count
+    roles[..count]
+        .iter()
+        .position(|role| !qcir_tokens::is_outer(*role))
+        .unwrap_or(count)
 }
 
 // The gates and then the output, which is token `end`.
