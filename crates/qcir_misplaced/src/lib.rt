@@ -57,8 +57,7 @@ fn first_fault(
         (tokens_from roles.now numbers.now positions.now 0 count)) }
 {
     let mut line: u16 = 0;
-    let mut i: usize = 0;
-    while i < count {
+    for i in 0..count {
         let role = roles[i];
         let x = numbers[i] as usize;
         if is_fault(role, gates[x], lists[x], line, i) {
@@ -68,7 +67,6 @@ fn first_fault(
             };
         }
         line = pass(lists, role, x, line, i);
-        i += 1;
     }
     Found {
         found: false,

@@ -68,15 +68,13 @@ fn mark_outer(roles: &[u8], numbers: &[u16], count: usize, marks: &mut [bool]) -
     requires by_index { (x : ℕ) → get_or marks.old x false ≡ false }
     ensures { Outer roles.now numbers.now count result marks.new }
 {
-    let mut i: usize = 0;
-    while i < count {
+    for i in 0..count {
         if !qcir_tokens::is_outer(roles[i]) {
             return i;
         }
         marks[numbers[i] as usize] = true;
-        i += 1;
     }
-    i
+    count
 }
 
 // Whether every variable used at a token from `first` on is marked.
@@ -93,13 +91,11 @@ fn all_marked(
     ensures { result ≡ true → AllMarked roles.now numbers.now
         gates.now marks.now first count }
 {
-    let mut i = first;
-    while i < count {
+    for i in first..count {
         let x = numbers[i] as usize;
         if is_unmarked(roles[i], gates[x], marks[x]) {
             return false;
         }
-        i += 1;
     }
     true
 }
@@ -133,13 +129,11 @@ fn walk_tokens(
         found: false,
         lowest: 0,
     };
-    let mut left = 2 * count;
-    while 0 < left {
+    for _ in 0..2 * count {
         let token = token_at(roles, numbers, gates, walk.at);
         if walk.leaving & is_above(token.role) {
             return walk;
         }
-        left -= 1;
         walk = take_step(roles, token, marks, &mut kept, walk);
     }
     walk
