@@ -31,11 +31,9 @@ lower_second true a x e = let l = ltb-false a x e in omega arith
 lower_second false a x e = refl
 
 -- where a run ends, seen a step later
-pub run_less : (t : Tokens) (n : ℕ) (s u z : State) → 0 < n → u ≡ step t s → run t n s ≡ z → run t (n - 1) u ≡ z
+pub run_less : (t : Tokens) (n k : ℕ) (s u z : State) → n ≡ suc k → u ≡ step t s → run t n s ≡ z → run t k u ≡ z
 unfolding run
-run_less t zero s u z l e r = absurd (omega arith)
-run_less t (suc n) s u z l e r =
-    let d : suc n - 1 ≡ n = omega arith in ap (λ k. run t k u) d ∙ ap (run t n) e ∙ r
+run_less t n k s u z l e r = ap (run t k) e ∙ sym (ap (λ m. run t m s) l) ∙ r
 
 pub run_none : (t : Tokens) (n : ℕ) (s z : State) → n ≤ 0 → run t n s ≡ z → s ≡ z
 unfolding run

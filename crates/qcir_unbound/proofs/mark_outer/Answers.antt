@@ -1,6 +1,6 @@
 -- `qcir_unbound::mark_outer` meets its contract. The invariant: the entries before token i are marked.
 -- Assumes nothing.
-use mathlib.Core.Path.{sym, ◌∙◌}
+use mathlib.Core.Path.{◌≡◌, sym, ◌∙◌}
 use native.Mathlib.Omega.{arith}
 use Rattle.qcir_unbound.proofs.Marks.{outer_stop, outer_end, marking_start, marking_next, marking_done}
 use Rattle.qcir_unbound.proofs.mark_outer.Goals as goal
@@ -36,6 +36,7 @@ pub returns : goal.returns
 returns c =
     let a = c.args in
     let l = c.loop-i in
-    marking_done a.roles.now a.numbers.now a.count l.marks l.i
+    let all : l.i ≡ a.count = omega arith in
+    rw all at (marking_done a.roles.now a.numbers.now a.count l.marks l.i
     (outer_end a.roles.now a.numbers.now a.count l.i c.loop-i-test.false)
-    l.invariant
+    l.invariant)
