@@ -14,7 +14,7 @@ ghost use Rattle.qcir_misplaced.specs.Faults.{
   first_of,
 };
 
-use qcir_tokens::{Found, NUMBERS};
+use qcir_tokens::NUMBERS;
 
 // Finds the first misplaced name among the tokens: a gate name defined twice or also in a list, an
 // input not after its gate, or a name twice in a list. `gates` has, for each number, one more than
@@ -28,7 +28,7 @@ pub fn first_misplaced(
     positions: &[u16],
     count: usize,
     gates: &[u16],
-) -> Found
+) -> Option<u32>
     requires room { Room roles.now numbers.now positions.now count }
     requires count_le_token_limit { count ≤ token_limit }
     requires definitions_in { DefinitionsIn roles.now numbers.now count gates.now }
@@ -48,7 +48,7 @@ fn first_fault(
     count: usize,
     gates: &[u16],
     lists: &mut [u16],
-) -> Found
+) -> Option<u32>
     requires room { Room roles.now numbers.now positions.now count }
     requires count_le_token_limit { count ≤ token_limit }
     requires gates_len { (length gates.now ≡ number_count) × (length lists.old ≡ number_count) }
@@ -61,17 +61,11 @@ fn first_fault(
         let role = roles[i];
         let x = numbers[i] as usize;
         if is_fault(role, gates[x], lists[x], line, i) {
-            return Found {
-                found: true,
-                lowest: positions[i] as u32,
-            };
+            return Some(positions[i] as u32);
         }
         line = pass(lists, role, x, line, i);
     }
-    Found {
-        found: false,
-        lowest: 0,
-    }
+    None
 }
 
 // An entry of a list: of the free line, a prefix line or a quantified gate.

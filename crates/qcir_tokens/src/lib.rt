@@ -4,6 +4,7 @@
 
 ghost use Rattle.std.specs.Prelude.{◌≡◌};
 ghost use Rattle.qcir_tokens.specs.Tokens.{is_outer, is_free, is_output, is_definition, is_bound, is_input, is_use, is_minus, is_last};
+ghost use Rattle.qcir_tokens.specs.Held.{with_number};
 
 // At most half as many tokens as bytes are in a text.
 pub const TOKENS: usize = 32768;
@@ -23,13 +24,6 @@ pub const OR_GATE: u8 = 14;
 pub const EXISTS_GATE: u8 = 16;
 
 pub const EMPTY: u8 = 24;
-
-// Whether there are any, and the lowest of them.
-#[derive(Clone, Copy)]
-pub struct Found {
-    pub found: bool,
-    pub lowest: u32,
-}
 
 // An entry of the free line or a prefix line.
 pub fn is_outer(role: u8) -> bool
@@ -90,4 +84,13 @@ pub fn is_last(role: u8) -> bool
     ensures { result ≡ is_last role }
 {
     22 <= role
+}
+
+// The lowest of the numbers found and one more.
+//
+// The contract rules out one by which the number found first stays.
+pub fn with_number(found: Option<u32>, number: u32) -> Option<u32>
+    ensures { result ≡ with_number found number }
+{
+    Some(found.map_or(number, |lowest| number.min(lowest)))
 }

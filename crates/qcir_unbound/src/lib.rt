@@ -8,8 +8,7 @@
 // a gate line is come by twice: the walk ends within two steps a token.
 #![tactic(auto)]
 
-ghost use Rattle.std.specs.Prelude.{true, false, not, ◌&&◌, [], ◌≡◌, ℕ, ◌*◌, ◌≤◌, ◌<◌, min, eqb, length, get_or};
-ghost use Rattle.lists.specs.Choice.{pick};
+ghost use Rattle.std.specs.Prelude.{true, false, not, ◌&&◌, [], ◌≡◌, ℕ, ◌*◌, ◌≤◌, ◌<◌, eqb, length, get_or};
 ghost use Rattle.qcir.specs.File.{File};
 ghost use Rattle.qcir.specs.Refusals.{misplaced, not_used_once, unbound};
 ghost use Rattle.qcir_tokens.specs.Tokens.{is_use};
@@ -17,16 +16,15 @@ ghost use Rattle.qcir_tokens.specs.Held.{HoldsNames, DefinitionsIn, number_count
 ghost use Rattle.qcir_unbound.specs.Outer.{Outer, AllMarked};
 ghost use Rattle.qcir_unbound.specs.Steps.{tokens_of, token_of, state_of, start, is_end, is_above, moved, past, noted, judged, onward, back, step_at, run, Within, StepFits, BackFits};
 
-use qcir_tokens::{Found, NUMBERS, TOKENS};
+use qcir_tokens::{NUMBERS, TOKENS};
 
-// The token at which the walk stands, on its way onward or back through a gate line; whether an unbound variable was found,
-// and the lowest.
+// The token at which the walk stands, on its way onward or back through a gate line; and the lowest unbound variable that was
+// found, if any was.
 #[derive(Clone, Copy)]
 pub struct Walk {
     pub at: usize,
     pub leaving: bool,
-    pub found: bool,
-    pub lowest: u32,
+    pub lowest: Option<u32>,
 }
 
 // A token's role and number, and one more than the token that defines the number first: 0 where none does.
@@ -37,10 +35,10 @@ pub struct Token {
     pub gate: u16,
 }
 
-// Whether a file that refusals 11 and 13 leave has an unbound variable, and the lowest.
+// The lowest unbound variable, if there is one, of a file that refusals 11 and 13 leave.
 //
 // The contract rules out a walk that takes a name as bound once some gate has bound it, and one that stops early.
-pub fn lowest_unbound(roles: &[u8], numbers: &[u16], count: usize, gates: &[u16]) -> Found
+pub fn lowest_unbound(roles: &[u8], numbers: &[u16], count: usize, gates: &[u16]) -> Option<u32>
     requires holds_names { (f : File) × HoldsNames roles.now numbers.now count f }
     requires definitions_in { DefinitionsIn roles.now numbers.now count gates.now }
     ensures { (f : File) → HoldsNames roles.now numbers.now count f
@@ -49,16 +47,10 @@ pub fn lowest_unbound(roles: &[u8], numbers: &[u16], count: usize, gates: &[u16]
     let mut marks = [false; NUMBERS];
     let output = mark_outer(roles, numbers, count, &mut marks);
     if all_marked(roles, numbers, output, count, gates, &marks) {
-        return Found {
-            found: false,
-            lowest: 0,
-        };
+        return None;
     }
     let walk = walk_tokens(roles, numbers, count, gates, output, &mut marks);
-    Found {
-        found: walk.found,
-        lowest: walk.lowest,
-    }
+    walk.lowest
 }
 
 // Marks the numbers that the free and prefix lines name. The result is the output's token, the first after theirs.
@@ -126,8 +118,7 @@ fn walk_tokens(
     let mut walk = Walk {
         at: output,
         leaving: false,
-        found: false,
-        lowest: 0,
+        lowest: None,
     };
     for _ in 0..2 * count {
         let token = token_at(roles, numbers, gates, walk.at);
@@ -242,8 +233,7 @@ fn move_to(at: usize, leaving: bool, walk: Walk) -> Walk
     Walk {
         at,
         leaving,
-        found: walk.found,
-        lowest: walk.lowest,
+        ..walk
     }
 }
 
@@ -262,19 +252,7 @@ fn note(x: u32, walk: Walk) -> Walk
     ensures { result ≡ noted x walk }
 {
     Walk {
-        at: walk.at,
-        leaving: walk.leaving,
-        found: true,
-        lowest: lower(walk.found, walk.lowest, x),
+        lowest: qcir_tokens::with_number(walk.lowest, x),
+        ..walk
     }
-}
-
-// The lower of x and, where there is one, the lowest before.
-fn lower(found: bool, lowest: u32, x: u32) -> u32
-    ensures { result ≡ pick found (min lowest x) x }
-{
-    if found & (lowest < x) {
-        return lowest;
-    }
-    x
 }
