@@ -215,9 +215,8 @@ fn store_table(
     if (LIMIT as u32) < nodes {
         return refused(refusal(TOO_LARGE, 0));
     }
-    let excess = sizes.excess;
-    if excess < nodes {
-        return refused(refusal(TOO_MANY_VARIABLES, excess));
+    if let Some(block) = sizes.excess {
+        return refused(refusal(TOO_MANY_VARIABLES, block));
     }
     let length = (formula::WIDTH as u32) * nodes;
     let entries = sizes.entries;

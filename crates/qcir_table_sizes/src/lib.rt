@@ -3,7 +3,6 @@
 
 ghost use Rattle.std.specs.Prelude.{true, false, List, ◌≡◌, ℕ, ◌+◌, ◌-◌, ◌<◌, ◌≤◌, ltb, length, get_or};
 ghost use Rattle.lists.specs.Choice.{pick};
-ghost use Rattle.lists.specs.Search.{lowest};
 ghost use Rattle.formula.specs.Words.{node_count};
 ghost use Rattle.acceptance.specs.Limits.{limit};
 ghost use Rattle.acceptance.specs.Verdict.{too_many_variables};
@@ -11,6 +10,7 @@ ghost use Rattle.qcir.specs.File.{File};
 ghost use Rattle.qcir.specs.Table.{table_words, table_list};
 ghost use Rattle.qcir_tokens.specs.Tokens.{is_outer};
 ghost use Rattle.qcir_tokens.specs.Held.{tokens_from, HoldsNames, number_count, DefinitionsIn, token_limit};
+ghost use Rattle.qcir_table_sizes.specs.Excess.{lowest_below};
 ghost use Rattle.qcir_table_sizes.specs.Pass.{
   Room,
   Small,
@@ -25,26 +25,25 @@ ghost use Rattle.qcir_table_sizes.specs.Pass.{
   outer_step,
   outer_pass,
   file_pass,
-  sizes_of,
 };
 
-// How many nodes and list entries a table has, and its lowest block that brings the sum of counts over the limit, or
-// the number of nodes if there is none.
+// How many nodes and list entries a table has, and its lowest block that brings the sum of counts over the limit, if
+// there is one.
 #[derive(Clone, Copy)]
 pub struct TableSizes {
     pub nodes: u32,
     pub entries: u32,
-    pub excess: u32,
+    pub excess: Option<u32>,
 }
 
 // What a pass over the tokens has counted: nodes, list entries and, once these pass the limit, the first block at which
-// they do; before, the last block. Of the gate line that it stands in: the index of the definition, the variables of
+// they do. Of the gate line that it stands in: the index of the definition, the variables of
 // its list, and whether no input has come yet.
 #[derive(Clone, Copy)]
 pub struct Pass {
     pub nodes: u32,
     pub entries: u32,
-    pub excess: u32,
+    pub excess: Option<u32>,
     pub line: u32,
     pub bound: u32,
     pub first: bool,
@@ -59,12 +58,16 @@ pub fn table_sizes(roles: &[u8], numbers: &[u16], count: usize, gates: &[u16]) -
     ensures { (f : File) → HoldsNames roles.now numbers.now count f
         → (result.nodes ≡ node_count (table_words f))
         × (result.entries ≡ length (table_list f))
-        × (result.excess ≡ lowest (too_many_variables limit (table_words f)) (node_count (table_words f))) }
+        × (result.excess ≡ lowest_below (too_many_variables limit (table_words f)) (node_count (table_words f))) }
 {
     let end = outer_end(roles, count);
     let inner = inner_pass(roles, numbers, count, gates, end);
     let whole = outer_pass(roles, end, inner);
-    sizes_of(whole)
+    TableSizes {
+        nodes: whole.nodes,
+        entries: whole.entries,
+        excess: whole.excess,
+    }
 }
 
 // The index of the first token that is no entry of the free line or a prefix line.
@@ -113,7 +116,7 @@ fn start() -> Pass
     Pass {
         nodes: 0,
         entries: 0,
-        excess: 0,
+        excess: None,
         line: 0,
         bound: 0,
         first: true,
@@ -144,22 +147,16 @@ fn add_token(role: u8, gate: u16, i: u32, s: Pass) -> Pass
 {
     if qcir_tokens::is_definition(role) {
         return Pass {
-            nodes: s.nodes,
-            entries: s.entries,
-            excess: s.excess,
             line: i,
             bound: 0,
             first: true,
+            ..s
         };
     }
     if qcir_tokens::is_bound(role) {
         return Pass {
-            nodes: s.nodes,
-            entries: s.entries,
-            excess: s.excess,
-            line: s.line,
             bound: s.bound + 1,
-            first: s.first,
+            ..s
         };
     }
     if qcir_tokens::is_input(role) {
@@ -167,11 +164,7 @@ fn add_token(role: u8, gate: u16, i: u32, s: Pass) -> Pass
     }
     Pass {
         nodes: s.nodes + 1,
-        entries: s.entries,
-        excess: s.excess,
-        line: s.line,
-        bound: s.bound,
-        first: s.first,
+        ..s
     }
 }
 
@@ -198,11 +191,8 @@ fn add_operand(role: u8, gate: u16, s: Pass) -> Pass
     let operator = one_if(!s.first);
     Pass {
         nodes: s.nodes + variable + negation + operator,
-        entries: s.entries,
-        excess: s.excess,
-        line: s.line,
-        bound: s.bound,
         first: false,
+        ..s
     }
 }
 
@@ -227,25 +217,15 @@ fn add_block(s: Pass) -> Pass
     requires { Room 2000000 s }
     ensures { result ≡ block_added s }
 {
-    let excess = excess_or(s.entries, s.excess, s.nodes);
+    let entries = s.entries + s.bound;
+    let here = (acceptance::LIMIT < entries as usize).then_some(s.nodes);
     Pass {
         nodes: s.nodes + 1,
-        entries: s.entries + s.bound,
-        excess,
-        line: s.line,
+        entries,
+        excess: s.excess.or(here),
         bound: 0,
-        first: s.first,
+        ..s
     }
-}
-
-// The block at which the entries pass the limit; `other` where they do not.
-fn excess_or(entries: u32, excess: u32, other: u32) -> u32
-    ensures { result ≡ pick (ltb limit entries) excess other }
-{
-    if acceptance::LIMIT < entries as usize {
-        return excess;
-    }
-    other
 }
 
 // The output: a variable node unless it names a gate, and its not.
@@ -257,11 +237,8 @@ fn add_output(role: u8, gate: u16, s: Pass) -> Pass
     let negation = one_if(qcir_tokens::is_minus(role));
     Pass {
         nodes: s.nodes + variable + negation,
-        entries: s.entries,
-        excess: s.excess,
-        line: s.line,
         bound: 0,
-        first: s.first,
+        ..s
     }
 }
 
@@ -286,26 +263,11 @@ fn add_outer(role: u8, s: Pass) -> Pass
         return s;
     }
     let t = Pass {
-        nodes: s.nodes,
-        entries: s.entries,
-        excess: s.excess,
-        line: s.line,
         bound: s.bound + 1,
-        first: s.first,
+        ..s
     };
     if role <= 8 {
         return add_block(t);
     }
     t
-}
-
-fn sizes_of(s: Pass) -> TableSizes
-    ensures { result ≡ sizes_of s }
-{
-    let excess = excess_or(s.entries, s.excess, s.nodes);
-    TableSizes {
-        nodes: s.nodes,
-        entries: s.entries,
-        excess,
-    }
 }
