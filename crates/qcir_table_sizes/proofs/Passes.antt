@@ -6,6 +6,7 @@ use mathlib.Core.Path.{◌≡◌, refl, sym, ◌∙◌, ap}
 use Prim.Native.Nat.{ℕ, zero, suc, ◌+◌, ◌-◌, ◌≤◌, ◌<◌}
 use native.Mathlib.Numerals.{add-one}
 use native.Mathlib.Omega.{arith}
+use mir.Val.{bool_byte}
 use lib.Dec.{eqb, leb}
 use lib.ListN.{get_or}
 use Rattle.lists.specs.Choice.{pick, pick_yes, pick_no}
@@ -124,6 +125,11 @@ module _ (s : Pass) (m : Room 1000000 s) where
       record { nodes_low = omega arith; entries_low = omega arith }
 
 -- A pass from its parts.
+pub byte_is : (b : Bool) → bool_byte b ≡ pick b 1 0
+unfolding pick
+byte_is true = refl
+byte_is false = refl
+
 pub operand_is : (role gate : ℕ) (s : Pass) (v n o : ℕ) → v ≡ pick (not (is_earlier gate s.line)) 1 0 → n ≡ pick (is_minus role) 1 0 → o ≡ pick (not s.first) 1 0 → record { nodes = s.nodes + v + n + o; entries = s.entries; excess = s.excess; line = s.line; bound = s.bound; first = false } ≡ operand_added role gate s
 unfolding operand_added
 operand_is role gate s v n o p q r =

@@ -1,8 +1,7 @@
 // The sizes of the formula table of a QCIR file, without building it.
 #![tactic(auto)]
 
-ghost use Rattle.std.specs.Prelude.{true, false, List, ◌≡◌, ℕ, ◌+◌, ◌-◌, ◌<◌, ◌≤◌, ltb, length, get_or};
-ghost use Rattle.lists.specs.Choice.{pick};
+ghost use Rattle.std.specs.Prelude.{true, false, List, ◌≡◌, ℕ, ◌-◌, ◌<◌, ◌≤◌, length, get_or};
 ghost use Rattle.formula.specs.Words.{node_count};
 ghost use Rattle.acceptance.specs.Limits.{limit};
 ghost use Rattle.acceptance.specs.Verdict.{too_many_variables};
@@ -186,9 +185,9 @@ fn add_operand(role: u8, gate: u16, s: Pass) -> Pass
     requires { Room 1000000 s }
     ensures { result ≡ operand_added role gate s }
 {
-    let variable = one_if(!is_earlier(gate, s.line));
-    let negation = one_if(qcir_tokens::is_minus(role));
-    let operator = one_if(!s.first);
+    let variable = u32::from(!is_earlier(gate, s.line));
+    let negation = u32::from(qcir_tokens::is_minus(role));
+    let operator = u32::from(!s.first);
     Pass {
         nodes: s.nodes + variable + negation + operator,
         first: false,
@@ -201,15 +200,6 @@ fn is_earlier(gate: u16, line: u32) -> bool
     ensures { result ≡ is_earlier gate line }
 {
     (1 <= gate) & (gate as u32 <= line)
-}
-
-fn one_if(test: bool) -> u32
-    ensures { (result ≡ pick test 1 0) × (result ≤ 1) }
-{
-    if test {
-        return 1;
-    }
-    0
 }
 
 // A block over the variables counted.
@@ -233,8 +223,8 @@ fn add_output(role: u8, gate: u16, s: Pass) -> Pass
     requires { Room 1000000 s }
     ensures { result ≡ output_added role gate s }
 {
-    let variable = one_if(gate == 0);
-    let negation = one_if(qcir_tokens::is_minus(role));
+    let variable = u32::from(gate == 0);
+    let negation = u32::from(qcir_tokens::is_minus(role));
     Pass {
         nodes: s.nodes + variable + negation,
         bound: 0,
