@@ -12,7 +12,8 @@ ghost use Rattle.qcir_gates.specs.Uses.{uses_in, misused_in};
 use qcir_tokens::NUMBERS;
 
 // Marks each gate's first definition: one more than the index of its token. The tokens are read from the last to the
-// first, so that the first definition is stored last.
+// first, so that the first definition is stored last. Zero stands for none: as options, the marks of all numbers would
+// take twice the memory, and it is fixed.
 //
 // The contract rules out marks that name the token after.
 pub fn mark_gates(roles: &[u8], numbers: &[u16], count: usize, gates: &mut [u16])

@@ -77,7 +77,7 @@ fn is_entry(role: u8) -> bool
 
 // Whether token i is at fault. `gate` is one more than the first definition of its number, `list` the
 // last list that holds the number, and `line` one more than the last definition: each of them 0 if
-// there is none.
+// there is none, as the arrays have it.
 fn is_fault(role: u8, gate: u16, list: u16, line: u16, i: usize) -> bool
     requires { line ≤ token_limit }
     ensures { result ≡ fault role gate list line i }

@@ -27,7 +27,8 @@ pub struct Walk {
     pub lowest: Option<u32>,
 }
 
-// A token's role and number, and one more than the token that defines the number first: 0 where none does.
+// A token's role and number, and one more than the token that defines the number first: 0 where none does, as the array
+// of the definitions has it.
 #[derive(Clone, Copy)]
 pub struct Token {
     pub role: u8,
