@@ -69,6 +69,7 @@ fn first_fault(
 }
 
 // An entry of a list: of the free line, a prefix line or a quantified gate.
+#[tactic(auto, unfolding(crate::specs::Faults::is_entry))]
 fn is_entry(role: u8) -> bool
     ensures { result ≡ is_entry role }
 {

@@ -36,8 +36,8 @@ pub struct TableSizes {
 }
 
 // What a pass over the tokens has counted: nodes, list entries and, once these pass the limit, the first block at which
-// they do. Of the gate line that it stands in: the index of the definition, the variables of
-// its list, and whether no input has come yet.
+// they do. Of the gate line that it stands in: the index of the definition, the variables of its list, and whether no
+// input has come yet.
 #[derive(Clone, Copy)]
 pub struct Pass {
     pub nodes: u32,
@@ -196,6 +196,7 @@ fn add_operand(role: u8, gate: u16, s: Pass) -> Pass
 }
 
 // Whether the first definition stands before token `line`, where this line's stands.
+#[tactic(auto, unfolding(crate::specs::Pass::is_earlier))]
 fn is_earlier(gate: u16, line: u32) -> bool
     ensures { result ≡ is_earlier gate line }
 {
@@ -203,6 +204,7 @@ fn is_earlier(gate: u16, line: u32) -> bool
 }
 
 // A block over the variables counted.
+#[tactic(auto, unfolding(crate::specs::Pass::block_added))]
 fn add_block(s: Pass) -> Pass
     requires { Room 2000000 s }
     ensures { result ≡ block_added s }

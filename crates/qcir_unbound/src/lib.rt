@@ -204,6 +204,7 @@ fn go_back(roles: &[u8], token: Token, marks: &mut [bool], kept: &mut [u16], wal
 }
 
 // Not of a gate line.
+#[tactic(auto, unfolding(crate::specs::Steps::is_above))]
 fn is_above(role: u8) -> bool
     ensures { result ≡ is_above role }
 {
@@ -211,6 +212,7 @@ fn is_above(role: u8) -> bool
 }
 
 // The last token of a gate line, or the output.
+#[tactic(auto, unfolding(crate::specs::Steps::is_end))]
 fn is_end(role: u8) -> bool
     ensures { result ≡ is_end role }
 {
@@ -228,6 +230,7 @@ fn pass(role: u8, i: usize, walk: Walk) -> Walk
     move_to(i + 1, false, walk)
 }
 
+#[tactic(auto, unfolding(crate::specs::Steps::moved))]
 fn move_to(at: usize, leaving: bool, walk: Walk) -> Walk
     ensures { result ≡ moved at leaving walk }
 {
@@ -249,6 +252,7 @@ fn judge(bound: bool, x: u16, walk: Walk) -> Walk
 }
 
 // The walk with one more unbound variable.
+#[tactic(auto, unfolding(crate::specs::Steps::noted))]
 fn note(x: u32, walk: Walk) -> Walk
     ensures { result ≡ noted x walk }
 {
