@@ -1,21 +1,21 @@
 -- Passes over held tokens from the last to the first: what one token more, before the others, changes.
 -- Assumes nothing.
 use mathlib.Core.Bool.{Bool, true, false, not, ◌&&◌}
-use mathlib.Core.List.{List, [], ◌∷◌}
+use mathlib.Core.List.{List, ◌∷◌}
 use mathlib.Core.Path.{◌≡◌, refl, sym, ◌∙◌, ap}
 use Prim.Native.Nat.{ℕ, suc, ◌+◌, ◌-◌, ◌≤◌, ◌<◌, min}
 use native.Mathlib.Numerals.{add-one}
 use native.Mathlib.Omega.{arith}
-use lib.Dec.{eqb, ltb}
+use lib.Dec.{eqb}
 use lib.ListN.{length, get_or, set}
-use borrow.Author.Tests.{eqb-true, eqb-false, ne_eqb, ltb-false}
-use Rattle.lists.specs.Choice.{pick, pick_yes, pick_no, Is, is_true, is_false, look, clash, and_off_left, and_right}
+use borrow.Author.Tests.{eqb-true, eqb-false}
+use Rattle.lists.specs.Choice.{pick, pick_yes, pick_no, Is, is_true, is_false, look, and_off_left, and_right}
 use Rattle.lists.proofs.Members.{eqb_swap}
 use Rattle.lists.proofs.Stores.{get_d_set}
-use Rattle.qcir.specs.Refusals.{keep, least}
+use Rattle.qcir.specs.Refusals.{keep}
 use Rattle.qcir_tokens.specs.Tokens.{Token, is_definition, is_use, definition_from}
 use Rattle.qcir_tokens.specs.Held.{token_at, tokens_from, number_count, Definitions, found_of}
-use Rattle.qcir_tokens.specs.declared.Found.{Found}
+use Rattle.std.specs.Prelude.{Option, None}
 use Rattle.qcir_gates.specs.Uses.{uses_in, defined_in, misused_in}
 use Rattle.qcir_tokens.proofs.Tokens.{tokens_end, tokens_back, tokens_all}
 
@@ -99,14 +99,14 @@ module _ (roles numbers : List ℕ) (count : ℕ) where
   counted_all uses i e m ps x = m.holds ps x ∙ ap (λ (ts : List Token). min 2 (uses_in ts x)) (tokens_all roles numbers ps count i e)
 
   -- those defined among the tokens from token i on whose uses are not 1
-  abbrev pub Misused : List ℕ → Found → ℕ → Type 0
+  abbrev pub Misused : List ℕ → Option ℕ → ℕ → Type 0
   Misused uses found i = (ps : List ℕ) → found ≡ found_of (misused_in (λ x. get_or uses x 0) (tokens_from roles numbers ps i (count - i)))
 
-  pub misused_none : (uses : List ℕ) → Misused uses (record { found = false; lowest = 0 }) count
-  unfolding misused_in defined_in keep found_of least
+  pub misused_none : (uses : List ℕ) → Misused uses None count
+  unfolding misused_in defined_in keep found_of
   misused_none uses ps = ap (λ (ts : List Token). found_of (misused_in (λ x. get_or uses x 0) ts)) (sym (tokens_end roles numbers ps count count (omega arith)))
 
-  pub misused_more : (uses : List ℕ) (found after : Found) (i : ℕ) → 0 < i → i ≤ count → Misused uses found i → ((xs : List ℕ) → found ≡ found_of xs → after ≡ found_of (pick (is_definition (get_or roles (i - 1) 0) && not (eqb (get_or uses (get_or numbers (i - 1) 0) 0) 1)) (get_or numbers (i - 1) 0 ∷ xs) xs)) → Misused uses after (i - 1)
+  pub misused_more : (uses : List ℕ) (found after : Option ℕ) (i : ℕ) → 0 < i → i ≤ count → Misused uses found i → ((xs : List ℕ) → found ≡ found_of xs → after ≡ found_of (pick (is_definition (get_or roles (i - 1) 0) && not (eqb (get_or uses (get_or numbers (i - 1) 0) 0) 1)) (get_or numbers (i - 1) 0 ∷ xs) xs)) → Misused uses after (i - 1)
   unfolding misused_in defined_in keep token_at
   misused_more uses found after i h l m s ps =
       s (misused_in (λ x. get_or uses x 0) (tokens_from roles numbers ps i (count - i))) (m ps)
@@ -117,42 +117,9 @@ module _ (roles numbers : List ℕ) (count : ℕ) where
       kept true y ys = ap (keep (λ x. not (eqb (get_or uses x 0) 1))) (sym (pick_yes true (y ∷ ys) ys refl))
       kept false y ys = pick_no _ _ _ refl ∙ ap (keep (λ x. not (eqb (get_or uses x 0) 1))) (sym (pick_no false (y ∷ ys) ys refl))
 
-  pub misused_all : (uses : List ℕ) (found : Found) (i : ℕ) → i ≡ 0 → Misused uses found i → (ps : List ℕ) → found ≡ found_of (misused_in (λ x. get_or uses x 0) (tokens_from roles numbers ps 0 count))
+  pub misused_all : (uses : List ℕ) (found : Option ℕ) (i : ℕ) → i ≡ 0 → Misused uses found i → (ps : List ℕ) → found ≡ found_of (misused_in (λ x. get_or uses x 0) (tokens_from roles numbers ps 0 count))
   misused_all uses found i e m ps = m ps ∙ ap (λ (ts : List Token). found_of (misused_in (λ x. get_or uses x 0) ts)) (tokens_all roles numbers ps count i e)
 
--- a number that is not lower than another
-pub not_lower : (f : Bool) (low x : ℕ) → f ≡ true → (f && ltb low x) ≡ false → x ≤ low
-not_lower true low x e h = ltb-false low x h
-not_lower false low x e h = clash e refl
-
--- some number is found in a list that has one
-found_some : (y : ℕ) (ys : List ℕ) → (found_of (y ∷ ys)).found ≡ true
-unfolding found_of
-found_some y ys = ap not (ne_eqb (suc (length ys)) 0 (λ e. omega arith))
-
--- the lowest of one number more: it stays where it is lower
-pub least_kept : (x : ℕ) (xs : List ℕ) (r : Found) → r ≡ found_of xs → r.found ≡ true → r.lowest < x → r ≡ found_of (x ∷ xs)
-unfolding found_of least
-least_kept x [] r e f l = clash f (ap (λ (q : Found). q.found) e)
-least_kept x (y ∷ ys) r e f l =
-    let g : r.lowest ≡ least (y ∷ ys) = ap (λ (q : Found). q.lowest) e in
-    let m : r.lowest ≡ min x (least (y ∷ ys)) = omega arith in
-    let t : r.found ≡ (found_of (x ∷ y ∷ ys)).found = f ∙ sym (found_some x (y ∷ ys)) in
-    λ i. record { found = t i; lowest = m i }
-
--- and else is the new one
-pub least_new : (x : ℕ) (xs : List ℕ) (r : Found) → r ≡ found_of xs → (r.found ≡ true → x ≤ r.lowest) → record { found = true; lowest = x } ≡ found_of (x ∷ xs)
-unfolding found_of least
-least_new x [] r e h = let t : true ≡ (found_of (x ∷ [])).found = sym (found_some x []) in λ i. record { found = t i; lowest = x }
-least_new x (y ∷ ys) r e h =
-    let f : r.found ≡ true = ap (λ (q : Found). q.found) e ∙ found_some y ys in
-    let g : r.lowest ≡ least (y ∷ ys) = ap (λ (q : Found). q.lowest) e in
-    let k : x ≤ r.lowest = h f in
-    let m : x ≡ min x (least (y ∷ ys)) = omega arith in
-    let t : true ≡ (found_of (x ∷ y ∷ ys)).found = sym (found_some x (y ∷ ys)) in
-    λ i. record { found = t i; lowest = m i }
-
--- a test of equality turned round
 -- one store where the test of a token passes
 pub store_where : (l after : List ℕ) (number v : ℕ) (t : Bool) → t ≡ true → number < length l → after ≡ set l number v → (x : ℕ) → get_or after x 0 ≡ pick (t && eqb number x) v (get_or l x 0)
 store_where l after number v t p h e x =

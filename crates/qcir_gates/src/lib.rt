@@ -9,10 +9,11 @@ ghost use Rattle.qcir_tokens.specs.Tokens.{is_definition, is_use};
 ghost use Rattle.qcir_tokens.specs.Held.{tokens_from, HoldsNames, number_count, DefinitionsIn, found_of, token_limit};
 ghost use Rattle.qcir_gates.specs.Uses.{uses_in, misused_in};
 
-use qcir_tokens::{Found, NUMBERS};
+use qcir_tokens::NUMBERS;
 
 // Marks each gate's first definition: one more than the index of its token. The tokens are read from the last to the
-// first, so that the first definition is stored last.
+// first, so that the first definition is stored last. Zero stands for none: as options, the marks of all numbers would
+// take twice the memory, and it is fixed.
 //
 // The contract rules out marks that name the token after.
 pub fn mark_gates(roles: &[u8], numbers: &[u16], count: usize, gates: &mut [u16])
@@ -21,9 +22,7 @@ pub fn mark_gates(roles: &[u8], numbers: &[u16], count: usize, gates: &mut [u16]
     requires by_index { (x : ℕ) → get_or gates.old x 0 ≡ 0 }
     ensures { DefinitionsIn roles.now numbers.now count gates.new }
 {
-    let mut i = count;
-    while 0 < i {
-        i -= 1;
+    for i in (0..count).rev() {
         mark_gate(roles[i], numbers[i], i, gates);
     }
 }
@@ -43,7 +42,7 @@ fn mark_gate(role: u8, number: u16, i: usize, gates: &mut [u16])
 // Refusal 13: the lowest number of a gate that is not used exactly once.
 //
 // The contract rules out a search that does not notice a gate that is never used.
-pub fn lowest_misused(roles: &[u8], numbers: &[u16], count: usize) -> Found
+pub fn lowest_misused(roles: &[u8], numbers: &[u16], count: usize) -> Option<u32>
     requires { (count ≤ length roles.now) × (count ≤ length numbers.now) }
     ensures { (f : File) → HoldsNames roles.now numbers.now count f → result ≡ found_of (not_used_once f) }
 {
@@ -61,9 +60,7 @@ fn count_uses(roles: &[u8], numbers: &[u16], count: usize, uses: &mut [u8])
         → get_or uses.new x 0
         ≡ min 2 (uses_in (tokens_from roles.now numbers.now ps 0 count) x) }
 {
-    let mut i = count;
-    while 0 < i {
-        i -= 1;
+    for i in (0..count).rev() {
         count_use(roles[i], numbers[i], uses);
     }
 }
@@ -93,27 +90,22 @@ fn one_more(uses: u8) -> u8
 }
 
 // The lowest number of a gate whose uses are not 1.
-fn lowest_not_once(roles: &[u8], numbers: &[u16], count: usize, uses: &[u8]) -> Found
+fn lowest_not_once(roles: &[u8], numbers: &[u16], count: usize, uses: &[u8]) -> Option<u32>
     requires count_in_bounds { (count ≤ length roles.now) × (count ≤ length numbers.now) }
     requires uses_len { length uses.now ≡ number_count }
     ensures { (ps : List ℕ)
         → result ≡ found_of (misused_in (λ x. get_or uses.now x 0)
         (tokens_from roles.now numbers.now ps 0 count)) }
 {
-    let mut lowest = Found {
-        found: false,
-        lowest: 0,
-    };
-    let mut i = count;
-    while 0 < i {
-        i -= 1;
+    let mut lowest = None;
+    for i in (0..count).rev() {
         lowest = with_token(roles[i], numbers[i], uses, lowest);
     }
     lowest
 }
 
 // The same of one token more, before those among which `later` is the lowest.
-fn with_token(role: u8, number: u16, uses: &[u8], later: Found) -> Found
+fn with_token(role: u8, number: u16, uses: &[u8], later: Option<u32>) -> Option<u32>
     requires { length uses.now ≡ number_count }
     ensures { (xs : List ℕ) → later ≡ found_of xs
         → result ≡ found_of (pick (is_definition role && not (eqb (get_or uses.now number 0) 1))
@@ -125,18 +117,5 @@ fn with_token(role: u8, number: u16, uses: &[u8], later: Found) -> Found
     if uses[number as usize] == 1 {
         return later;
     }
-    with_number(number as u32, later)
-}
-
-// The lower of a number and those found.
-fn with_number(number: u32, later: Found) -> Found
-    ensures { (xs : List ℕ) → later ≡ found_of xs → result ≡ found_of (number ∷ xs) }
-{
-    if later.found & (later.lowest < number) {
-        return later;
-    }
-    Found {
-        found: true,
-        lowest: number,
-    }
+    qcir_tokens::with_number(later, number as u32)
 }

@@ -3,7 +3,8 @@
 use mathlib.Core.Bool.{true, false}
 use mathlib.Core.List.{List, [], ◌∷◌}
 use mathlib.Core.Path.{◌≡◌, refl, sym, ◌∙◌, ap}
-use Prim.Native.Nat.{ℕ, suc, ◌≤◌, ◌<◌}
+use Prim.Native.Nat.{ℕ, suc, ◌+◌, ◌≤◌, ◌<◌}
+use native.Mathlib.Numerals.{add-one}
 use native.Mathlib.Omega.{arith}
 use lib.Dec.{eqb}
 use lib.ListN.{length, get_or, drop, drop_of_length-le}
@@ -35,8 +36,8 @@ module _ (hs text : List ℕ) (k at : ℕ) where
     pub common_differs : (get_or text at 0 ≡ get_or hs k 0 → ⊥) → common (drop k hs) (drop at text) ≡ 0
     common_differs ne = opened ∙ pick_no _ _ _ (ne_eqb _ _ (λ e. ne (sym e)))
 
-    pub common_next : get_or text at 0 ≡ get_or hs k 0 → common (drop k hs) (drop at text) ≡ suc (common (drop (suc k) hs) (drop (suc at) text))
-    common_next e = opened ∙ pick_yes _ _ _ (eq-eqb _ _ (sym e))
+    pub common_next : get_or text at 0 ≡ get_or hs k 0 → common (drop k hs) (drop at text) ≡ suc (common (drop (k + 1) hs) (drop (at + 1) text))
+    common_next e = rw (add-one k, add-one at) (opened ∙ pick_yes _ _ _ (eq-eqb _ _ (sym e)))
 
 module _ (h b : ℕ) (hs t : List ℕ) where
   pub common_yes : eqb h b ≡ true → common (h ∷ hs) (b ∷ t) ≡ suc (common hs t)

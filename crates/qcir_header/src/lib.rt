@@ -13,15 +13,11 @@ pub const HEADER: [u8; 9] = *b"#QCIR-G14";
 pub fn header_end(text: &[u8], from: usize) -> usize
     ensures { result ≡ header_end text.now from }
 {
-    let mut at = from;
-    while at < text.len() {
-        if at - from == HEADER.len() {
+    for (i, byte) in HEADER.iter().enumerate() {
+        let at = from + i;
+        if text.len() <= at || text[at] != *byte {
             return at;
         }
-        if text[at] != HEADER[at - from] {
-            return at;
-        }
-        at += 1;
     }
-    at
+    from + HEADER.len()
 }

@@ -1,17 +1,14 @@
 -- Lists of numbers none of which is below a bound. Two lists with the same such bounds have the same lowest element.
 -- Assumes nothing.
-use mathlib.Core.Path.{◌≡◌, refl, sym, ◌∙◌, ap, subst}
+use mathlib.Core.Path.{◌≡◌, refl, sym, ap, subst}
 use mathlib.Core.Logic.{◌↔◌}
-use mathlib.Core.Bool.{Bool, true, false, not}
+use mathlib.Core.Bool.{Bool, true}
 use mathlib.Core.List.{List, [], ◌∷◌, ◌++◌}
 use Prim.Native.Nat.{ℕ, suc, ◌≤◌, min}
 use native.Mathlib.Omega.{arith}
-use lib.Dec.{eqb}
-use lib.ListN.{length}
-use borrow.Author.Tests.{ne_eqb}
+use Rattle.std.specs.Prelude.{Some}
 use Rattle.lists.specs.Choice.{pick, pick_yes, pick_no, Is, is_true, is_false, look}
 use Rattle.qcir.specs.Refusals.{least}
-use Rattle.qcir_tokens.specs.declared.Found.{Found}
 use Rattle.qcir_tokens.specs.Held.{found_of}
 use Rattle.qcir_misplaced.specs.Faults.{first_of}
 
@@ -71,17 +68,12 @@ least_above k x (y ∷ ys) a =
     let h : k ≤ x = above_head a in
     let l : k ≤ least (y ∷ ys) = least_above k y ys (above_tail a) in omega arith
 
-found_cons : (x : ℕ) (xs : List ℕ) → found_of (x ∷ xs) ≡ record { found = true; lowest = least (x ∷ xs) }
-unfolding found_of
-found_cons x xs =
-    let e : eqb (suc (length xs)) 0 ≡ false = ne_eqb (suc (length xs)) 0 (λ q. omega arith) in
-    ap {B = Found} (λ (b : Bool). record { found = not b; lowest = least (x ∷ xs) }) e
-
 -- a list with an element has a highest bound
 bounded : (x : ℕ) (xs : List ℕ) → Above (suc x) (x ∷ xs) → ⊥
 bounded x xs a = let h : suc x ≤ x = above_head a in omega arith
 
 pub found_same : (xs ys : List ℕ) → ((k : ℕ) → (Above k xs ↔ Above k ys)) → found_of xs ≡ found_of ys
+unfolding found_of
 found_same [] [] h = refl
 found_same [] (y ∷ ys) h = absurd (bounded y ys ((h (suc y)).0 none))
 found_same (x ∷ xs) [] h = absurd (bounded x xs ((h (suc x)).1 none))
@@ -89,17 +81,17 @@ found_same (x ∷ xs) (y ∷ ys) h =
     let a : least (x ∷ xs) ≤ least (y ∷ ys) = least_above (least (x ∷ xs)) y ys ((h (least (x ∷ xs))).0 (above_least x xs)) in
     let b : least (y ∷ ys) ≤ least (x ∷ xs) = least_above (least (y ∷ ys)) x xs ((h (least (y ∷ ys))).1 (above_least y ys)) in
     let q : least (x ∷ xs) ≡ least (y ∷ ys) = omega arith in
-    found_cons x xs ∙ ap {B = Found} (λ (k : ℕ). record { found = true; lowest = k }) q ∙ sym (found_cons y ys)
+    ap Some q
 
 pub first_none : first_of [] ≡ found_of []
-unfolding found_of first_of least
+unfolding found_of first_of
 first_none = refl
 
 -- the first element is the lowest where none after it is lower
 pub first_some : (x : ℕ) (xs : List ℕ) → Above x xs → first_of (x ∷ xs) ≡ found_of (x ∷ xs)
-unfolding first_of
+unfolding first_of found_of
 first_some x xs a =
     let l : x ≤ least (x ∷ xs) = least_above x x xs (let m : x ≤ x = omega arith in more m a) in
     let m : least (x ∷ xs) ≤ x = above_head (above_least x xs) in
     let q : x ≡ least (x ∷ xs) = omega arith in
-    ap {B = Found} (λ (k : ℕ). record { found = true; lowest = k }) q ∙ sym (found_cons x xs)
+    ap Some q

@@ -9,6 +9,7 @@ use native.Mathlib.Omega.{arith}
 use lib.Dec.{eqb, leb}
 use lib.ListN.{length, get_or, set}
 use borrow.Author.Tests.{leb-true, lt-leb, eqb-true}
+use Rattle.std.specs.Prelude.{None, Some}
 use Rattle.lists.specs.Choice.{pick, pick_yes, pick_no, Is, is_true, is_false, look, or_cases, and_off_left, and_off_right}
 use Rattle.lists.proofs.Stores.{get_d_set}
 use Rattle.qcir_tokens.specs.Tokens.{Token, is_outer, is_bound, is_definition, is_input}
@@ -105,7 +106,7 @@ module _ (gates : List ℕ) (rs ns ps : List ℕ) (count : ℕ) where
 
   pub found_here : (lists : List ℕ) (line i : ℕ) → i < count
       → fault (get_or rs i 0) (get_or gates (get_or ns i 0) 0) (get_or lists (get_or ns i 0) 0) line i ≡ true
-      → first_of (From lists line i) ≡ record { found = true; lowest = get_or ps i 0 }
+      → first_of (From lists line i) ≡ Some (get_or ps i 0)
   unfolding token_at first_of
   found_here lists line i h t =
       ap (λ (l : List Token). first_of (faults (λ x. get_or gates x 0) (λ x. get_or lists x 0) line i l)) (tokens_next rs ns ps i count h)
@@ -122,7 +123,7 @@ module _ (gates : List ℕ) (rs ns ps : List ℕ) (count : ℕ) where
       ∙ faults_later (λ x. get_or gates x 0) (λ x. get_or lists x 0) line i (token_at rs ns ps i) (tokens_from rs ns ps (suc i) (count - suc i)) t
       ∙ ap (λ (l : ℕ → ℕ). faults (λ x. get_or gates x 0) l (line_after (get_or rs i 0) line i) (suc i) (tokens_from rs ns ps (suc i) (count - suc i))) (sym (fun_ext same)))
 
-  pub found_none : (lists : List ℕ) (line i : ℕ) → count ≤ i → first_of (From lists line i) ≡ record { found = false; lowest = 0 }
+  pub found_none : (lists : List ℕ) (line i : ℕ) → count ≤ i → first_of (From lists line i) ≡ None
   unfolding tokens_from faults first_of
   found_none lists line i h =
       let e : count - i ≡ 0 = omega arith in

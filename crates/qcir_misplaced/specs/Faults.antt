@@ -2,10 +2,9 @@
 -- Lists of names have numbers: that of the free and prefix lines together is 1, that of a quantified gate is 2 more than the index of the
 -- token that defines the gate.
 -- Assumes nothing.
-use Rattle.std.specs.Prelude.{Bool, true, false, not, ◌&&◌, ◌||◌, List, [], ◌∷◌, ◌++◌, ℕ, suc, eqb, leb}
+use Rattle.std.specs.Prelude.{Bool, not, ◌&&◌, ◌||◌, List, [], ◌∷◌, ◌++◌, ℕ, suc, eqb, leb, Option, None, Some}
 use Rattle.lists.specs.Choice.{pick}
 use Rattle.qcir_tokens.specs.Tokens.{Token, is_outer, is_definition, is_bound, is_input}
-use Rattle.qcir_tokens.specs.declared.Found.{Found}
 
 -- An entry of a list: of the free line, a prefix line or a quantified gate.
 unfoldable pub is_entry : ℕ → Bool
@@ -45,7 +44,7 @@ faults gates lists line i (t ∷ ts) =
     pick (fault t.role (gates x) (lists x) line i) (t.name.position ∷ []) []
     ++ faults gates (lists_after t.role x line lists) (line_after t.role line i) (suc i) ts
 
--- Whether there are any positions, and the first of them.
-unfoldable pub first_of : List ℕ → Found
-first_of [] = record { found = false; lowest = 0 }
-first_of (p ∷ ps) = record { found = true; lowest = p }
+-- The first of the positions, if there are any.
+unfoldable pub first_of : List ℕ → Option ℕ
+first_of [] = None
+first_of (p ∷ ps) = Some p

@@ -14,7 +14,7 @@ ghost use Rattle.qcir_misplaced.specs.Faults.{
   first_of,
 };
 
-use qcir_tokens::{Found, NUMBERS};
+use qcir_tokens::NUMBERS;
 
 // Finds the first misplaced name among the tokens: a gate name defined twice or also in a list, an
 // input not after its gate, or a name twice in a list. `gates` has, for each number, one more than
@@ -28,7 +28,7 @@ pub fn first_misplaced(
     positions: &[u16],
     count: usize,
     gates: &[u16],
-) -> Found
+) -> Option<u32>
     requires room { Room roles.now numbers.now positions.now count }
     requires count_le_token_limit { count ≤ token_limit }
     requires definitions_in { DefinitionsIn roles.now numbers.now count gates.now }
@@ -48,7 +48,7 @@ fn first_fault(
     count: usize,
     gates: &[u16],
     lists: &mut [u16],
-) -> Found
+) -> Option<u32>
     requires room { Room roles.now numbers.now positions.now count }
     requires count_le_token_limit { count ≤ token_limit }
     requires gates_len { (length gates.now ≡ number_count) × (length lists.old ≡ number_count) }
@@ -57,26 +57,19 @@ fn first_fault(
         (tokens_from roles.now numbers.now positions.now 0 count)) }
 {
     let mut line: u16 = 0;
-    let mut i: usize = 0;
-    while i < count {
+    for i in 0..count {
         let role = roles[i];
         let x = numbers[i] as usize;
         if is_fault(role, gates[x], lists[x], line, i) {
-            return Found {
-                found: true,
-                lowest: positions[i] as u32,
-            };
+            return Some(positions[i] as u32);
         }
         line = pass(lists, role, x, line, i);
-        i += 1;
     }
-    Found {
-        found: false,
-        lowest: 0,
-    }
+    None
 }
 
 // An entry of a list: of the free line, a prefix line or a quantified gate.
+#[tactic(auto, unfolding(crate::specs::Faults::is_entry))]
 fn is_entry(role: u8) -> bool
     ensures { result ≡ is_entry role }
 {
@@ -85,7 +78,7 @@ fn is_entry(role: u8) -> bool
 
 // Whether token i is at fault. `gate` is one more than the first definition of its number, `list` the
 // last list that holds the number, and `line` one more than the last definition: each of them 0 if
-// there is none.
+// there is none, as the arrays have it.
 fn is_fault(role: u8, gate: u16, list: u16, line: u16, i: usize) -> bool
     requires { line ≤ token_limit }
     ensures { result ≡ fault role gate list line i }

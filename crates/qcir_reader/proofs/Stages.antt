@@ -1,6 +1,6 @@
 -- The outcome of a file, stage by stage: what each refusal and each passed test makes of it.
 -- Assumes nothing.
-use mathlib.Core.Bool.{true, false, not, ◌||◌}
+use mathlib.Core.Bool.{true, ◌||◌}
 use mathlib.Core.List.{List, [], ◌∷◌}
 use mathlib.Core.Path.{◌≡◌, refl, sym, ◌∙◌, ap, subst}
 use Prim.Native.Nat.{ℕ, ◌*◌, ◌<◌, ◌≤◌}
@@ -8,7 +8,9 @@ use native.Mathlib.Omega.{arith}
 use lib.Dec.{ltb, eqb-suc-zero}
 use borrow.Author.Tests.{lt-ltb, le-ltb}
 use lib.ListN.{length}
-use Rattle.lists.specs.Choice.{pick_yes, pick_no, clash, or_left, or_right, or_neither}
+use Rattle.std.specs.Prelude.{None, Some}
+use Rattle.std.proofs.lemmas.Option.{none-some, same_Some}
+use Rattle.lists.specs.Choice.{pick_yes, pick_no, or_left, or_right, or_neither}
 use Rattle.lists.specs.Parts.{overwrite}
 use Rattle.lists.specs.Search.{lowest}
 use Rattle.lists.proofs.Search.{lowest_before}
@@ -25,23 +27,21 @@ use Rattle.qcir.specs.Table.{table_words, table_list}
 use Rattle.qcir.specs.FromText.{limits, unless_any, name_verdict, size_verdict, refused_text, of_table, of_file}
 use Rattle.qcir.specs.Reading.{Written, Buffers, buffers, none_written, done_with, stored, file_outcome, table_outcome}
 use Rattle.qcir.proofs.Theorem.{table_whole, table_few}
-use Rattle.qcir_tokens.specs.declared.Found.{Found}
 use Rattle.qcir_tokens.specs.Held.{found_of}
 use Rattle.qcir_reader.specs.declared.Answer.{Answer}
 use Rattle.qcir_reader.specs.Reads.{answer_of, after}
 
 -- Nothing was found among no numbers only.
-pub nothing_found : (r : Found) (xs : List ℕ) → r ≡ found_of xs → r.found ≡ false → xs ≡ []
+pub nothing_found : (xs : List ℕ) → None ≡ found_of xs → xs ≡ []
 unfolding found_of
-nothing_found r [] e h = refl
-nothing_found r (x ∷ xs) e h = clash (ap (λ (z : Found). z.found) e ∙ ap not (eqb-suc-zero (length xs))) h
+nothing_found [] e = refl
+nothing_found (x ∷ xs) e = absurd (none-some _ e)
 
 -- What was found is the refusal's position.
-found_refuses : (r : Found) (xs : List ℕ) (number : ℕ) (next : Verdict) → r ≡ found_of xs → r.found ≡ true → unless_any xs number next ≡ refusal number r.lowest
+found_refuses : (n : ℕ) (xs : List ℕ) (number : ℕ) (next : Verdict) → Some n ≡ found_of xs → unless_any xs number next ≡ refusal number n
 unfolding found_of unless_any
-found_refuses r [] number next e h = clash h (ap (λ (z : Found). z.found) e)
-found_refuses r (x ∷ xs) number next e h =
-    pick_no _ _ _ (eqb-suc-zero (length xs)) ∙ ap (refusal number) (sym (ap (λ (z : Found). z.lowest) e))
+found_refuses n [] number next e = absurd (none-some _ (sym e))
+found_refuses n (x ∷ xs) number next e = pick_no _ _ _ (eqb-suc-zero (length xs)) ∙ ap (refusal number) (sym (same_Some _ _ e))
 
 none_passes : (xs : List ℕ) (number : ℕ) (next : Verdict) → xs ≡ [] → unless_any xs number next ≡ next
 unfolding unless_any
@@ -49,18 +49,18 @@ none_passes xs number next e = subst (λ (ys : List ℕ). unless_any ys number n
 
 -- The first of refusals 11, 13 and 12 that applies.
 module _ (f : File) where
-  pub misplaced_first : (found : Found) → found ≡ found_of (misplaced f) → found.found ≡ true → refusal 11 found.lowest ≡ name_verdict f
+  pub misplaced_first : (n : ℕ) → Some n ≡ found_of (misplaced f) → refusal 11 n ≡ name_verdict f
   unfolding name_verdict
-  misplaced_first found e h = sym (found_refuses found (misplaced f) 11 _ e h)
+  misplaced_first n e = sym (found_refuses n (misplaced f) 11 _ e)
 
-  pub misused_first : (found : Found) → misplaced f ≡ [] → found ≡ found_of (not_used_once f) → found.found ≡ true → refusal 13 found.lowest ≡ name_verdict f
+  pub misused_first : (n : ℕ) → misplaced f ≡ [] → Some n ≡ found_of (not_used_once f) → refusal 13 n ≡ name_verdict f
   unfolding name_verdict
-  misused_first found m e h = sym (none_passes (misplaced f) 11 _ m ∙ found_refuses found (not_used_once f) 13 _ e h)
+  misused_first n m e = sym (none_passes (misplaced f) 11 _ m ∙ found_refuses n (not_used_once f) 13 _ e)
 
-  pub unbound_first : (found : Found) → misplaced f ≡ [] → not_used_once f ≡ [] → found ≡ found_of (unbound f) → found.found ≡ true → refusal 12 found.lowest ≡ name_verdict f
+  pub unbound_first : (n : ℕ) → misplaced f ≡ [] → not_used_once f ≡ [] → Some n ≡ found_of (unbound f) → refusal 12 n ≡ name_verdict f
   unfolding name_verdict
-  unbound_first found m u e h =
-      sym (none_passes (misplaced f) 11 _ m ∙ (none_passes (not_used_once f) 13 _ u ∙ found_refuses found (unbound f) 12 _ e h))
+  unbound_first n m u e =
+      sym (none_passes (misplaced f) 11 _ m ∙ (none_passes (not_used_once f) 13 _ u ∙ found_refuses n (unbound f) 12 _ e))
 
   pub none_first : misplaced f ≡ [] → not_used_once f ≡ [] → unbound f ≡ [] → accepted ≡ name_verdict f
   unfolding name_verdict

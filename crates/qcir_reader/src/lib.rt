@@ -20,7 +20,7 @@ ghost use Rattle.qcir_header.specs.Header.{header_end};
 ghost use Rattle.qcir_reader.specs.Reads.{answer_of, after, Reads};
 
 use acceptance::LIMIT;
-use qcir_tokens::{Found, NUMBERS, TOKENS};
+use qcir_tokens::{NUMBERS, TOKENS};
 use refusals::{
     ACCEPTED, BUFFER_TOO_SHORT, GATE_NOT_USED_ONCE, MISPLACED_NAME, MISSPELLED, TOO_LARGE,
     TOO_MANY_VARIABLES, UNBOUND_VARIABLE, Verdict, accepted, refusal,
@@ -176,20 +176,20 @@ fn judge_names(
 
 // The first of refusals 11, 13 and 12 that applies: a misplaced name, a gate not used exactly once, an
 // unbound variable, of which the last is known only where the others do not apply.
-fn name_verdict(place: Found, gate: Found, variable: Found) -> Verdict
+fn name_verdict(place: Option<u32>, gate: Option<u32>, variable: Option<u32>) -> Verdict
     ensures { (f : File) → place ≡ found_of (misplaced f)
         → gate ≡ found_of (not_used_once f)
         → (misplaced f ≡ [] → not_used_once f ≡ [] → variable ≡ found_of (unbound f))
         → result ≡ name_verdict f }
 {
-    if place.found {
-        return refusal(MISPLACED_NAME, place.lowest);
+    if let Some(position) = place {
+        return refusal(MISPLACED_NAME, position);
     }
-    if gate.found {
-        return refusal(GATE_NOT_USED_ONCE, gate.lowest);
+    if let Some(number) = gate {
+        return refusal(GATE_NOT_USED_ONCE, number);
     }
-    if variable.found {
-        return refusal(UNBOUND_VARIABLE, variable.lowest);
+    if let Some(number) = variable {
+        return refusal(UNBOUND_VARIABLE, number);
     }
     accepted()
 }
@@ -214,9 +214,8 @@ fn store_table(
     if (LIMIT as u32) < nodes {
         return refused(refusal(TOO_LARGE, 0));
     }
-    let excess = sizes.excess;
-    if excess < nodes {
-        return refused(refusal(TOO_MANY_VARIABLES, excess));
+    if let Some(block) = sizes.excess {
+        return refused(refusal(TOO_MANY_VARIABLES, block));
     }
     let length = (formula::WIDTH as u32) * nodes;
     let entries = sizes.entries;

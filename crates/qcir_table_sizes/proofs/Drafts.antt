@@ -8,11 +8,12 @@ use Prim.Native.Nat.{ℕ, suc, ◌+◌, ◌*◌, ◌≤◌, ◌<◌}
 use native.Mathlib.Omega.{arith}
 use lib.Dec.{ltb}
 use lib.ListN.{length, length-append}
-use borrow.Author.Tests.{ltb-true, lt-ltb, le-ltb}
-use Rattle.lists.specs.Choice.{pick, pick_yes, pick_no, Is, is_true, is_false, look, and_off_left}
-use Rattle.lists.specs.Search.{lowest}
+use Rattle.std.specs.Prelude.{Option, None}
+use Rattle.std.specs.Bool.{then_some}
+use Rattle.std.specs.Option.{option_or}
+use Rattle.lists.specs.Choice.{pick, pick_yes, pick_no, and_off_left}
+use Rattle.lists.specs.Search.{lowest, some_below}
 use Rattle.lists.specs.Parts.{sum}
-use Rattle.lists.proofs.Search.{lowest_cong}
 use Rattle.lists.proofs.Parts.{sum_cong}
 use Rattle.formula.specs.Words.{width, node_count, is_block_kind, words_at, word_list}
 use Rattle.formula.specs.declared.NodeWords.{NodeWords}
@@ -21,6 +22,8 @@ use Rattle.acceptance.specs.Limits.{limit}
 use Rattle.acceptance.specs.Verdict.{count_at, too_many_variables}
 use Rattle.qcir.specs.Table.{Draft, store, empty_draft}
 use Rattle.qcir.proofs.StoredWords.{with_node, words_kept, words_new}
+use Rattle.qcir_table_sizes.specs.Excess.{lowest_below}
+use Rattle.qcir_table_sizes.proofs.Excess.{below_cong, below_suc, or_none}
 
 -- the count of a node with these words, and whether it brings the sum over `most`
 abbrev count_of : NodeWords → ℕ
@@ -56,8 +59,8 @@ module _ (ws : List ℕ) (n : ℕ) (whole : length ws ≡ width * n) where
         ap (λ (u : NodeWords). over_with most u (sum (count_at (with_node ws w)) i)) (before_kept i h)
         ∙ ap (over_with most (words_at ws i)) (sum_before i (omega arith))
 
-    pub lowest_before : (most : ℕ) → lowest (too_many_variables most (with_node ws w)) n ≡ lowest (too_many_variables most ws) n
-    lowest_before most = lowest_cong (too_many_variables most (with_node ws w)) (too_many_variables most ws) n (over_before most)
+    pub excess_before : (most : ℕ) → lowest_below (too_many_variables most (with_node ws w)) n ≡ lowest_below (too_many_variables most ws) n
+    excess_before most = below_cong (too_many_variables most (with_node ws w)) (too_many_variables most ws) n (over_before most)
 
     -- the sum with one node more, and whether that node brings it over
     pub sum_after : sum (count_at (with_node ws w)) (suc n) ≡ sum (count_at ws) n + count_of w
@@ -72,74 +75,29 @@ module _ (ws : List ℕ) (n : ℕ) (whole : length ws ≡ width * n) where
         ap (λ (u : NodeWords). over_with most u (sum (count_at (with_node ws w)) n)) after_is
         ∙ ap (over_with most w) (sum_before n (omega arith))
 
-lowest_suc : (p : ℕ → Bool) (n : ℕ) → lowest p (suc n) ≡ pick (ltb (lowest p n) n) (lowest p n) (pick (p n) n (suc n))
-unfolding lowest
-lowest_suc p n = refl
-
--- A draft with n nodes and e entries; where the sum of the counts, which is e, passes the limit, it does so first at node k.
-pub record Measured (gate : ℕ → ℕ) (d : Draft) (n e k : ℕ) : Type 0 where
+-- A draft with n nodes and e entries; k is the first node at which the sum of the counts, which is e, passes the limit, if it does.
+pub record Measured (gate : ℕ → ℕ) (d : Draft) (n e : ℕ) (k : Option ℕ) : Type 0 where
   pub gate_is : d.gate ≡ gate
   pub whole : length d.words ≡ width * n
   pub listed : length d.entries ≡ e
   pub counted : sum (count_at d.words) n ≡ e
-  pub low : limit < e → k < n
-  pub lowest_is : lowest (too_many_variables limit d.words) n ≡ pick (ltb limit e) k n
+  pub excess_is : lowest_below (too_many_variables limit d.words) n ≡ k
 
-pub measured_empty : Measured (λ x. 0) empty_draft 0 0 0
-unfolding empty_draft sum lowest pick
-measured_empty = record { gate_is = refl; whole = omega arith; listed = refl; counted = refl; low = λ h. absurd (omega arith); lowest_is = refl }
-
--- The lowest so far, by whether the limit is passed.
-module _ (p : ℕ → Bool) (n e k m : ℕ) (low : limit < e → k < n) (is : lowest p n ≡ pick (ltb limit e) k n) where
-  -- one node more that does not pass the test
-  lowest_plain : p n ≡ false → lowest p (suc n) ≡ pick (ltb limit e) k (suc n)
-  lowest_plain h = lowest_suc p n ∙ go (look (ltb limit e))
-    where
-      go : Is (ltb limit e) → pick (ltb (lowest p n) n) (lowest p n) (pick (p n) n (suc n)) ≡ pick (ltb limit e) k (suc n)
-      go (is_true t) =
-          let a : lowest p n ≡ k = is ∙ pick_yes _ _ _ t in
-          let b : k < n = low (ltb-true limit e t) in
-          pick_yes _ _ _ (lt-ltb (lowest p n) n (omega arith)) ∙ a ∙ sym (pick_yes _ _ _ t)
-      go (is_false t) =
-          let a : lowest p n ≡ n = is ∙ pick_no _ _ _ t in
-          pick_no _ _ _ (le-ltb (lowest p n) n (omega arith)) ∙ pick_no _ _ _ h ∙ sym (pick_no _ _ _ t)
-
-  -- one that does if the sum with it passes the limit
-  lowest_block : p n ≡ ltb limit (e + m) → lowest p (suc n) ≡ pick (ltb limit (e + m)) (pick (ltb limit e) k n) (suc n)
-  lowest_block h = lowest_suc p n ∙ go (look (ltb limit e)) (look (ltb limit (e + m)))
-    where
-      go : Is (ltb limit e) → Is (ltb limit (e + m)) → pick (ltb (lowest p n) n) (lowest p n) (pick (p n) n (suc n)) ≡ pick (ltb limit (e + m)) (pick (ltb limit e) k n) (suc n)
-      go (is_true t) u =
-          let a : lowest p n ≡ k = is ∙ pick_yes _ _ _ t in
-          let l : limit < e = ltb-true limit e t in
-          let b : k < n = low l in
-          pick_yes _ _ _ (lt-ltb (lowest p n) n (omega arith))
-          ∙ a
-          ∙ sym (pick_yes _ _ _ t)
-          ∙ sym (pick_yes _ _ _ (lt-ltb limit (e + m) (omega arith)))
-      go (is_false t) (is_true u) =
-          let a : lowest p n ≡ n = is ∙ pick_no _ _ _ t in
-          pick_no _ _ _ (le-ltb (lowest p n) n (omega arith))
-          ∙ pick_yes _ _ _ (h ∙ u)
-          ∙ sym (pick_no _ _ _ t)
-          ∙ sym (pick_yes _ _ _ u)
-      go (is_false t) (is_false u) =
-          let a : lowest p n ≡ n = is ∙ pick_no _ _ _ t in
-          pick_no _ _ _ (le-ltb (lowest p n) n (omega arith)) ∙ pick_no _ _ _ (h ∙ u) ∙ sym (pick_no _ _ _ u)
-
-  low_block : limit < e + m → pick (ltb limit e) k n < suc n
-  low_block h = go (look (ltb limit e))
-    where
-      go : Is (ltb limit e) → pick (ltb limit e) k n < suc n
-      go (is_true t) =
-          let a : pick (ltb limit e) k n ≡ k = pick_yes _ _ _ t in
-          let b : k < n = low (ltb-true limit e t) in omega arith
-      go (is_false t) = let a : pick (ltb limit e) k n ≡ n = pick_no _ _ _ t in omega arith
+pub measured_empty : Measured (λ x. 0) empty_draft 0 0 None
+unfolding empty_draft sum lowest some_below pick
+measured_empty = record { gate_is = refl; whole = omega arith; listed = refl; counted = refl; excess_is = refl }
 
 -- One node more.
-module _ (gate : ℕ → ℕ) (d : Draft) (n e k : ℕ) (m : Measured gate d n e k) where
+module _ (gate : ℕ → ℕ) (d : Draft) (n e : ℕ) (k : Option ℕ) (m : Measured gate d n e k) where
   whole_with : (w : NodeWords) → length (with_node d.words w) ≡ width * suc n
   whole_with w = length-append d.words (word_list w) ∙ omega (arith, m.whole, word_list-length w)
+
+  -- the first node over the limit, if the next one is over it or not
+  excess_with : (w : NodeWords) (t : Bool) → too_many_variables limit (with_node d.words w) n ≡ t → lowest_below (too_many_variables limit (with_node d.words w)) (suc n) ≡ option_or k (then_some t n)
+  excess_with w t h =
+      below_suc (too_many_variables limit (with_node d.words w)) n
+      ∙ ap (λ (b : Bool). option_or (lowest_below (too_many_variables limit (with_node d.words w)) n) (then_some b n)) h
+      ∙ ap (λ (j : Option ℕ). option_or j (then_some t n)) (excess_before d.words n m.whole w limit ∙ m.excess_is)
 
   pub measured_node : (w : NodeWords) → is_block_kind w.kind ≡ false → Measured gate (store d w).draft (suc n) e k
   unfolding store
@@ -150,27 +108,22 @@ module _ (gate : ℕ → ℕ) (d : Draft) (n e k : ℕ) (m : Measured gate d n e
         whole = whole_with w;
         listed = m.listed;
         counted = sum_after d.words n m.whole w ∙ omega (arith, m.counted);
-        low = λ l. let x = m.low l in omega arith;
-        lowest_is =
-            lowest_plain (too_many_variables limit (with_node d.words w)) n e k 0 m.low (lowest_before d.words n m.whole w limit ∙ m.lowest_is)
-            (over_after d.words n m.whole w limit ∙ and_off_left (is_block_kind w.kind) _ h);
+        excess_is = excess_with w false (over_after d.words n m.whole w limit ∙ and_off_left (is_block_kind w.kind) _ h) ∙ or_none k;
       }
 
   pub measured_block : (w : NodeWords) (xs : List ℕ) → is_block_kind w.kind ≡ true → w.b ≡ length xs
-      → Measured gate (store (record { words = d.words; entries = d.entries ++ xs; gate = d.gate }) w).draft (suc n) (e + length xs) (pick (ltb limit e) k n)
+      → Measured gate (store (record { words = d.words; entries = d.entries ++ xs; gate = d.gate }) w).draft (suc n) (e + length xs) (option_or k (then_some (ltb limit (e + length xs)) n))
   unfolding store
   measured_block w xs h l =
       let b : ℕ = length xs in
       let z = pick_yes (is_block_kind w.kind) w.b 0 h in
-      let is : lowest (too_many_variables limit (with_node d.words w)) n ≡ pick (ltb limit e) k n = lowest_before d.words n m.whole w limit ∙ m.lowest_is in
       record {
         gate_is = m.gate_is;
         whole = whole_with w;
         listed = length-append d.entries xs ∙ ap (λ (x : ℕ). x + length xs) m.listed;
         counted = sum_after d.words n m.whole w ∙ omega (arith, m.counted);
-        low = low_block (too_many_variables limit (with_node d.words w)) n e k b m.low is;
-        lowest_is =
-            lowest_block (too_many_variables limit (with_node d.words w)) n e k b m.low is
+        excess_is =
+            excess_with w (ltb limit (e + b))
             (over_after d.words n m.whole w limit
             ∙ ap (λ (t : Bool). t && ltb limit (sum (count_at d.words) n + w.b)) h
             ∙ ap (λ (x : ℕ). ltb limit (sum (count_at d.words) n + x)) l

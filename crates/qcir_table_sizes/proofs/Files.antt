@@ -11,7 +11,7 @@ use lib.ListN.{length, get_or, length-map}
 use borrow.Author.Tests.{not-false, eq-eqb, ne_eqb, le-leb, lt-leb}
 use Rattle.lists.specs.Choice.{pick, pick_yes, pick_no, Is, is_true, is_false, look, and_both, and_off_left, and_off_right}
 use Rattle.lists.proofs.Members.{eqb_swap}
-use Rattle.lists.specs.Search.{lowest}
+use Rattle.std.specs.Prelude.{Option}
 use Rattle.formula.specs.Node.{Quantifier, Node, constant, variable, negation, operator}
 use Rattle.formula.specs.Words.{node_count, words_of, block_words}
 use Rattle.formula.specs.Form.{kind_of}
@@ -25,8 +25,8 @@ use Rattle.qcir_tokens.specs.Held.{Definitions}
 use Rattle.qcir_tokens.proofs.Roles.{free_all, line_all, later_all, output_all, bound_all, input_all, output_minus, input_minus, output_no_definition, bound_no_definition, input_no_definition, junction_defines, xor_defines, quantifier_defines, Quiet, none, more, quiet_free, quiet_front, front_no_definition, gate_tokens_lem}
 use Rattle.qcir_tokens.proofs.Tokens.{file_parts}
 use Rattle.qcir_table_sizes.specs.declared.Pass.{Pass}
-use Rattle.qcir_table_sizes.specs.declared.TableSizes.{TableSizes}
-use Rattle.qcir_table_sizes.specs.Pass.{is_earlier, start, block_added, operand_added, input_added, line_begun, variable_added, constant_added, gate_step, gates_pass, output_added, outer_step, file_pass, sizes_of}
+use Rattle.qcir_table_sizes.specs.Pass.{is_earlier, start, block_added, operand_added, input_added, line_begun, variable_added, constant_added, gate_step, gates_pass, output_added, outer_step, file_pass}
+use Rattle.qcir_table_sizes.specs.Excess.{lowest_below}
 use Rattle.qcir_table_sizes.proofs.Passes.{pick_either}
 use Rattle.qcir_table_sizes.proofs.Drafts.{node_count_lem, Measured, measured_empty, measured_node, measured_block}
 
@@ -35,7 +35,7 @@ abbrev Counts : (ℕ → ℕ) → Draft → Pass → Type 0
 Counts gate d s = Measured gate d s.nodes s.entries s.excess
 
 -- A name and a literal add what their tests say.
-module _ (gate : ℕ → ℕ) (d : Draft) (n e k : ℕ) (m : Measured gate d n e k) where
+module _ (gate : ℕ → ℕ) (d : Draft) (n e : ℕ) (k : Option ℕ) (m : Measured gate d n e k) where
   measured_name : (x : ℕ) → Measured gate (store_name d x).draft (n + pick (eqb (gate x) 0) 1 0) e k
   unfolding store_name
   measured_name x = go (look (eqb (gate x) 0))
@@ -52,7 +52,7 @@ module _ (gate : ℕ → ℕ) (d : Draft) (n e k : ℕ) (m : Measured gate d n e
           let a : n + pick (eqb (gate x) 0) 1 0 ≡ n = omega (arith, pick_no {A = ℕ} (eqb (gate x) 0) 1 0 t) in
           rw (pick_no (eqb (d.gate x) 0) (store d (words_of (variable x))) (record { draft = d; node = d.gate x - 1 }) (same ∙ t), a) m
 
-module _ (gate : ℕ → ℕ) (d : Draft) (n e k : ℕ) (m : Measured gate d n e k) where
+module _ (gate : ℕ → ℕ) (d : Draft) (n e : ℕ) (k : Option ℕ) (m : Measured gate d n e k) where
   measured_literal : (l : Literal) → Measured gate (store_literal d l).draft (n + pick (eqb (gate l.name.number) 0) 1 0 + pick l.minus 1 0) e k
   unfolding store_literal
   measured_literal l = go l.minus _ (store_name d l.name.number) (measured_name gate d n e k m l.name.number)
@@ -169,7 +169,7 @@ module _ (gates : List ℕ) (gate : ℕ → ℕ) where
   Known line = (x : ℕ) → eqb (gate x) 0 ≡ not (is_earlier (get_or gates x 0) line)
 
   -- one node more
-  counts_node : (d : Draft) (n e k : ℕ) → Measured gate d n e k → (nd : Node) → Measured gate (store d (words_of nd)).draft (n + 1) e k
+  counts_node : (d : Draft) (n e : ℕ) (k : Option ℕ) → Measured gate d n e k → (nd : Node) → Measured gate (store d (words_of nd)).draft (n + 1) e k
   counts_node d n e k m nd = rw (add-one n) (measured_node gate d n e k m (words_of nd) (words_plain nd))
 
   operand_first : (d : Draft) (s : Pass) → Counts gate d s → s.first ≡ true → Known s.line → (l : Literal) (b : Bool) → Counts gate (store_literal d l).draft (operand_added (input_role l.minus b) (get_or gates l.name.number 0) s)
@@ -348,7 +348,7 @@ gates_counts gates (g ∷ gs) i s d m p =
     let c : Counts d.gate e t = gate_counts gates d.gate g i s d m (λ x. placed_known (get_or gates x 0) (d.gate x) i (gates_tokens (g ∷ gs)) x (p x)) in
     subst (λ (q : Pass). Done gates (store_gates after gs) q) (sym (gates_append gates i (gate_tokens g) (gates_tokens gs) s))
     (gates_counts gates gs (i + length (gate_tokens g)) t after
-    (record { gate_is = refl; whole = c.whole; listed = c.listed; counted = c.counted; low = c.low; lowest_is = c.lowest_is })
+    (record { gate_is = refl; whole = c.whole; listed = c.listed; counted = c.counted; excess_is = c.excess_is })
     (λ x. subst (λ (h : ℕ → ℕ). Placed (get_or gates x 0) (pick (eqb x name) (suc st.node) (h x)) (i + length (gate_tokens g)) (gates_tokens gs) x) (sym c.gate_is)
     (placed_next g (gates_tokens gs) (get_or gates x 0) (d.gate x) i x st.node (p x))))
 
@@ -477,13 +477,9 @@ whole_counts f gates h =
     b.counts
 
 -- The sizes are those of the file's table.
-pub sizes-of_file : (f : File) (gates : List ℕ) → Definitions gates (file_tokens f) → (r : TableSizes) → r ≡ sizes_of (file_pass gates 0 (file_tokens f)) → (r.nodes ≡ node_count (table_words f)) × (r.entries ≡ length (table_list f)) × (r.excess ≡ lowest (too_many_variables limit (table_words f)) (node_count (table_words f)))
-unfolding sizes_of table_words table_list
-sizes-of_file f gates h r e =
-    let m = whole_counts f gates h in
-    let s : Pass = file_pass gates 0 (file_tokens f) in
-    let n : node_count (store_file f).draft.words ≡ s.nodes = node_count_lem (store_file f).draft.words s.nodes m.whole in (
-      ap (λ (t : TableSizes). t.nodes) e ∙ sym n,
-      ap (λ (t : TableSizes). t.entries) e ∙ sym m.listed,
-      ap (λ (t : TableSizes). t.excess) e ∙ sym m.lowest_is ∙ ap (lowest (too_many_variables limit (store_file f).draft.words)) (sym n),
-    )
+pub sizes-of_file : (f : File) (gates : List ℕ) → Definitions gates (file_tokens f) → (s : Pass) → s ≡ file_pass gates 0 (file_tokens f) → (s.nodes ≡ node_count (table_words f)) × (s.entries ≡ length (table_list f)) × (s.excess ≡ lowest_below (too_many_variables limit (table_words f)) (node_count (table_words f)))
+unfolding table_words table_list
+sizes-of_file f gates h s e =
+    let m = subst (λ (t : Pass). Counts (store_gates empty_draft f.gates).gate (store_file f).draft t) (sym e) (whole_counts f gates h) in
+    let n : node_count (store_file f).draft.words ≡ s.nodes = node_count_lem (store_file f).draft.words s.nodes m.whole in
+    (sym n, sym m.listed, sym m.excess_is ∙ ap (lowest_below (too_many_variables limit (store_file f).draft.words)) (sym n))

@@ -1,3 +1,4 @@
 pub mod Passes
 pub mod Drafts
 pub mod Files
+pub mod Excess

@@ -6,16 +6,16 @@ use mathlib.Core.Path.{◌≡◌, refl, sym, ◌∙◌, ap}
 use Prim.Native.Nat.{ℕ, zero, suc, ◌+◌, ◌-◌, ◌≤◌, ◌<◌}
 use native.Mathlib.Numerals.{add-one}
 use native.Mathlib.Omega.{arith}
-use lib.Dec.{eqb, leb, ltb}
+use mir.Val.{bool_byte}
+use lib.Dec.{eqb, leb}
 use lib.ListN.{get_or}
 use Rattle.lists.specs.Choice.{pick, pick_yes, pick_no}
 use Rattle.lists.proofs.Parts.{pick_le}
-use Rattle.acceptance.specs.Limits.{limit}
 use Rattle.qcir_tokens.specs.Tokens.{Token, is_outer, is_free, is_definition, is_bound, is_input, is_minus}
 use Rattle.qcir_tokens.specs.Held.{token_at, tokens_from}
 use Rattle.qcir_tokens.proofs.Tokens.{tokens_end, tokens_next}
 use Rattle.qcir_table_sizes.specs.declared.Pass.{Pass}
-use Rattle.qcir_table_sizes.specs.Pass.{Small, Room, is_earlier, start, block_added, operand_added, input_added, line_begun, variable_added, constant_added, gate_step, gates_pass, output_added, outer_step, outer_pass, file_pass, sizes_of}
+use Rattle.qcir_table_sizes.specs.Pass.{Small, Room, is_earlier, start, block_added, operand_added, input_added, line_begun, variable_added, constant_added, gate_step, gates_pass, output_added, outer_step, outer_pass, file_pass}
 
 -- what holds of both holds of the one picked
 pub pick_either : {A : Type 0} (P : A → Type 0) (t : Bool) (a b : A) → P a → P b → P (pick t a b)
@@ -125,6 +125,11 @@ module _ (s : Pass) (m : Room 1000000 s) where
       record { nodes_low = omega arith; entries_low = omega arith }
 
 -- A pass from its parts.
+pub byte_is : (b : Bool) → bool_byte b ≡ pick b 1 0
+unfolding pick
+byte_is true = refl
+byte_is false = refl
+
 pub operand_is : (role gate : ℕ) (s : Pass) (v n o : ℕ) → v ≡ pick (not (is_earlier gate s.line)) 1 0 → n ≡ pick (is_minus role) 1 0 → o ≡ pick (not s.first) 1 0 → record { nodes = s.nodes + v + n + o; entries = s.entries; excess = s.excess; line = s.line; bound = s.bound; first = false } ≡ operand_added role gate s
 unfolding operand_added
 operand_is role gate s v n o p q r =
@@ -134,15 +139,6 @@ pub output_is : (role gate : ℕ) (s : Pass) (v n : ℕ) → v ≡ pick (eqb gat
 unfolding output_added
 output_is role gate s v n p q =
     λ i. record { nodes = s.nodes + p i + q i; entries = s.entries; excess = s.excess; line = s.line; bound = 0; first = s.first }
-
-pub block_is : (s : Pass) (k : ℕ) → k ≡ pick (ltb limit s.entries) s.excess s.nodes → record { nodes = s.nodes + 1; entries = s.entries + s.bound; excess = k; line = s.line; bound = 0; first = s.first } ≡ block_added s
-unfolding block_added
-block_is s k p =
-    λ i. record { nodes = s.nodes + 1; entries = s.entries + s.bound; excess = p i; line = s.line; bound = 0; first = s.first }
-
-pub sizes_are : (s : Pass) (k : ℕ) → k ≡ pick (ltb limit s.entries) s.excess s.nodes → record { nodes = s.nodes; entries = s.entries; excess = k } ≡ sizes_of s
-unfolding sizes_of
-sizes_are s k p = λ i. record { nodes = s.nodes; entries = s.entries; excess = p i }
 
 -- A pass over `count` tokens.
 module _ (roles numbers : List ℕ) (count : ℕ) (gates : List ℕ) where

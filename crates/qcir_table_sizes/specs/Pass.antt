@@ -1,11 +1,12 @@
 -- What a pass over tokens counts, token by token. The public contract cites none of these definitions.
 -- Assumes nothing.
-use Rattle.std.specs.Prelude.{Bool, true, false, not, ◌&&◌, List, [], ◌∷◌, ℕ, zero, suc, ◌+◌, ◌*◌, ◌≤◌, eqb, leb, ltb, get_or}
+use Rattle.std.specs.Prelude.{Bool, true, false, not, ◌&&◌, List, [], ◌∷◌, ℕ, zero, suc, ◌+◌, ◌*◌, ◌≤◌, eqb, leb, ltb, get_or, None}
+use Rattle.std.specs.Bool.{then_some}
+use Rattle.std.specs.Option.{option_or}
 use Rattle.lists.specs.Choice.{pick}
 use Rattle.acceptance.specs.Limits.{limit}
 use Rattle.qcir_tokens.specs.Tokens.{Token, is_outer, is_free, is_definition, is_bound, is_input, is_minus}
 use Rattle.qcir_table_sizes.specs.declared.Pass.{Pass}
-use Rattle.qcir_table_sizes.specs.declared.TableSizes.{TableSizes}
 
 -- The counts after n tokens: at most four nodes and one entry for each.
 pub record Small (n : ℕ) (s : Pass) : Type 0 where
@@ -23,15 +24,15 @@ is_earlier gate line = leb 1 gate && leb gate line
 
 -- Nothing is counted yet.
 abbrev pub start : Pass
-start = record { nodes = 0; entries = 0; excess = 0; line = 0; bound = 0; first = true }
+start = record { nodes = 0; entries = 0; excess = None; line = 0; bound = 0; first = true }
 
--- A block over the variables counted. Until the entries pass the limit, each block is the first at which they may do so.
+-- A block over the variables counted. If it is the first at which the entries pass the limit, it is kept.
 unfoldable pub block_added : Pass → Pass
 block_added s =
     record {
       nodes = s.nodes + 1;
       entries = s.entries + s.bound;
-      excess = pick (ltb limit s.entries) s.excess s.nodes;
+      excess = option_or s.excess (then_some (ltb limit (s.entries + s.bound)) s.nodes);
       line = s.line;
       bound = 0;
       first = s.first;
@@ -108,6 +109,3 @@ file_pass gates i [] = start
 file_pass gates i (t ∷ ts) =
     pick (is_outer t.role) (outer_step t.role (file_pass gates (suc i) ts))
     (output_added t.role (get_or gates t.name.number 0) (gates_pass gates (suc i) ts start))
-
-unfoldable pub sizes_of : Pass → TableSizes
-sizes_of s = record { nodes = s.nodes; entries = s.entries; excess = pick (ltb limit s.entries) s.excess s.nodes }

@@ -1,9 +1,7 @@
 // The sizes of the formula table of a QCIR file, without building it.
 #![tactic(auto)]
 
-ghost use Rattle.std.specs.Prelude.{true, false, List, ◌≡◌, ℕ, ◌+◌, ◌-◌, ◌<◌, ◌≤◌, ltb, length, get_or};
-ghost use Rattle.lists.specs.Choice.{pick};
-ghost use Rattle.lists.specs.Search.{lowest};
+ghost use Rattle.std.specs.Prelude.{true, false, List, ◌≡◌, ℕ, ◌-◌, ◌<◌, ◌≤◌, length, get_or};
 ghost use Rattle.formula.specs.Words.{node_count};
 ghost use Rattle.acceptance.specs.Limits.{limit};
 ghost use Rattle.acceptance.specs.Verdict.{too_many_variables};
@@ -11,6 +9,7 @@ ghost use Rattle.qcir.specs.File.{File};
 ghost use Rattle.qcir.specs.Table.{table_words, table_list};
 ghost use Rattle.qcir_tokens.specs.Tokens.{is_outer};
 ghost use Rattle.qcir_tokens.specs.Held.{tokens_from, HoldsNames, number_count, DefinitionsIn, token_limit};
+ghost use Rattle.qcir_table_sizes.specs.Excess.{lowest_below};
 ghost use Rattle.qcir_table_sizes.specs.Pass.{
   Room,
   Small,
@@ -25,26 +24,25 @@ ghost use Rattle.qcir_table_sizes.specs.Pass.{
   outer_step,
   outer_pass,
   file_pass,
-  sizes_of,
 };
 
-// How many nodes and list entries a table has, and its lowest block that brings the sum of counts over the limit, or
-// the number of nodes if there is none.
+// How many nodes and list entries a table has, and its lowest block that brings the sum of counts over the limit, if
+// there is one.
 #[derive(Clone, Copy)]
 pub struct TableSizes {
     pub nodes: u32,
     pub entries: u32,
-    pub excess: u32,
+    pub excess: Option<u32>,
 }
 
 // What a pass over the tokens has counted: nodes, list entries and, once these pass the limit, the first block at which
-// they do; before, the last block. Of the gate line that it stands in: the index of the definition, the variables of
-// its list, and whether no input has come yet.
+// they do. Of the gate line that it stands in: the index of the definition, the variables of its list, and whether no
+// input has come yet.
 #[derive(Clone, Copy)]
 pub struct Pass {
     pub nodes: u32,
     pub entries: u32,
-    pub excess: u32,
+    pub excess: Option<u32>,
     pub line: u32,
     pub bound: u32,
     pub first: bool,
@@ -59,12 +57,16 @@ pub fn table_sizes(roles: &[u8], numbers: &[u16], count: usize, gates: &[u16]) -
     ensures { (f : File) → HoldsNames roles.now numbers.now count f
         → (result.nodes ≡ node_count (table_words f))
         × (result.entries ≡ length (table_list f))
-        × (result.excess ≡ lowest (too_many_variables limit (table_words f)) (node_count (table_words f))) }
+        × (result.excess ≡ lowest_below (too_many_variables limit (table_words f)) (node_count (table_words f))) }
 {
     let end = outer_end(roles, count);
     let inner = inner_pass(roles, numbers, count, gates, end);
     let whole = outer_pass(roles, end, inner);
-    sizes_of(whole)
+    TableSizes {
+        nodes: whole.nodes,
+        entries: whole.entries,
+        excess: whole.excess,
+    }
 }
 
 // The index of the first token that is no entry of the free line or a prefix line.
@@ -73,14 +75,10 @@ fn outer_end(roles: &[u8], count: usize) -> usize
     ensures { (result ≤ count) × ((j : ℕ) → j < result → is_outer (get_or roles.now j 0) ≡ true)
         × (result < count → is_outer (get_or roles.now result 0) ≡ false) }
 {
-    let mut i = 0;
-    while i < count {
-        if !qcir_tokens::is_outer(roles[i]) {
-            return i;
-        }
-        i += 1;
-    }
-    count
+    roles[..count]
+        .iter()
+        .position(|role| !qcir_tokens::is_outer(*role))
+        .unwrap_or(count)
 }
 
 // The gates and then the output, which is token `end`.
@@ -117,7 +115,7 @@ fn start() -> Pass
     Pass {
         nodes: 0,
         entries: 0,
-        excess: 0,
+        excess: None,
         line: 0,
         bound: 0,
         first: true,
@@ -134,11 +132,9 @@ fn gates_pass(roles: &[u8], numbers: &[u16], count: usize, gates: &[u16], from: 
         (tokens_from roles.now numbers.now ps from (count - from)) start }
 {
     let mut s = start();
-    let mut i = from;
-    while i < count {
+    for i in from..count {
         let gate = gate_of(numbers, gates, i);
         s = add_token(roles[i], gate, i as u32, s);
-        i += 1;
     }
     s
 }
@@ -150,22 +146,16 @@ fn add_token(role: u8, gate: u16, i: u32, s: Pass) -> Pass
 {
     if qcir_tokens::is_definition(role) {
         return Pass {
-            nodes: s.nodes,
-            entries: s.entries,
-            excess: s.excess,
             line: i,
             bound: 0,
             first: true,
+            ..s
         };
     }
     if qcir_tokens::is_bound(role) {
         return Pass {
-            nodes: s.nodes,
-            entries: s.entries,
-            excess: s.excess,
-            line: s.line,
             bound: s.bound + 1,
-            first: s.first,
+            ..s
         };
     }
     if qcir_tokens::is_input(role) {
@@ -173,11 +163,7 @@ fn add_token(role: u8, gate: u16, i: u32, s: Pass) -> Pass
     }
     Pass {
         nodes: s.nodes + 1,
-        entries: s.entries,
-        excess: s.excess,
-        line: s.line,
-        bound: s.bound,
-        first: s.first,
+        ..s
     }
 }
 
@@ -199,59 +185,39 @@ fn add_operand(role: u8, gate: u16, s: Pass) -> Pass
     requires { Room 1000000 s }
     ensures { result ≡ operand_added role gate s }
 {
-    let variable = one_if(!is_earlier(gate, s.line));
-    let negation = one_if(qcir_tokens::is_minus(role));
-    let operator = one_if(!s.first);
+    let variable = u32::from(!is_earlier(gate, s.line));
+    let negation = u32::from(qcir_tokens::is_minus(role));
+    let operator = u32::from(!s.first);
     Pass {
         nodes: s.nodes + variable + negation + operator,
-        entries: s.entries,
-        excess: s.excess,
-        line: s.line,
-        bound: s.bound,
         first: false,
+        ..s
     }
 }
 
 // Whether the first definition stands before token `line`, where this line's stands.
+#[tactic(auto, unfolding(crate::specs::Pass::is_earlier))]
 fn is_earlier(gate: u16, line: u32) -> bool
     ensures { result ≡ is_earlier gate line }
 {
     (1 <= gate) & (gate as u32 <= line)
 }
 
-fn one_if(test: bool) -> u32
-    ensures { (result ≡ pick test 1 0) × (result ≤ 1) }
-{
-    if test {
-        return 1;
-    }
-    0
-}
-
 // A block over the variables counted.
+#[tactic(auto, unfolding(crate::specs::Pass::block_added))]
 fn add_block(s: Pass) -> Pass
     requires { Room 2000000 s }
     ensures { result ≡ block_added s }
 {
-    let excess = excess_or(s.entries, s.excess, s.nodes);
+    let entries = s.entries + s.bound;
+    let here = (acceptance::LIMIT < entries as usize).then_some(s.nodes);
     Pass {
         nodes: s.nodes + 1,
-        entries: s.entries + s.bound,
-        excess,
-        line: s.line,
+        entries,
+        excess: s.excess.or(here),
         bound: 0,
-        first: s.first,
+        ..s
     }
-}
-
-// The block at which the entries pass the limit; `other` where they do not.
-fn excess_or(entries: u32, excess: u32, other: u32) -> u32
-    ensures { result ≡ pick (ltb limit entries) excess other }
-{
-    if acceptance::LIMIT < entries as usize {
-        return excess;
-    }
-    other
 }
 
 // The output: a variable node unless it names a gate, and its not.
@@ -259,15 +225,12 @@ fn add_output(role: u8, gate: u16, s: Pass) -> Pass
     requires { Room 1000000 s }
     ensures { result ≡ output_added role gate s }
 {
-    let variable = one_if(gate == 0);
-    let negation = one_if(qcir_tokens::is_minus(role));
+    let variable = u32::from(gate == 0);
+    let negation = u32::from(qcir_tokens::is_minus(role));
     Pass {
         nodes: s.nodes + variable + negation,
-        entries: s.entries,
-        excess: s.excess,
-        line: s.line,
         bound: 0,
-        first: s.first,
+        ..s
     }
 }
 
@@ -277,9 +240,7 @@ fn outer_pass(roles: &[u8], end: usize, inner: Pass) -> Pass
     ensures { result ≡ outer_pass roles.now end inner }
 {
     let mut s = inner;
-    let mut i = end;
-    while 0 < i {
-        i -= 1;
+    for i in (0..end).rev() {
         s = add_outer(roles[i], s);
     }
     s
@@ -294,26 +255,11 @@ fn add_outer(role: u8, s: Pass) -> Pass
         return s;
     }
     let t = Pass {
-        nodes: s.nodes,
-        entries: s.entries,
-        excess: s.excess,
-        line: s.line,
         bound: s.bound + 1,
-        first: s.first,
+        ..s
     };
     if role <= 8 {
         return add_block(t);
     }
     t
-}
-
-fn sizes_of(s: Pass) -> TableSizes
-    ensures { result ≡ sizes_of s }
-{
-    let excess = excess_or(s.entries, s.excess, s.nodes);
-    TableSizes {
-        nodes: s.nodes,
-        entries: s.entries,
-        excess,
-    }
 }

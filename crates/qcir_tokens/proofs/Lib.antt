@@ -1,3 +1,4 @@
 pub mod Roles
 pub mod Tokens
 pub mod Files
+pub mod Lowest

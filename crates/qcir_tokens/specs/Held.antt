@@ -1,9 +1,8 @@
 -- Tokens held in three arrays: roles, numbers and positions; and what is found among them.
 -- Assumes nothing.
-use Rattle.std.specs.Prelude.{true, not, List, [], ◌∷◌, ◌≡◌, ℕ, zero, suc, ◌≤◌, eqb, length, get_or}
+use Rattle.std.specs.Prelude.{true, List, [], ◌∷◌, ◌≡◌, ℕ, zero, suc, ◌≤◌, min, length, get_or, Option, None, Some}
 use Rattle.qcir.specs.File.{File}
 use Rattle.qcir.specs.Refusals.{least}
-use Rattle.qcir_tokens.specs.declared.Found.{Found}
 use Rattle.qcir_tokens.specs.Tokens.{Token, file_tokens, definition, ascending}
 
 -- Token i of the arrays.
@@ -50,6 +49,12 @@ pub record Definitions (gates : List ℕ) (ts : List Token) : Type 0 where
 abbrev pub DefinitionsIn : List ℕ → List ℕ → ℕ → List ℕ → Type 0
 DefinitionsIn roles numbers count gates = (positions : List ℕ) → Definitions gates (tokens_from roles numbers positions 0 count)
 
--- Whether there are any numbers, and the lowest of them.
-unfoldable pub found_of : List ℕ → Found
-found_of xs = record { found = not (eqb (length xs) 0); lowest = least xs }
+-- The lowest of the numbers, if there are any.
+unfoldable pub found_of : List ℕ → Option ℕ
+found_of [] = None
+found_of (x ∷ xs) = Some (least (x ∷ xs))
+
+-- The lowest of those found and one number more.
+unfoldable pub with_number : Option ℕ → ℕ → Option ℕ
+with_number None x = Some x
+with_number (Some y) x = Some (min x y)

@@ -4,6 +4,7 @@
 
 ghost use Rattle.std.specs.Prelude.{◌≡◌};
 ghost use Rattle.qcir_tokens.specs.Tokens.{is_outer, is_free, is_output, is_definition, is_bound, is_input, is_use, is_minus, is_last};
+ghost use Rattle.qcir_tokens.specs.Held.{with_number};
 
 // At most half as many tokens as bytes are in a text.
 pub const TOKENS: usize = 32768;
@@ -24,14 +25,8 @@ pub const EXISTS_GATE: u8 = 16;
 
 pub const EMPTY: u8 = 24;
 
-// Whether there are any, and the lowest of them.
-#[derive(Clone, Copy)]
-pub struct Found {
-    pub found: bool,
-    pub lowest: u32,
-}
-
 // An entry of the free line or a prefix line.
+#[tactic(auto, unfolding(crate::specs::Tokens::is_outer))]
 pub fn is_outer(role: u8) -> bool
     ensures { result ≡ is_outer role }
 {
@@ -39,55 +34,73 @@ pub fn is_outer(role: u8) -> bool
 }
 
 // An entry of the free line.
+#[tactic(auto, unfolding(crate::specs::Tokens::is_free))]
 pub fn is_free(role: u8) -> bool
     ensures { result ≡ is_free role }
 {
     role <= 4
 }
 
+#[tactic(auto, unfolding(crate::specs::Tokens::is_output))]
 pub fn is_output(role: u8) -> bool
     ensures { result ≡ is_output role }
 {
-    (role == 11) | (role == 12)
+    matches!(role, 11 | 12)
 }
 
 // The name that a gate line defines.
+#[tactic(auto, unfolding(crate::specs::Tokens::is_definition))]
 pub fn is_definition(role: u8) -> bool
     ensures { result ≡ is_definition role }
 {
-    (13 <= role) & (role <= 17)
+    matches!(role, 13..=17)
 }
 
 // A variable that a gate quantifies.
+#[tactic(auto, unfolding(crate::specs::Tokens::is_bound))]
 pub fn is_bound(role: u8) -> bool
     ensures { result ≡ is_bound role }
 {
-    (role == 18) | (role == 19)
+    matches!(role, 18 | 19)
 }
 
+#[tactic(auto, unfolding(crate::specs::Tokens::is_input))]
 pub fn is_input(role: u8) -> bool
     ensures { result ≡ is_input role }
 {
-    (20 <= role) & (role <= 23)
+    matches!(role, 20..=23)
 }
 
 // An input or the output.
+#[tactic(auto, unfolding(crate::specs::Tokens::is_use, crate::specs::Tokens::is_input, crate::specs::Tokens::is_output))]
 pub fn is_use(role: u8) -> bool
     ensures { result ≡ is_use role }
 {
-    ((20 <= role) & (role <= 23)) | ((role == 11) | (role == 12))
+    is_input(role) || is_output(role)
 }
 
 // A minus sign stands before the output or input.
+#[tactic(auto, unfolding(crate::specs::Tokens::is_minus))]
 pub fn is_minus(role: u8) -> bool
     ensures { result ≡ is_minus role }
 {
-    (role == 12) | ((role == 21) | (role == 23))
+    matches!(role, 12 | 21 | 23)
 }
 
 // The last token of a gate line.
+#[tactic(auto, unfolding(crate::specs::Tokens::is_last))]
 pub fn is_last(role: u8) -> bool
     ensures { result ≡ is_last role }
 {
     22 <= role
+}
+
+// The lowest of the numbers found and one more.
+//
+// The contract rules out one by which the number found first stays.
+#[tactic(auto, unfolding(crate::specs::Held::with_number))]
+pub fn with_number(found: Option<u32>, number: u32) -> Option<u32>
+    ensures { result ≡ with_number found number }
+{
+    Some(found.map_or(number, |lowest| number.min(lowest)))
 }

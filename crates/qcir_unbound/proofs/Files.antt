@@ -7,15 +7,14 @@ use Prim.Native.Nat.{ℕ, zero, suc, ◌+◌, ◌*◌, ◌-◌, ◌≤◌, ◌<�
 use native.Mathlib.Omega.{arith}
 use lib.Dec.{eqb}
 use lib.ListN.{length, get_or, length-append}
-use borrow.Author.Tests.{ne_eqb}
+use Rattle.std.specs.Prelude.{None, Some}
 use Rattle.lists.specs.Choice.{pick, pick_yes, pick_no, Is, is_true, is_false, look, clash, and_off_left}
 use Rattle.lists.specs.Members.{mem}
 use Rattle.lists.proofs.Members.{mem_nil}
 use Rattle.qcir.specs.File.{Literal, Name, Gate, gate_name, gate_variables, gate_inputs, File, numbers_of, prefix_variables}
 use Rattle.qcir.specs.Refusals.{least, gate_names, outer_names, quantified_names, repeated, gates_listed, early_uses, misplaced, input_numbers, used_numbers, not_used_once, free_in_gates, unbound}
-use Rattle.qcir_tokens.specs.declared.Found.{Found}
 use Rattle.qcir_tokens.specs.Tokens.{Token, token, is_use, is_definition, output_token, output_role, free_tokens, prefix_tokens, inputs_tokens, any_inputs_tokens, gate_tokens, gates_tokens, file_tokens, definition_from, definition}
-use Rattle.qcir_tokens.specs.Held.{token_at, tokens_from, HoldsNames, Definitions, DefinitionsIn, found_of}
+use Rattle.qcir_tokens.specs.Held.{token_at, tokens_from, HoldsNames, Definitions, DefinitionsIn, found_of, with_number}
 use Rattle.qcir.proofs.Keep.{keep_cong}
 use Rattle.qcir_unbound.specs.declared.Walk.{Walk}
 use Rattle.qcir_unbound.specs.Outer.{outer_from, Outer, AllMarked}
@@ -29,22 +28,20 @@ use Rattle.qcir_unbound.proofs.Variables.{none_unbound}
 use Rattle.qcir_unbound.proofs.Marks.{outer_held, Uses, held_uses, of_cons, gates_used}
 
 -- What is noted is what is found.
-found_more : (xs : List ℕ) (w : Walk) → w.found ≡ true → ((noted_all xs w).found ≡ true) × ((noted_all xs w).lowest ≡ least (w.lowest ∷ xs))
-unfolding noted_all noted least
-found_more [] w e = (e, refl)
-found_more (x ∷ []) w e = (refl, pick_yes _ _ _ e)
-found_more (x ∷ y ∷ ys) w e =
-    let r = found_more (y ∷ ys) (noted x w) refl in
-    (r.0, omega (arith, r.1, pick_yes {A = ℕ} w.found (min w.lowest x) x e))
+least_two : (x y : ℕ) (xs : List ℕ) → least (min x y ∷ xs) ≡ least (y ∷ x ∷ xs)
+unfolding least
+least_two x y [] = omega arith
+least_two x y (z ∷ zs) = omega arith
 
-found_all : (xs : List ℕ) (w : Walk) → w.found ≡ false → w.lowest ≡ 0 → ◌≡◌ {A = Found} (record { found = (noted_all xs w).found; lowest = (noted_all xs w).lowest }) (found_of xs)
-unfolding noted_all noted found_of least
-found_all [] w e z = λ i. record { found = e i; lowest = z i }
-found_all (x ∷ xs) w e z =
-    let r = found_more xs (noted x w) refl in
-    let a : (noted_all xs (noted x w)).found ≡ not (eqb (suc (length xs)) 0) = r.0 ∙ sym (ap not (ne_eqb (suc (length xs)) 0 (λ q. omega arith))) in
-    let b : (noted_all xs (noted x w)).lowest ≡ least (x ∷ xs) = r.1 ∙ ap (λ y. least (y ∷ xs)) (pick_no _ _ _ e) in
-    λ i. record { found = a i; lowest = b i }
+found_more : (y : ℕ) (xs : List ℕ) (w : Walk) → w.lowest ≡ Some y → (noted_all xs w).lowest ≡ found_of (y ∷ xs)
+unfolding noted_all noted found_of least with_number
+found_more y [] w e = e
+found_more y (x ∷ xs) w e = found_more (min x y) xs (noted x w) (ap (λ l. with_number l x) e) ∙ ap Some (least_two x y xs)
+
+found_all : (xs : List ℕ) (w : Walk) → w.lowest ≡ None → (noted_all xs w).lowest ≡ found_of xs
+unfolding noted_all noted found_of least with_number
+found_all [] w e = e
+found_all (x ∷ xs) w e = found_more x xs (noted x w) (ap (λ l. with_number l x) e)
 
 module _ (roles numbers : List ℕ) where
   tokens_length : (ps : List ℕ) (p count : ℕ) → length (tokens_from roles numbers ps p count) ≡ count
@@ -213,11 +210,11 @@ module _ (t : Tokens) (f : File) (held : Held t 0 (file_tokens f)) where
         ∙ ap (λ zs. moved i true (noted_all zs w)) (keep_cong (λ z. not (m z)) (λ z. not (mem z (numbers_of (outer_names f)))) xs (λ z. ap not (outer z)))
 
     walk_found : (w : Walk) → w ≡ (run t (2 * length (file_tokens f)) (stand (first (length (outer_tokens f))) m c)).walk
-        → ◌≡◌ {A = Found} (record { found = w.found; lowest = w.lowest }) (found_of (unbound f))
+        → w.lowest ≡ found_of (unbound f)
     unfolding moved
     walk_found w e =
-        ap (λ u. record { found = u.found; lowest = u.lowest }) (e ∙ ends (first (length (outer_tokens f))) held_output)
-        ∙ found_all (unbound f) (first (length (outer_tokens f))) refl refl
+        ap (λ u. u.lowest) (e ∙ ends (first (length (outer_tokens f))) held_output)
+        ∙ found_all (unbound f) (first (length (outer_tokens f))) refl
 
 -- The same of the arrays.
 module _ (roles numbers : List ℕ) (count : ℕ) (gates : List ℕ) (f : File) (ps : List ℕ) (tokens : tokens_from roles numbers ps 0 count ≡ file_tokens f) where
@@ -261,7 +258,7 @@ module _ (roles numbers : List ℕ) (count : ℕ) (gates : List ℕ) (f : File) 
     pub unbound_found : DefinitionsIn roles numbers count gates
         → (w : Walk) → w ≡ (run (tokens_of roles numbers gates) (2 * count) (start output marks)).walk
         → misplaced f ≡ [] → not_used_once f ≡ []
-        → ◌≡◌ {A = Found} (record { found = w.found; lowest = w.lowest }) (found_of (unbound f))
+        → w.lowest ≡ found_of (unbound f)
     unfolding start tokens_of t
     unbound_found j w e placed once =
         walk_found t f held (gate_at j) placed once (λ x. get_or marks x false) (λ i. 0) marked_outer w
@@ -271,8 +268,8 @@ module _ (roles numbers : List ℕ) (count : ℕ) (gates : List ℕ) (f : File) 
 
     -- where every variable used is marked, none is unbound
     pub none_found : DefinitionsIn roles numbers count gates → AllMarked roles numbers gates marks output count → misplaced f ≡ []
-        → ◌≡◌ {A = Found} (record { found = false; lowest = 0 }) (found_of (unbound f))
-    unfolding t tokens_of output_token token found_of least used_numbers
+        → None ≡ found_of (unbound f)
+    unfolding t tokens_of output_token token found_of used_numbers
     none_found j a placed = ap found_of (sym (none_unbound f (gates_apart f placed).1 (λ x m n. sym (marked_outer x) ∙ used x m (no_gate x n))))
       where
         R : ℕ → Type 0

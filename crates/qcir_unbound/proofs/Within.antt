@@ -3,14 +3,14 @@
 use mathlib.Core.Path.{◌≡◌, refl, sym, ◌∙◌, ap, subst, fun_ext}
 use mathlib.Core.Bool.{Bool, true, false, not, ◌&&◌}
 use mathlib.Core.List.{List}
-use Prim.Native.Nat.{ℕ, zero, suc, ◌+◌, ◌-◌, ◌≤◌, ◌<◌, min}
+use Prim.Native.Nat.{ℕ, zero, suc, ◌+◌, ◌-◌, ◌≤◌, ◌<◌}
 use native.Mathlib.Numerals.{add-one}
 use native.Mathlib.Omega.{arith}
-use lib.Dec.{eqb, ltb}
+use lib.Dec.{eqb}
 use lib.ListN.{length, get_or, set, replicate}
 use mir.Val.{bool_byte}
-use borrow.Author.Tests.{eqb-true, eqb-false, eq-eqb, ne_eqb, ltb-true, ltb-false}
-use Rattle.lists.specs.Choice.{pick, pick_yes, pick_no, Is, is_true, is_false, look, clash, and_left, and_right}
+use borrow.Author.Tests.{eqb-true, eqb-false, eq-eqb, ne_eqb}
+use Rattle.lists.specs.Choice.{pick, pick_yes, pick_no, Is, is_true, is_false, look, clash}
 use Rattle.lists.proofs.Stores.{get_d_set, get_or-filled}
 use Rattle.qcir_tokens.specs.Tokens.{is_outer, is_output, is_use, is_bound, is_definition, is_last}
 use Rattle.qcir_tokens.specs.Held.{number_count, token_limit}
@@ -19,23 +19,10 @@ use Rattle.qcir_unbound.specs.declared.Token.{Token}
 use Rattle.qcir_unbound.specs.Steps.{Tokens, tokens_of, token_of, State, state_of, first, start, put, flag, walked, is_end, is_above, moved, past, judged, bound, used, onward, freed, back, step_at, ended, step, run, Within, StepFits, BackFits}
 use Rattle.qcir_unbound.proofs.Run.{state_same, run_still}
 
--- the lower of two numbers, where the first counts
-pub lower_first : (t : Bool) (a x : ℕ) → (t && ltb a x) ≡ true → a ≡ pick t (min a x) x
-lower_first t a x e =
-    let l = ltb-true a x (and_right t (ltb a x) e) in
-    omega (arith, pick_yes {A = ℕ} t (min a x) x (and_left t (ltb a x) e))
-
-pub lower_second : (t : Bool) (a x : ℕ) → (t && ltb a x) ≡ false → x ≡ pick t (min a x) x
-unfolding pick
-lower_second true a x e = let l = ltb-false a x e in omega arith
-lower_second false a x e = refl
-
 -- where a run ends, seen a step later
-pub run_less : (t : Tokens) (n : ℕ) (s u z : State) → 0 < n → u ≡ step t s → run t n s ≡ z → run t (n - 1) u ≡ z
+pub run_less : (t : Tokens) (n k : ℕ) (s u z : State) → n ≡ suc k → u ≡ step t s → run t n s ≡ z → run t k u ≡ z
 unfolding run
-run_less t zero s u z l e r = absurd (omega arith)
-run_less t (suc n) s u z l e r =
-    let d : suc n - 1 ≡ n = omega arith in ap (λ k. run t k u) d ∙ ap (run t n) e ∙ r
+run_less t n k s u z l e r = ap (run t k) e ∙ sym (ap (λ m. run t m s) l) ∙ r
 
 pub run_none : (t : Tokens) (n : ℕ) (s z : State) → n ≤ 0 → run t n s ≡ z → s ≡ z
 unfolding run

@@ -1,10 +1,10 @@
 -- The walk through a file's tokens, from the output through the gates: at a use of a gate it enters the gate's line, and past the
 -- line's last token it goes back through the line and returns to the use.
 -- Assumes nothing.
-use Rattle.std.specs.Prelude.{Bool, true, false, not, ◌&&◌, ◌||◌, List, ◌≡◌, ℕ, zero, suc, ◌-◌, ◌≤◌, ◌<◌, min, eqb, length, get_or}
+use Rattle.std.specs.Prelude.{Bool, true, false, not, ◌&&◌, ◌||◌, List, ◌≡◌, ℕ, zero, suc, ◌-◌, ◌≤◌, ◌<◌, eqb, length, get_or, None}
 use Rattle.lists.specs.Choice.{pick}
 use Rattle.qcir_tokens.specs.Tokens.{is_outer, is_output, is_definition, is_bound, is_use, is_last}
-use Rattle.qcir_tokens.specs.Held.{number_count, token_limit}
+use Rattle.qcir_tokens.specs.Held.{number_count, token_limit, with_number}
 use Rattle.qcir_unbound.specs.declared.Walk.{Walk}
 use Rattle.qcir_unbound.specs.declared.Token.{Token}
 
@@ -32,7 +32,7 @@ unfoldable pub state_of : Walk → List Bool → List ℕ → State
 state_of w marks kept = record { walk = w; marks = λ x. get_or marks x false; kept = λ i. get_or kept i 0 }
 
 abbrev pub first : ℕ → Walk
-first output = record { at = output; leaving = false; found = false; lowest = 0 }
+first output = record { at = output; leaving = false; lowest = None }
 
 -- The walk starts at the output.
 unfoldable pub start : ℕ → List Bool → State
@@ -60,7 +60,7 @@ unfoldable pub is_above : ℕ → Bool
 is_above r = is_outer r || is_output r
 
 unfoldable pub moved : ℕ → Bool → Walk → Walk
-moved i leaving w = record { at = i; leaving = leaving; found = w.found; lowest = w.lowest }
+moved i leaving w = record { at = i; leaving = leaving; lowest = w.lowest }
 
 -- Token i, of role r, is done.
 unfoldable pub past : ℕ → ℕ → Walk → Walk
@@ -68,7 +68,7 @@ past r i w = pick (is_end r) (moved i true w) (moved (suc i) false w)
 
 -- The number x is unbound.
 unfoldable pub noted : ℕ → Walk → Walk
-noted x w = record { at = w.at; leaving = w.leaving; found = true; lowest = pick w.found (min w.lowest x) x }
+noted x w = record { at = w.at; leaving = w.leaving; lowest = with_number w.lowest x }
 
 -- The variable x is used where it is bound or is not.
 unfoldable pub judged : Bool → ℕ → Walk → Walk

@@ -8,8 +8,7 @@
 // a gate line is come by twice: the walk ends within two steps a token.
 #![tactic(auto)]
 
-ghost use Rattle.std.specs.Prelude.{true, false, not, ◌&&◌, [], ◌≡◌, ℕ, ◌*◌, ◌≤◌, ◌<◌, min, eqb, length, get_or};
-ghost use Rattle.lists.specs.Choice.{pick};
+ghost use Rattle.std.specs.Prelude.{true, false, not, ◌&&◌, [], ◌≡◌, ℕ, ◌*◌, ◌≤◌, ◌<◌, eqb, length, get_or};
 ghost use Rattle.qcir.specs.File.{File};
 ghost use Rattle.qcir.specs.Refusals.{misplaced, not_used_once, unbound};
 ghost use Rattle.qcir_tokens.specs.Tokens.{is_use};
@@ -17,19 +16,19 @@ ghost use Rattle.qcir_tokens.specs.Held.{HoldsNames, DefinitionsIn, number_count
 ghost use Rattle.qcir_unbound.specs.Outer.{Outer, AllMarked};
 ghost use Rattle.qcir_unbound.specs.Steps.{tokens_of, token_of, state_of, start, is_end, is_above, moved, past, noted, judged, onward, back, step_at, run, Within, StepFits, BackFits};
 
-use qcir_tokens::{Found, NUMBERS, TOKENS};
+use qcir_tokens::{NUMBERS, TOKENS};
 
-// The token at which the walk stands, on its way onward or back through a gate line; whether an unbound variable was found,
-// and the lowest.
+// The token at which the walk stands, on its way onward or back through a gate line; and the lowest unbound variable that was
+// found, if any was.
 #[derive(Clone, Copy)]
 pub struct Walk {
     pub at: usize,
     pub leaving: bool,
-    pub found: bool,
-    pub lowest: u32,
+    pub lowest: Option<u32>,
 }
 
-// A token's role and number, and one more than the token that defines the number first: 0 where none does.
+// A token's role and number, and one more than the token that defines the number first: 0 where none does, as the array
+// of the definitions has it.
 #[derive(Clone, Copy)]
 pub struct Token {
     pub role: u8,
@@ -37,10 +36,10 @@ pub struct Token {
     pub gate: u16,
 }
 
-// Whether a file that refusals 11 and 13 leave has an unbound variable, and the lowest.
+// The lowest unbound variable, if there is one, of a file that refusals 11 and 13 leave.
 //
 // The contract rules out a walk that takes a name as bound once some gate has bound it, and one that stops early.
-pub fn lowest_unbound(roles: &[u8], numbers: &[u16], count: usize, gates: &[u16]) -> Found
+pub fn lowest_unbound(roles: &[u8], numbers: &[u16], count: usize, gates: &[u16]) -> Option<u32>
     requires holds_names { (f : File) × HoldsNames roles.now numbers.now count f }
     requires definitions_in { DefinitionsIn roles.now numbers.now count gates.now }
     ensures { (f : File) → HoldsNames roles.now numbers.now count f
@@ -49,16 +48,10 @@ pub fn lowest_unbound(roles: &[u8], numbers: &[u16], count: usize, gates: &[u16]
     let mut marks = [false; NUMBERS];
     let output = mark_outer(roles, numbers, count, &mut marks);
     if all_marked(roles, numbers, output, count, gates, &marks) {
-        return Found {
-            found: false,
-            lowest: 0,
-        };
+        return None;
     }
     let walk = walk_tokens(roles, numbers, count, gates, output, &mut marks);
-    Found {
-        found: walk.found,
-        lowest: walk.lowest,
-    }
+    walk.lowest
 }
 
 // Marks the numbers that the free and prefix lines name. The result is the output's token, the first after theirs.
@@ -68,15 +61,13 @@ fn mark_outer(roles: &[u8], numbers: &[u16], count: usize, marks: &mut [bool]) -
     requires by_index { (x : ℕ) → get_or marks.old x false ≡ false }
     ensures { Outer roles.now numbers.now count result marks.new }
 {
-    let mut i: usize = 0;
-    while i < count {
+    for i in 0..count {
         if !qcir_tokens::is_outer(roles[i]) {
             return i;
         }
         marks[numbers[i] as usize] = true;
-        i += 1;
     }
-    i
+    count
 }
 
 // Whether every variable used at a token from `first` on is marked.
@@ -93,13 +84,11 @@ fn all_marked(
     ensures { result ≡ true → AllMarked roles.now numbers.now
         gates.now marks.now first count }
 {
-    let mut i = first;
-    while i < count {
+    for i in first..count {
         let x = numbers[i] as usize;
         if is_unmarked(roles[i], gates[x], marks[x]) {
             return false;
         }
-        i += 1;
     }
     true
 }
@@ -130,16 +119,13 @@ fn walk_tokens(
     let mut walk = Walk {
         at: output,
         leaving: false,
-        found: false,
-        lowest: 0,
+        lowest: None,
     };
-    let mut left = 2 * count;
-    while 0 < left {
+    for _ in 0..2 * count {
         let token = token_at(roles, numbers, gates, walk.at);
         if walk.leaving & is_above(token.role) {
             return walk;
         }
-        left -= 1;
         walk = take_step(roles, token, marks, &mut kept, walk);
     }
     walk
@@ -218,6 +204,7 @@ fn go_back(roles: &[u8], token: Token, marks: &mut [bool], kept: &mut [u16], wal
 }
 
 // Not of a gate line.
+#[tactic(auto, unfolding(crate::specs::Steps::is_above))]
 fn is_above(role: u8) -> bool
     ensures { result ≡ is_above role }
 {
@@ -225,6 +212,7 @@ fn is_above(role: u8) -> bool
 }
 
 // The last token of a gate line, or the output.
+#[tactic(auto, unfolding(crate::specs::Steps::is_end))]
 fn is_end(role: u8) -> bool
     ensures { result ≡ is_end role }
 {
@@ -242,14 +230,14 @@ fn pass(role: u8, i: usize, walk: Walk) -> Walk
     move_to(i + 1, false, walk)
 }
 
+#[tactic(auto, unfolding(crate::specs::Steps::moved))]
 fn move_to(at: usize, leaving: bool, walk: Walk) -> Walk
     ensures { result ≡ moved at leaving walk }
 {
     Walk {
         at,
         leaving,
-        found: walk.found,
-        lowest: walk.lowest,
+        ..walk
     }
 }
 
@@ -264,23 +252,12 @@ fn judge(bound: bool, x: u16, walk: Walk) -> Walk
 }
 
 // The walk with one more unbound variable.
+#[tactic(auto, unfolding(crate::specs::Steps::noted))]
 fn note(x: u32, walk: Walk) -> Walk
     ensures { result ≡ noted x walk }
 {
     Walk {
-        at: walk.at,
-        leaving: walk.leaving,
-        found: true,
-        lowest: lower(walk.found, walk.lowest, x),
+        lowest: qcir_tokens::with_number(walk.lowest, x),
+        ..walk
     }
-}
-
-// The lower of x and, where there is one, the lowest before.
-fn lower(found: bool, lowest: u32, x: u32) -> u32
-    ensures { result ≡ pick found (min lowest x) x }
-{
-    if found & (lowest < x) {
-        return lowest;
-    }
-    x
 }

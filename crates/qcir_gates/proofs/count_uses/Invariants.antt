@@ -1,11 +1,7 @@
 -- `qcir_gates::count_uses` meets its contract. The invariant: the uses from token i on are counted.
 -- Assumes nothing.
-use Prim.Native.Nat.{◌≤◌}
 use Rattle.qcir_gates.proofs.Passes.{Counted}
 use Rattle.qcir_gates.proofs.count_uses.Given as goal
 
 abbrev pub invariant-loop-i : goal.invariant-loop-i
-invariant-loop-i l = (l.i ≤ l.count) × Counted l.roles l.numbers l.count l.uses l.i
-
-abbrev pub decreases-loop-i : goal.decreases-loop-i
-decreases-loop-i l = l.i
+invariant-loop-i l = Counted l.roles l.numbers l.count l.uses l.i

@@ -7,15 +7,15 @@ use Rattle.qcir_gates.proofs.lowest_not_once.Goals as goal
 pub loop-i-init : goal.loop-i-init
 loop-i-init c =
     let a = c.args in
-    (omega arith, misused_none a.roles.now a.numbers.now a.count a.uses.now)
+    misused_none a.roles.now a.numbers.now a.count a.uses.now
 
 pub loop-i-preserved : goal.loop-i-preserved
 loop-i-preserved c =
     let a = c.args in
-    (omega arith, misused_more a.roles.now a.numbers.now a.count a.uses.now c.loop-i.lowest _ c.loop-i.i (omega arith) (omega arith) c.loop-i.invariant.1 c.with_token-lowest.ensures)
+    misused_more a.roles.now a.numbers.now a.count a.uses.now c.loop-i.lowest _ c.loop-i.i (omega arith) (omega arith) c.loop-i.invariant c.with_token-lowest.ensures
 
 pub returns : goal.returns
 returns c =
     λ ps. let l = c.loop-i in
     let a = c.args in
-    misused_all a.roles.now a.numbers.now a.count a.uses.now l.lowest l.i (omega arith) l.invariant.1 ps
+    misused_all a.roles.now a.numbers.now a.count a.uses.now l.lowest l.i (omega arith) l.invariant ps

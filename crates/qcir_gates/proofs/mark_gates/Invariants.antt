@@ -1,11 +1,7 @@
 -- `qcir_gates::mark_gates` meets its contract. The invariant: the first definitions from token i on are marked.
 -- Assumes nothing.
-use Prim.Native.Nat.{◌≤◌}
 use Rattle.qcir_gates.proofs.Passes.{Marked}
 use Rattle.qcir_gates.proofs.mark_gates.Given as goal
 
 abbrev pub invariant-loop-i : goal.invariant-loop-i
-invariant-loop-i l = (l.i ≤ l.count) × Marked l.roles l.numbers l.count l.gates l.i
-
-abbrev pub decreases-loop-i : goal.decreases-loop-i
-decreases-loop-i l = l.i
+invariant-loop-i l = Marked l.roles l.numbers l.count l.gates l.i

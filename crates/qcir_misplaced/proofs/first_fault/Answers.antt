@@ -9,7 +9,7 @@ use Rattle.qcir_misplaced.proofs.Turn.{line_below, From, from_start, found_here,
 use Rattle.qcir_misplaced.proofs.first_fault.Goals as goal
 
 pub loop-i-init : goal.loop-i-init
-loop-i-init c = (omega arith, omega arith, c.requires.gates_len.1, from_start c.args.gates.now c.args.roles.now c.args.numbers.now c.args.positions.now c.args.count c.args.lists.now)
+loop-i-init c = (omega arith, c.requires.gates_len.1, from_start c.args.gates.now c.args.roles.now c.args.numbers.now c.args.positions.now c.args.count c.args.lists.now)
 
 pub overflow_cast-x : goal.overflow_cast-x
 overflow_cast-x c = omega (arith, c.type_inv.numbers c.loop-i.i)
@@ -35,7 +35,7 @@ overflow_cast-result c = omega (arith, c.type_inv.positions c.loop-i.i)
 pub returns-then-is_fault : goal.returns-then-is_fault
 returns-then-is_fault c =
     let a = c.args in
-    sym (ap first_of c.loop-i.invariant.3
+    sym (ap first_of c.loop-i.invariant.2
     ∙ found_here a.gates.now a.roles.now a.numbers.now a.positions.now a.count c.loop-i.lists c.loop-i.line c.loop-i.i c.loop-i-test.true
     (sym c.is_fault.ensures ∙ c.if-is_fault.true))
 
@@ -53,14 +53,13 @@ loop-i-preserved c =
     let next =
     found_later a.gates.now a.roles.now a.numbers.now a.positions.now a.count c.loop-i.lists c.pass-line.new.lists c.loop-i.line c.loop-i.i c.loop-i-test.true
     (sym c.is_fault.ensures ∙ c.if-is_fault.false) c.pass-line.ensures.by_index in (
-      omega arith,
-      omega (arith, line_below (get_or a.roles.now c.loop-i.i 0) c.loop-i.line c.loop-i.i c.loop-i.invariant.1),
-      c.pass-line.auto.lists ∙ c.loop-i.invariant.2,
-      c.loop-i.invariant.3 ∙ next ∙ ap (λ l. From a.gates.now a.roles.now a.numbers.now a.positions.now a.count c.pass-line.new.lists l (c.loop-i.i + 1)) (sym r),
+      omega (arith, line_below (get_or a.roles.now c.loop-i.i 0) c.loop-i.line c.loop-i.i c.loop-i.invariant.0),
+      c.pass-line.auto.lists ∙ c.loop-i.invariant.1,
+      c.loop-i.invariant.2 ∙ next ∙ ap (λ l. From a.gates.now a.roles.now a.numbers.now a.positions.now a.count c.pass-line.new.lists l (c.loop-i.i + 1)) (sym r),
     )
 
 pub returns : goal.returns
 returns c =
     let a = c.args in
-    sym (ap first_of c.loop-i.invariant.3
+    sym (ap first_of c.loop-i.invariant.2
     ∙ found_none a.gates.now a.roles.now a.numbers.now a.positions.now a.count c.loop-i.lists c.loop-i.line c.loop-i.i (omega arith))

@@ -1,15 +1,12 @@
 -- `qcir_misplaced::first_fault` meets its contract. The invariant: no token passed is at fault, and the pass over all tokens goes on from here.
 -- Assumes nothing.
 use mathlib.Core.Path.{◌≡◌}
-use Prim.Native.Nat.{◌-◌, ◌≤◌}
+use Prim.Native.Nat.{◌≤◌}
 use lib.ListN.{length}
 use Rattle.qcir_tokens.specs.Held.{number_count}
 use Rattle.qcir_misplaced.proofs.Turn.{From, All}
 use Rattle.qcir_misplaced.proofs.first_fault.Given as goal
 
 abbrev pub invariant-loop-i : goal.invariant-loop-i
-invariant-loop-i l = (l.i ≤ l.count) × (l.line ≤ l.i) × (length l.lists ≡ number_count)
+invariant-loop-i l = (l.line ≤ l.i) × (length l.lists ≡ number_count)
     × (All l.gates l.roles l.numbers l.positions l.count l.initial.lists ≡ From l.gates l.roles l.numbers l.positions l.count l.lists l.line l.i)
-
-abbrev pub decreases-loop-i : goal.decreases-loop-i
-decreases-loop-i l = l.count - l.i

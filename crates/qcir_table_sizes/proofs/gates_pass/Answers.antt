@@ -11,24 +11,24 @@ use Rattle.qcir_table_sizes.proofs.gates_pass.Goals as goal
 pub loop-i-init : goal.loop-i-init
 loop-i-init c =
     let a = c.args in
-    (omega arith, rw c.start-s.ensures (left_start a.roles.now a.numbers.now a.count a.gates.now a.from))
+    rw c.start-s.ensures (left_start a.roles.now a.numbers.now a.count a.gates.now a.from)
 
 pub add_token-s-requires : goal.add_token-s-requires
 add_token-s-requires c =
     let l = c.loop-i in
-    small_room _ _ (omega arith) l.invariant.1.small
+    small_room _ _ (omega arith) l.invariant.small
 
 pub loop-i-preserved : goal.loop-i-preserved
 loop-i-preserved c =
     let l = c.loop-i in
     let a = c.args in
-    (omega arith, rw (c.add_token-s.ensures ∙ ap (λ (gate : ℕ). gate_step (get_or a.roles.now l.i 0) gate l.i l.s) c.gate_of-gate.ensures) (left_more a.roles.now a.numbers.now a.count a.gates.now a.from l.i l.s (omega arith) l.invariant.1))
+    rw (c.add_token-s.ensures ∙ ap (λ (gate : ℕ). gate_step (get_or a.roles.now l.i 0) gate l.i l.s) c.gate_of-gate.ensures) (left_more a.roles.now a.numbers.now a.count a.gates.now a.from l.i l.s (omega arith) l.invariant)
 
 pub returns : goal.returns
 returns c =
     let l = c.loop-i in
     let a = c.args in
     let e : l.i ≡ a.count = omega arith in record {
-      small = rw e at l.invariant.1.small;
-      by_index = left_none a.roles.now a.numbers.now a.count a.gates.now a.from l.i l.s (omega arith) l.invariant.1;
+      small = rw e at l.invariant.small;
+      by_index = left_none a.roles.now a.numbers.now a.count a.gates.now a.from l.i l.s (omega arith) l.invariant;
     }

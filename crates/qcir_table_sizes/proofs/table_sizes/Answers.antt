@@ -5,7 +5,7 @@ use mathlib.Core.Path.{◌∙◌, ap, subst}
 use native.Mathlib.Omega.{arith}
 use Rattle.qcir_tokens.specs.Held.{Definitions}
 use Rattle.qcir_tokens.specs.Tokens.{Token}
-use Rattle.qcir_table_sizes.specs.Pass.{outer_pass, file_pass, sizes_of}
+use Rattle.qcir_table_sizes.specs.Pass.{outer_pass, file_pass}
 use Rattle.qcir_table_sizes.proofs.Files.{sizes-of_file}
 use Rattle.qcir_table_sizes.proofs.Passes.{outer_whole}
 use Rattle.qcir_table_sizes.proofs.table_sizes.Goals as goal
@@ -27,4 +27,4 @@ pub returns : goal.returns
 returns c f (ps, h) =
     let a = c.args in
     let end = c.outer_end-end in
-    sizes-of_file f a.gates.now (subst (λ (ts : List Token). Definitions a.gates.now ts) h.tokens (c.requires.definitions_in ps)) _ (c.sizes_of.ensures ∙ ap sizes_of (c.outer_pass-whole.ensures ∙ ap (outer_pass a.roles.now end.result) (c.inner_pass-inner.ensures.by_index ps) ∙ outer_whole a.roles.now a.numbers.now a.count a.gates.now ps end.result end.result end.ensures.0 end.ensures.1 (omega arith) ∙ ap (file_pass a.gates.now 0) h.tokens))
+    sizes-of_file f a.gates.now (subst (λ (ts : List Token). Definitions a.gates.now ts) h.tokens (c.requires.definitions_in ps)) _ (c.outer_pass-whole.ensures ∙ ap (outer_pass a.roles.now end.result) (c.inner_pass-inner.ensures.by_index ps) ∙ outer_whole a.roles.now a.numbers.now a.count a.gates.now ps end.result end.result end.ensures.0 end.ensures.1 (omega arith) ∙ ap (file_pass a.gates.now 0) h.tokens)

@@ -1,11 +1,7 @@
 -- `qcir_unbound::all_marked` meets its contract. The invariant: every variable used before token i is marked.
 -- Assumes nothing.
-use Prim.Native.Nat.{◌-◌}
 use Rattle.qcir_unbound.specs.Outer.{AllMarked}
 use Rattle.qcir_unbound.proofs.all_marked.Given as goal
 
 abbrev pub invariant-loop-i : goal.invariant-loop-i
 invariant-loop-i l = AllMarked l.roles l.numbers l.gates l.marks l.first l.i
-
-abbrev pub decreases-loop-i : goal.decreases-loop-i
-decreases-loop-i l = l.count - l.i

@@ -1,6 +1,6 @@
 -- `qcir_unbound::mark_outer` meets its contract. The invariant: the entries before token i are marked.
 -- Assumes nothing.
-use mathlib.Core.Path.{sym, ◌∙◌}
+use mathlib.Core.Path.{◌≡◌, sym, ◌∙◌}
 use native.Mathlib.Omega.{arith}
 use Rattle.qcir_unbound.proofs.Marks.{outer_stop, outer_end, marking_start, marking_next, marking_done}
 use Rattle.qcir_unbound.proofs.mark_outer.Goals as goal
@@ -8,7 +8,7 @@ use Rattle.qcir_unbound.proofs.mark_outer.Goals as goal
 pub loop-i-init : goal.loop-i-init
 loop-i-init c =
     let a = c.args in
-    (omega arith, marking_start a.roles.now a.numbers.now a.count a.marks.now c.requires.marks_len c.requires.by_index)
+    marking_start a.roles.now a.numbers.now a.count a.marks.now c.requires.marks_len c.requires.by_index
 
 pub returns-then-not-is_outer : goal.returns-then-not-is_outer
 returns-then-not-is_outer c =
@@ -16,7 +16,7 @@ returns-then-not-is_outer c =
     let l = c.loop-i in
     marking_done a.roles.now a.numbers.now a.count l.marks l.i
     (outer_stop a.roles.now a.numbers.now a.count l.i c.loop-i-test.true (sym c.is_outer.ensures ∙ c.if-not-is_outer.true))
-    l.invariant.1
+    l.invariant
 
 pub overflow_cast-marks : goal.overflow_cast-marks
 overflow_cast-marks c = omega (arith, c.type_inv.numbers c.loop-i.i)
@@ -24,20 +24,19 @@ overflow_cast-marks c = omega (arith, c.type_inv.numbers c.loop-i.i)
 pub bounds-marks-numbers : goal.bounds-marks-numbers
 bounds-marks-numbers c =
     let l = c.loop-i in
-    omega (arith, c.type_inv.numbers l.i, l.invariant.1.wide)
+    omega (arith, c.type_inv.numbers l.i, l.invariant.wide)
 
 pub loop-i-preserved : goal.loop-i-preserved
 loop-i-preserved c =
     let a = c.args in
-    let l = c.loop-i in (
-      omega arith,
-      marking_next a.roles.now a.numbers.now a.count l.marks l.i c.loop-i-test.true (omega (arith, c.type_inv.numbers l.i)) (sym c.is_outer.ensures ∙ c.if-not-is_outer.false) l.invariant.1,
-    )
+    let l = c.loop-i in
+    marking_next a.roles.now a.numbers.now a.count l.marks l.i c.loop-i-test.true (omega (arith, c.type_inv.numbers l.i)) (sym c.is_outer.ensures ∙ c.if-not-is_outer.false) l.invariant
 
 pub returns : goal.returns
 returns c =
     let a = c.args in
     let l = c.loop-i in
-    marking_done a.roles.now a.numbers.now a.count l.marks l.i
+    let all : l.i ≡ a.count = omega arith in
+    rw all at (marking_done a.roles.now a.numbers.now a.count l.marks l.i
     (outer_end a.roles.now a.numbers.now a.count l.i c.loop-i-test.false)
-    l.invariant.1
+    l.invariant)

@@ -1,19 +1,16 @@
--- `qcir_unbound::walk_tokens` meets its contract. The invariant: the steps left lead to where the whole walk ends. The measure is their number.
+-- `qcir_unbound::walk_tokens` meets its contract. The invariant: the steps left lead to where the whole walk ends.
 -- Back above the gates, no step changes anything.
 -- Assumes nothing.
 use mathlib.Core.Path.{◌≡◌}
-use Prim.Native.Nat.{◌*◌}
+use Prim.Native.Nat.{◌*◌, ◌-◌}
 use lib.ListN.{length}
 use Rattle.qcir_tokens.specs.Held.{number_count, token_limit}
 use Rattle.qcir_unbound.specs.Steps.{tokens_of, state_of, start, run}
 use Rattle.qcir_unbound.proofs.Within.{Low}
 use Rattle.qcir_unbound.proofs.walk_tokens.Given as goal
 
-abbrev pub invariant-loop-left : goal.invariant-loop-left
-invariant-loop-left l = Low l.count (state_of l.walk l.marks l.kept)
+abbrev pub invariant-loop : goal.invariant-loop
+invariant-loop l = Low l.count (state_of l.walk l.marks l.kept)
     × (length l.marks ≡ number_count)
     × (length l.kept ≡ token_limit)
-    × (run (tokens_of l.roles l.numbers l.gates) l.left (state_of l.walk l.marks l.kept) ≡ run (tokens_of l.roles l.numbers l.gates) (2 * l.count) (start l.output l.initial.marks))
-
-abbrev pub decreases-loop-left : goal.decreases-loop-left
-decreases-loop-left l = l.left
+    × (run (tokens_of l.roles l.numbers l.gates) (2 * l.count - l.counter) (state_of l.walk l.marks l.kept) ≡ run (tokens_of l.roles l.numbers l.gates) (2 * l.count) (start l.output l.initial.marks))
