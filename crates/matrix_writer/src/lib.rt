@@ -71,10 +71,8 @@ fn write_entries(nodes: &mut [u32], s: u32, count: u32, x: u32, y: u32) -> u32
     ensures value { result ≡ s + (4 * count - 1) }
 {
     let mut next = s;
-    let mut k = 0;
-    while k < count {
+    for k in 0..count {
         next = write_entry(nodes, next, k, x + k, y + k);
-        k += 1;
     }
     next
 }
@@ -299,8 +297,7 @@ pub fn write_levels(
     let root = node_at(words, words.len() / WIDTH - 1);
     let mut kind = root.kind;
     let mut next = first as u32;
-    let mut j = 0;
-    while j < deepest {
+    for j in 0..deepest {
         next = write_level(
             words,
             list,
@@ -316,6 +313,5 @@ pub fn write_levels(
             next,
         );
         kind = prenex_form::dual_kind(kind);
-        j += 1;
     }
 }

@@ -56,8 +56,7 @@ pub fn write_prefix(
     }
     let mut kind = first_kind(words, list);
     let mut at: usize = 0;
-    let mut j: usize = 0;
-    while j <= level_count {
+    for j in 0..=level_count {
         at = write_block(
             words,
             list,
@@ -74,7 +73,6 @@ pub fn write_prefix(
             at,
         );
         kind = prenex_form::dual_kind(kind);
-        j += 1;
     }
 }
 
@@ -351,9 +349,7 @@ fn write_numbers(out: &mut [u32], first: u32, count: usize)
     requires { (first + count < 4294967296) × (count ≤ length out.old) }
     ensures { out.new ≡ overwrite out.old 0 (numbers first count) }
 {
-    let mut k: usize = 0;
-    while k < count {
+    for k in 0..count {
         out[k] = first + k as u32;
-        k += 1;
     }
 }
