@@ -10,11 +10,11 @@ pub returns : goal.returns
 returns c =
     levelled_all c.loop-j.invariant (omega (arith, c.loop-j-test.false, c.requires.deepest_value))
 
-pub overflow_sub-words : goal.overflow_sub-words
-overflow_sub-words c = omega (arith, table_whole _ _ c.requires.block_arrays.starts_held.checked)
+pub overflow_sub-blocks : goal.overflow_sub-blocks
+overflow_sub-blocks c = omega (arith, table_whole _ _ c.args.blocks.now.started.checked)
 
 pub node_at-root-requires : goal.node_at-root-requires
-node_at-root-requires c = omega (arith, table_whole _ _ c.requires.block_arrays.starts_held.checked)
+node_at-root-requires c = omega (arith, table_whole _ _ c.args.blocks.now.started.checked)
 
 pub loop-j-init : goal.loop-j-init
 loop-j-init c = levelled_none _ _ _ c.requires.first_value (root_quantifier _ _ c.node_at-root.ensures)
@@ -22,10 +22,8 @@ loop-j-init c = levelled_none _ _ _ c.requires.first_value (root_quantifier _ _ 
 pub write_level-next-requires : goal.write_level-next-requires
 write_level-next-requires c =
     let d = c.loop-j.invariant in record {
-      block_arrays = c.requires.block_arrays;
-      chained = c.requires.chained;
       level_kind = record { below = omega (arith, c.loop-j-test.true, c.requires); quantifier_is = d.quantifier_is };
-      at_nonzero = omega (arith, kept_positive_of _ _ c.requires.block_arrays.starts_held.checked, d.wrote_added.next_is);
+      at_nonzero = omega (arith, kept_positive_of _ _ c.args.blocks.now.started.checked, d.wrote_added.next_is);
       room = level_room d _ _ c.requires.first_value c.requires.room c.loop-j-test.true;
     }
 
