@@ -1,12 +1,13 @@
 -- The blocks of a level, in the order in which its chain names them.
 -- Assumes nothing.
-use mathlib.Core.Path.{◌≡◌, refl, sym, ◌∙◌, ap, subst}
+use mathlib.Core.Path.{◌≡◌, refl, sym, ◌∙◌, ap}
 use mathlib.Core.Bool.{Bool, true, false}
 use mathlib.Core.List.{List, [], ◌∷◌, ◌++◌, append_assoc, append-nil}
 use Prim.Native.Nat.{ℕ, zero, suc, ◌+◌, ◌-◌, ◌≤◌, ◌<◌}
 use native.Mathlib.Omega.{arith}
 use lib.Dec.{eqb, ltb}
-use lib.ListN.{get_or}
+use Rattle.std.proofs.Common.{Option, Some, None, IfSome}
+use Rattle.std.specs.Option.{SomeIff}
 use borrow.Author.Tests.{ltb-true, ltb-false, eqb-true}
 use Rattle.lists.specs.Choice.{pick, pick_yes, pick_no, Is, is_true, is_false, look, and_left, and_right}
 use Rattle.lists.specs.Parts.{up_to}
@@ -14,9 +15,9 @@ use Rattle.formula.specs.Node.{Table}
 use Rattle.prenex_form.specs.Scope.{inner, level}
 use Rattle.prenex_form.specs.Levels.{blocks_at}
 use Rattle.arrays.specs.Link.{link}
-use Rattle.arrays.specs.Held.{at_level, LevelChains}
-use Rattle.arrays.specs.Chains.{parts_from, between, blocks_from}
-use Rattle.arrays.proofs.Link.{link_some, link_none, link_le}
+use Rattle.arrays.specs.Held.{at_level}
+use Rattle.arrays.specs.Chains.{parts_from, between, blocks_from, linked, BlockOf}
+use Rattle.arrays.proofs.Link.{link_some, link_none}
 
 -- Lists put together from parts, from the front.
 
@@ -89,16 +90,6 @@ module _ {ℓ} {A : Type ℓ} (p : ℕ → Bool) (g : ℕ → List A) where
       passing_from i (b - i) n (omega (arith, r.below)) (λ j x y. r.between j x (omega arith))
       ∙ ap (λ (j : ℕ). passing j n) s ∙ passing_here b n r.below r.passes
 
--- the blocks of level l from that on which a link names: 0 names none, suc b the block b
-unfoldable pub linked : Table → ℕ → ℕ → List ℕ
-linked t l zero = []
-linked t l (suc b) = b ∷ blocks_from t l (suc b)
-
--- A link of level l's chain.
-pub record OnChain (t : Table) (l k : ℕ) : Type 0 where
-  pub within : k ≤ t.size
-  pub at_level_lem : (b : ℕ) → k ≡ suc b → at_level t l b ≡ true
-
 module _ (t : Table) (l : ℕ) where
   pub blocks_from-all : blocks_from t l 0 ≡ blocks_at t l
   unfolding blocks_from blocks_at
@@ -112,59 +103,23 @@ module _ (t : Table) (l : ℕ) where
   unfolding blocks_from
   blocks_from-some i b e = passing_some (at_level t l) (λ j. j ∷ []) i t.size b e
 
-  -- a link names the level's blocks from where it was looked for
-  pub linked_is : (i k : ℕ) → link (at_level t l) i t.size ≡ k → linked t l k ≡ blocks_from t l i
-  unfolding linked
-  linked_is i zero e = sym (blocks_from-none i e)
-  linked_is i (suc b) e = sym (blocks_from-some i b e)
+  -- what an array holds at a link: 0 for no block, else one more than the block with which the level goes on from node i
+  module _ (i k : ℕ) (e : k ≡ link (at_level t l) i t.size) where
+    pub link_block : (named : Option ℕ) → SomeIff named (1 ≤ k) (k - 1) → IfSome named (BlockOf t l)
+    link_block None h = tt
+    link_block (Some b) h =
+        let f : k ≡ suc b = omega arith in
+        let r = link_some (at_level t l) i t.size b (sym e ∙ f) in
+        record {
+          block = record { below = r.below; is_inner = and_left _ (eqb (level t b) l) r.passes };
+          level_is = eqb-true (level t b) l (and_right (inner t b) _ r.passes);
+        }
 
-  -- a block, and then what its next link names
-  pub linked_next : (b k : ℕ) → k ≡ link (at_level t l) (suc b) t.size → linked t l (suc b) ≡ b ∷ linked t l k
-  unfolding linked
-  linked_next b k e = ap (λ (bs : List ℕ). b ∷ bs) (sym (linked_is (suc b) k (sym e)))
+    pub link_blocks : (named : Option ℕ) → SomeIff named (1 ≤ k) (k - 1) → linked t l named ≡ blocks_from t l i
+    link_blocks None h = let z : k ≡ 0 = omega arith in sym (blocks_from-none i (sym e ∙ z))
+    link_blocks (Some b) h = let f : k ≡ suc b = omega arith in sym (blocks_from-some i b (sym e ∙ f))
 
-  -- every link of the level's test is one of its chain
-  pub on_chain : (i k : ℕ) → k ≡ link (at_level t l) i t.size → OnChain t l k
-  on_chain i k e =
-      record {
-        within = omega (arith, link_le (at_level t l) i t.size);
-        at_level_lem = λ b q. (link_some (at_level t l) i t.size b (sym e ∙ q)).passes;
-      }
-
-  -- the block that a link names
-  module _ (k : ℕ) (on : OnChain t l k) (some : k ≡ 0 → ⊥) where
-    named : k ≡ suc (k - 1)
-    named = omega arith
-
-    pub named_lt : k - 1 < t.size
-    named_lt = omega (arith, on.within)
-
-    pub named_inner : inner t (k - 1) ≡ true
-    named_inner = and_left _ (eqb (level t (k - 1)) l) (on.at_level_lem (k - 1) named)
-
-    pub named_level : level t (k - 1) ≡ l
-    named_level = eqb-true _ _ (and_right (inner t (k - 1)) _ (on.at_level_lem (k - 1) named))
-
-  -- the chain of the arrays: it begins with the level's first block, and each block's next is the level's next
-  module _ (firsts nexts : List ℕ) (chains : LevelChains t firsts nexts) where
-    pub first_on : l ≤ t.size → OnChain t l (get_or firsts l 0)
-    first_on h = on_chain 0 (get_or firsts l 0) (chains.first_is l h)
-
-    pub first_linked : l ≤ t.size → linked t l (get_or firsts l 0) ≡ blocks_at t l
-    first_linked h = linked_is 0 (get_or firsts l 0) (sym (chains.first_is l h)) ∙ blocks_from-all
-
-    module _ (k : ℕ) (on : OnChain t l k) (some : k ≡ 0 → ⊥) where
-      next_is : get_or nexts (k - 1) 0 ≡ link (at_level t l) (suc (k - 1)) t.size
-      next_is =
-          subst (λ m. get_or nexts (k - 1) 0 ≡ link (at_level t m) (suc (k - 1)) t.size) (named_level k on some)
-          (chains.next_is (k - 1) (named_lt k on some) (named_inner k on some))
-
-      pub next_on : OnChain t l (get_or nexts (k - 1) 0)
-      next_on = on_chain (suc (k - 1)) (get_or nexts (k - 1) 0) next_is
-
-      pub next_linked : linked t l k ≡ (k - 1) ∷ linked t l (get_or nexts (k - 1) 0)
-      next_linked = ap (linked t l) (named k on some) ∙ linked_next (k - 1) (get_or nexts (k - 1) 0) next_is
-
-  pub linked_end : linked t l 0 ≡ []
-  unfolding linked
-  linked_end = refl
+-- the same of the block after one of the level
+pub next_of_level : {t : Table} {l b : ℕ} (next : Option ℕ) → BlockOf t l b → IfSome next (BlockOf t (level t b)) → linked t (level t b) next ≡ blocks_from t (level t b) (suc b)
+    → IfSome next (BlockOf t l) × (linked t l next ≡ blocks_from t l (suc b))
+next_of_level next o p q = (rw o.level_is at p, rw o.level_is at q)

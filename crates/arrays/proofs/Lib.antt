@@ -5,3 +5,4 @@ pub mod Nodes
 pub mod Entries
 pub mod Chains
 pub mod Bound
+pub mod Depth

@@ -47,6 +47,10 @@ module _ (ws ls : List ℕ) (ok : verdict ws ls ≡ accepted) where
   pub nodes_few : node_count ws ≤ limit
   nodes_few = (accepted_holds ws ls ok).nodes_limit
 
+  pub table_few : (table_of ws ls).size ≤ limit
+  unfolding table_of
+  table_few = nodes_few
+
   module _ (i : ℕ) (h : i < node_count ws) where
     pub level_small : level (table_of ws ls) i < limit
     unfolding table_of

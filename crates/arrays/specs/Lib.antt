@@ -1,3 +1,4 @@
 pub mod Link
 pub mod Held
 pub mod Chains
+pub mod Blocks

@@ -18,7 +18,6 @@ use Rattle.formula.specs.Form.{quantifier_of}
 use Rattle.formula.specs.Tree.{count, bound_below}
 use Rattle.formula.proofs.Nodes.{Kind, kind_of_lem, kind_constant, kind_variable, kind_negation, kind_operator, kind_exists, kind_for_all, kind_none, block_kind, node_block}
 use Rattle.refusals.specs.Verdict.{accepted}
-use Rattle.acceptance.specs.Limits.{limit}
 use Rattle.acceptance.specs.Verdict.{verdict}
 use Rattle.acceptance.specs.Accepted.{Accepted}
 use Rattle.acceptance.proofs.Accepted.{count_at_lem, count_block, accepted_holds}
@@ -30,7 +29,7 @@ use Rattle.prenex_form.proofs.Paths.{kept_positive}
 use Rattle.prenex_form.proofs.NameLaws.{copies_shift}
 use Rattle.arrays.specs.Held.{Starts, first_new, first_copy}
 use Rattle.matrix_writer.specs.Entries.{entry_nodes, entries_nodes}
-use Rattle.matrix_writer.specs.Chain.{InnerBlock}
+use Rattle.arrays.specs.Chains.{InnerBlock}
 
 quantifier_of_lem : (ls : List ℕ) (w : NodeWords) → Kind w.kind → quantifier_at (node_of ls w) ≡ quantifier_of w.kind
 unfolding node_of pick quantifier_at quantifier_of
@@ -51,11 +50,7 @@ pub size_is : (ws ls : List ℕ) → (table_of ws ls).size ≡ node_count ws
 unfolding table_of
 size_is ws ls = refl
 
--- an accepted table has nodes, all of them whole, and not too many
-pub table_few : (ws ls : List ℕ) → verdict ws ls ≡ accepted → (table_of ws ls).size ≤ limit
-unfolding table_of
-table_few ws ls h = (accepted_holds ws ls h).nodes_limit
-
+-- an accepted table has nodes, all of them whole
 pub table_whole : (ws ls : List ℕ) → verdict ws ls ≡ accepted → (0 < node_count ws) × (length ws ≡ width * node_count ws)
 unfolding table_of
 table_whole ws ls h = let ok = accepted_holds ws ls h in (ok.proper.tree.nonempty, ok.whole)

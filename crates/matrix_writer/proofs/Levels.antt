@@ -6,7 +6,7 @@ use Prim.Native.Nat.{ℕ, suc, ◌+◌, ◌-◌, ◌*◌, ◌≤◌, ◌<◌}
 use native.Mathlib.Omega.{arith}
 use native.Mathlib.Numerals.{add-one}
 use lib.Dec.{eqb}
-use lib.ListN.{length, get_or, length-append}
+use lib.ListN.{length, length-append}
 use borrow.Author.Tests.{eq-eqb, ne_eqb}
 use Rattle.lists.specs.Choice.{pick_yes, pick_no}
 use Rattle.lists.specs.Parts.{overwrite}
@@ -14,24 +14,18 @@ use Rattle.formula.specs.Node.{exists, for_all, dual, Node, operator, Table}
 use Rattle.formula.specs.Words.{width, node_count, words_at, node_words, table_of}
 use Rattle.formula.specs.declared.NodeWords.{NodeWords}
 use Rattle.formula.specs.Form.{quantifier_of, kind_of}
-use Rattle.refusals.specs.Verdict.{accepted}
-use Rattle.acceptance.specs.Verdict.{verdict}
-use Rattle.acceptance.proofs.Accepted.{accepted_holds}
 use Rattle.prenex_form.specs.Scope.{level}
 use Rattle.prenex_form.specs.Levels.{blocks_at, levels, level_quantifier}
 use Rattle.prenex_form.specs.Matrix.{and, implies, kept, constraint, further, constraints, level_join, level_nodes}
 use Rattle.formula.proofs.Prefix.{quantifier_read}
-use Rattle.arrays.specs.Link.{link}
-use Rattle.arrays.specs.Held.{at_level, Chained}
-use Rattle.arrays.specs.Chains.{blocks_from}
-use Rattle.arrays.proofs.Chains.{linked, linked_is, linked_next, blocks_from-all, blocks_from-some, on_chain}
+use Rattle.arrays.specs.Chains.{blocks_from, linked, BlockOf}
 use Rattle.matrix_writer.specs.Added.{added_nodes}
 use Rattle.matrix_writer.specs.Buffer.{with_nodes, Room, Wrote}
-use Rattle.matrix_writer.specs.Chain.{nodes_after, LevelKind}
+use Rattle.matrix_writer.specs.Chain.{nodes_after}
 use Rattle.matrix_writer.proofs.Added.{length_added, added_grows}
 use Rattle.matrix_writer.proofs.Buffer.{with_none, with_append, with_then, wrote, wrote_then}
 use Rattle.matrix_writer.proofs.Blocks.{quantifier_is}
-use Rattle.matrix_writer.proofs.Chain.{BlockOf, leads, first_positive, first_link, get_or-within}
+use Rattle.std.proofs.Common.{Option, Some, None, IfSome}
 
 -- The first j levels are written, and the next one's quantifier is the kind's.
 pub record Levelled (t : Table) (out nodes : List ℕ) (kind next j : ℕ) : Type 0 where
@@ -120,18 +114,16 @@ module _ (t : Table) where
   level_constraints b s = constraint t b s ++ nodes_after t b (s + length (constraint t b s))
 
   -- a level in parts: the first block's constraint, those after it, and the join
-  level_parts : (j b s : ℕ) → link (at_level t (suc j)) 0 t.size ≡ suc b → level t b ≡ suc j
+  level_parts : (j b s : ℕ) → blocks_at t (suc j) ≡ b ∷ blocks_from t (suc j) (suc b) → level t b ≡ suc j
       → level_nodes t j s ≡ level_constraints b s ++ (level_join (level_quantifier t j) (s - 1) (s + length (level_constraints b s) - 1) ∷ [])
   unfolding level_nodes constraints
-  level_parts j b s e f =
-      let all : blocks_at t (suc j) ≡ b ∷ blocks_from t (suc j) (suc b) = sym (blocks_from-all t (suc j)) ∙ blocks_from-some t (suc j) 0 b e in
-      rw (all, f)
+  level_parts j b s e f = rw (e, f)
 
-  length_level : (j b s : ℕ) → link (at_level t (suc j)) 0 t.size ≡ suc b → level t b ≡ suc j
+  length_level : (j b s : ℕ) → blocks_at t (suc j) ≡ b ∷ blocks_from t (suc j) (suc b) → level t b ≡ suc j
       → length (level_nodes t j s) ≡ length (constraint t b s) + length (nodes_after t b (s + length (constraint t b s))) + 1
   length_level j b s e f = ap (λ (ns : List Node). length ns) (level_parts j b s e f) ∙ simp length-append
 
-  pub wrote_level : (j b s n e kind : ℕ) (out m o last : List ℕ) → link (at_level t (suc j)) 0 t.size ≡ suc b → level t b ≡ suc j
+  pub wrote_level : (j b s n e kind : ℕ) (out m o last : List ℕ) → blocks_at t (suc j) ≡ b ∷ blocks_from t (suc j) (suc b) → level t b ≡ suc j
       → Wrote out s (constraint t b s) m n → Wrote m n (nodes_after t b n) o e → last ≡ with_nodes o e (level_join (quantifier_of kind) (s - 1) (e - 1) ∷ [])
       → quantifier_of kind ≡ level_quantifier t j → width * (s + length (level_nodes t j s)) ≤ length out → Wrote out s (level_nodes t j s) last (e + 1)
   wrote_level j b s n e kind out m o last f g p q r k fits =
@@ -144,81 +136,60 @@ module _ (t : Table) where
       (with_then out o last s e (level_constraints b s) _ both.nodes_are last_is both.next_is (omega (arith, length-append (constraint t b s) (nodes_after t b (s + length (constraint t b s))))))
       (simp length-append (omega (arith, p.next_is, next.next_is)))
 
--- what is known of level j + 1 and of its first block, which the array gives
-pub record LevelFacts (ws ls firsts : List ℕ) (j at : ℕ) : Type 0 where
-  pub within : j + 1 < length firsts
-  pub link_is : link (at_level (table_of ws ls) (suc j)) 0 (table_of ws ls).size ≡ suc (get_or firsts (j + 1) 0 - 1)
-  pub positive : 0 < get_or firsts (j + 1) 0
-  pub block : BlockOf (table_of ws ls) (suc j) (get_or firsts (j + 1) 0 - 1)
-  pub long : length (level_nodes (table_of ws ls) j at)
-      ≡ length (constraint (table_of ws ls) (get_or firsts (j + 1) 0 - 1) at)
-      + length (nodes_after (table_of ws ls) (get_or firsts (j + 1) 0 - 1) (at + length (constraint (table_of ws ls) (get_or firsts (j + 1) 0 - 1) at))) + 1
+-- what is known of level j + 1, whose first block is b
+pub record LevelFacts (t : Table) (j b at : ℕ) : Type 0 where
+  pub block : BlockOf t (suc j) b
+  pub blocks_are : blocks_at t (suc j) ≡ b ∷ blocks_from t (suc j) (suc b)
+  pub long : length (level_nodes t j at) ≡ length (constraint t b at) + length (nodes_after t b (at + length (constraint t b at))) + 1
 
-pub level_facts : {ws ls firsts nexts : List ℕ} {j kind : ℕ} (at : ℕ) → verdict ws ls ≡ accepted → Chained ws ls firsts nexts
-    → LevelKind (table_of ws ls) j kind → LevelFacts ws ls firsts j at
-level_facts {ws} {ls} {firsts} {nexts} {j} at ok held k =
-    let t = table_of ws ls in
-    let v = get_or firsts (j + 1) 0 in
-    let e : v ≡ link (at_level t (suc j)) 0 t.size = first_link j held k.below in
-    let p : 0 < v = omega (arith, first_positive t (suc j) (accepted_holds ws ls ok).proper.tree (omega arith) k.below) in
-    let f : v ≡ suc (v - 1) = omega arith in
-    let b = leads t (suc j) 0 v (v - 1) e f in
-    record {
-      within = get_or-within firsts (j + 1) p;
-      link_is = sym e ∙ f;
-      positive = p;
-      block = b;
-      long = length_level t j (v - 1) at (sym e ∙ f) b.level_is;
-    }
+pub level_facts : {t : Table} {j b : ℕ} (at : ℕ) → BlockOf t (j + 1) b → linked t (j + 1) (Some b) ≡ blocks_at t (j + 1) → LevelFacts t j b at
+level_facts {t} {j} {b} at o e =
+    let o' : BlockOf t (suc j) b = rw add-one at o in
+    let e' : blocks_at t (suc j) ≡ b ∷ blocks_from t (suc j) (suc b) = sym (rw add-one at e) in
+    record { block = o'; blocks_are = e'; long = length_level t j b at e' o'.level_is }
 
--- What is left to write of the blocks bs after a level's first one, when the chain has come to a link.
-pub record Rest (t : Table) (l : ℕ) (bs out : List ℕ) (at : ℕ) (nodes : List ℕ) (next v : ℕ) : Type 0 where
-  pub block_at : (b : ℕ) → v ≡ suc b → BlockOf t l b
-  pub small : v ≤ t.size
-  pub nodes_are : with_nodes nodes next (further t (linked t l v) next) ≡ with_nodes out at (further t bs at)
-  pub next_is : next + length (further t (linked t l v) next) ≡ at + length (further t bs at)
+-- What is left to write of the blocks bs after a level's first one, when the chain has come to a block or to its end.
+pub record Rest (t : Table) (l : ℕ) (bs out : List ℕ) (at : ℕ) (nodes : List ℕ) (next : ℕ) (block : Option ℕ) : Type 0 where
+  pub of_level : IfSome block (BlockOf t l)
+  pub nodes_are : with_nodes nodes next (further t (linked t l block) next) ≡ with_nodes out at (further t bs at)
+  pub next_is : next + length (further t (linked t l block) next) ≡ at + length (further t bs at)
   pub long : length nodes ≡ length out
   pub later : at ≤ next
 
 module _ (t : Table) (l : ℕ) where
-  pub rest_all : (out : List ℕ) (at i v : ℕ) → v ≡ link (at_level t l) (suc i) t.size → Rest t l (blocks_from t l (suc i)) out at out at v
-  rest_all out at i v e =
-      let c = linked_is t l (suc i) v (sym e) in
-      record {
-        block_at = λ b f. leads t l (suc i) v b e f;
-        small = (on_chain t l (suc i) v e).within;
-        nodes_are = rw c;
-        next_is = rw c;
-        long = refl;
-        later = omega arith;
-      }
+  pub rest_all : (out : List ℕ) (at i : ℕ) (block : Option ℕ) → IfSome block (BlockOf t l) → linked t l block ≡ blocks_from t l (suc i)
+      → Rest t l (blocks_from t l (suc i)) out at out at block
+  rest_all out at i block o e = record { of_level = o; nodes_are = rw e; next_is = rw e; long = refl; later = omega arith }
 
-  pub rest_none : {bs out nodes : List ℕ} {at next v : ℕ} → Rest t l bs out at nodes next v → v ≡ 0 → Wrote out at (further t bs at) nodes next
-  unfolding linked further
-  rest_none {bs} {out} {nodes} {at} {next} {v} r e =
+  pub rest_none : {bs out nodes : List ℕ} {at next : ℕ} {block : Option ℕ} → Rest t l bs out at nodes next block → block ≡ None → Wrote out at (further t bs at) nodes next
+  unfolding further
+  rest_none {bs} {out} {nodes} {at} {next} {block} r e =
       record {
         nodes_are = sym (with_none nodes next) ∙ (rw e at r.nodes_are);
         next_is = let n = rw e at r.next_is in omega arith;
       }
 
-  -- the block that the link leads to has room, and what is left after it is what its own link leads to
-  module _ {bs out nodes : List ℕ} {at next v : ℕ} (b w : ℕ) (r : Rest t l bs out at nodes next v) (e : v ≡ suc b) (f : w ≡ link (at_level t l) (suc b) t.size) where
-    left : further t (linked t l v) next ≡ further t (b ∷ []) next ++ further t (linked t l w) (next + length (further t (b ∷ []) next))
-    left = ap (λ (bs : List ℕ). further t bs next) (ap (linked t l) e ∙ linked_next t l b w f) ∙ further_cons t b (linked t l w) next
+  -- the block that the chain has come to has room, and what is left after it is what its next leads to
+  module _ {bs out nodes : List ℕ} {at next : ℕ} {block : Option ℕ} (b : ℕ) (after : Option ℕ) (r : Rest t l bs out at nodes next block) (e : block ≡ Some b)
+      (f : linked t l after ≡ blocks_from t l (suc b)) where
+    linked_here : linked t l block ≡ b ∷ linked t l after
+    linked_here = ap (linked t l) e ∙ ap (λ (bs : List ℕ). b ∷ bs) (sym f)
 
-    length_left : length (further t (linked t l v) next) ≡ length (further t (b ∷ []) next) + length (further t (linked t l w) (next + length (further t (b ∷ []) next)))
+    left : further t (linked t l block) next ≡ further t (b ∷ []) next ++ further t (linked t l after) (next + length (further t (b ∷ []) next))
+    left = ap (λ (bs : List ℕ). further t bs next) linked_here ∙ further_cons t b (linked t l after) next
+
+    length_left : length (further t (linked t l block) next) ≡ length (further t (b ∷ []) next) + length (further t (linked t l after) (next + length (further t (b ∷ []) next)))
     length_left = ap (λ (ns : List Node). length ns) left ∙ length-append (further t (b ∷ []) next) _
 
-    pub rest_next : (last : List ℕ) (after : ℕ) → Wrote nodes next (further t (b ∷ []) next) last after → length last ≡ length nodes
-        → width * (at + length (further t bs at)) ≤ length out → Rest t l bs out at last after w
-    rest_next last after p k fits =
+    pub rest_next : (last : List ℕ) (end : ℕ) → IfSome after (BlockOf t l) → Wrote nodes next (further t (b ∷ []) next) last end → length last ≡ length nodes
+        → width * (at + length (further t bs at)) ≤ length out → Rest t l bs out at last end after
+    rest_next last end o p k fits =
         let head = further t (b ∷ []) next in
-        let tail = further t (linked t l w) (next + length head) in
-        let n : after ≡ next + length head = p.next_is in
+        let tail = further t (linked t l after) (next + length head) in
+        let n : end ≡ next + length head = p.next_is in
         let m : next + length head + length tail ≡ at + length (further t bs at) = omega (arith, length_left, r.next_is) in
         record {
-          block_at = λ d g. leads t l (suc b) w d f g;
-          small = (on_chain t l (suc b) w f).within;
+          of_level = o;
           nodes_are =
               rw (p.nodes_are, n)
               (with_append nodes next head tail (omega (arith, r.long)) ∙ ap (with_nodes nodes next) (sym left) ∙ r.nodes_are);
@@ -227,8 +198,12 @@ module _ (t : Table) (l : ℕ) where
           later = omega (arith, r.later);
         }
 
-    pub rest_shorter : length (linked t l w) < length (linked t l v)
-    rest_shorter = omega (arith, ap (λ (bs : List ℕ). length bs) (ap (linked t l) e ∙ linked_next t l b w f))
+    pub rest_shorter : length (linked t l after) < length (linked t l block)
+    rest_shorter = omega (arith, ap (λ (bs : List ℕ). length bs) linked_here)
 
-    pub rest_room : Room out at (length (further t bs at)) → Room nodes next (length (further t (b ∷ []) next))
-    rest_room room = record { fits = omega (arith, room.fits, length_left, r.next_is, r.long); small = omega (arith, room.small, length_left, r.next_is) }
+  pub rest_room : {bs out nodes : List ℕ} {at next : ℕ} {block : Option ℕ} (b : ℕ) → Rest t l bs out at nodes next block → block ≡ Some b
+      → Room out at (length (further t bs at)) → Room nodes next (length (further t (b ∷ []) next))
+  rest_room {bs} {out} {nodes} {at} {next} {block} b r e room =
+      let n : length (further t (linked t l block) next) ≡ length (further t (b ∷ []) next) + length (further t (blocks_from t l (suc b)) (next + length (further t (b ∷ []) next))) =
+      ap (λ (ns : List Node). length ns) (ap (λ (o : Option ℕ). further t (linked t l o) next) e ∙ further_cons t b (blocks_from t l (suc b)) next) ∙ length-append (further t (b ∷ []) next) _ in
+      record { fits = omega (arith, room.fits, r.next_is, r.long); small = omega (arith, room.small, r.next_is) }

@@ -1,17 +1,12 @@
--- The blocks of a level as a chain through the working arrays.
+-- The nodes of a level's blocks after one of them, and the kind of a level.
 -- Assumes nothing.
-use Rattle.std.specs.Prelude.{true, List, ◌≡◌, ℕ, suc, ◌<◌}
+use Rattle.std.specs.Prelude.{List, ◌≡◌, ℕ, suc, ◌<◌}
 use Rattle.formula.specs.Node.{Node, Table}
 use Rattle.formula.specs.Form.{quantifier_of}
-use Rattle.prenex_form.specs.Scope.{inner, level}
+use Rattle.prenex_form.specs.Scope.{level}
 use Rattle.prenex_form.specs.Levels.{levels, level_quantifier}
 use Rattle.prenex_form.specs.Matrix.{further}
 use Rattle.arrays.specs.Chains.{blocks_from}
-
--- node i is an inner block of the table
-pub record InnerBlock (t : Table) (i : ℕ) : Type 0 where
-  pub below : i < t.size
-  pub is_inner : inner t i ≡ true
 
 -- the nodes of the blocks after block i of its level, the first at index s
 abbrev pub nodes_after : Table → ℕ → ℕ → List Node

@@ -2,4 +2,3 @@ pub mod Added
 pub mod Buffer
 pub mod Entries
 pub mod Chain
-pub mod Arrays

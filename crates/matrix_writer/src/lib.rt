@@ -6,17 +6,18 @@ ghost use mathlib.Core.List.{[], ◌∷◌, flat_map};
 ghost use Rattle.std.specs.Prelude.{◌≡◌, ◌+◌, ◌*◌, ◌-◌, ◌≤◌, ◌<◌, length};
 ghost use Rattle.lists.specs.Parts.{overwrite};
 ghost use Rattle.formula.specs.Node.{variable, operator};
-ghost use Rattle.formula.specs.Words.{width, table_of, node_words};
+ghost use Rattle.formula.specs.Words.{width, node_words};
 ghost use Rattle.formula.specs.Form.{quantifier_of};
 ghost use Rattle.prenex_form.specs.Levels.{levels};
 ghost use Rattle.prenex_form.specs.Matrix.{kept, guard, constraint, further, level_join, level_nodes};
-ghost use Rattle.arrays.specs.Held.{Chained};
+ghost use Rattle.arrays.specs.Chains.{InnerBlock};
+ghost use Rattle.arrays.specs.Blocks.{table};
 ghost use Rattle.matrix_writer.specs.Added.{added_nodes};
 ghost use Rattle.matrix_writer.specs.Buffer.{with_nodes, Room, Wrote};
 ghost use Rattle.matrix_writer.specs.Entries.{entry_nodes, entries_nodes, definition_nodes, guard_nodes};
-ghost use Rattle.matrix_writer.specs.Chain.{InnerBlock, LevelKind, nodes_after};
-ghost use Rattle.matrix_writer.specs.Arrays.{BlockArrays, NextBlocks};
+ghost use Rattle.matrix_writer.specs.Chain.{LevelKind, nodes_after};
 
+use arrays::Blocks;
 use formula::{EXISTS_BLOCK, WIDTH, node_at, operator_node, put_node, variable_node};
 
 // The truth tables of the operators that are written.
@@ -71,10 +72,8 @@ fn write_entries(nodes: &mut [u32], s: u32, count: u32, x: u32, y: u32) -> u32
     ensures value { result ≡ s + (4 * count - 1) }
 {
     let mut next = s;
-    let mut k = 0;
-    while k < count {
+    for k in 0..count {
         next = write_entry(nodes, next, k, x + k, y + k);
-        k += 1;
     }
     next
 }
@@ -111,101 +110,51 @@ fn guard_table(kind: u32) -> u32
 }
 
 // Writes the constraint of inner block i.
-fn write_constraint(
-    words: &[u32],
-    list: &[u32],
-    nodes: &mut [u32],
-    starts: &[u16],
-    names: u32,
-    copies: u32,
-    definitions: &[u32],
-    i: usize,
-    at: u32,
-) -> u32
-    requires block_arrays { BlockArrays words.now list.now starts.now names copies definitions.now }
-    requires inner_block { InnerBlock (table_of words.now list.now) i }
-    requires room { Room nodes.old at (length (constraint (table_of words.now list.now) i at)) }
-    ensures { Wrote nodes.old at (constraint (table_of words.now list.now) i at) nodes.new result }
+fn write_constraint(blocks: &Blocks, nodes: &mut [u32], i: usize, at: u32) -> u32
+    requires inner_block { InnerBlock (table blocks.now) i }
+    requires room { Room nodes.old at (length (constraint (table blocks.now) i at)) }
+    ensures { Wrote nodes.old at (constraint (table blocks.now) i at) nodes.new result }
 {
-    let block = node_at(words, i);
-    let definition = definitions[i];
+    let block = node_at(blocks.words, i);
+    let definition = blocks.definitions[i];
     write_definition(nodes, at, definition, block.c);
-    let start = starts[i] as u32;
-    let next = write_entries(nodes, at + 2, block.b, names + start, copies + start);
+    let start = blocks.starts[i] as u32;
+    let next = write_entries(
+        nodes,
+        at + 2,
+        block.b,
+        blocks.names + start,
+        blocks.copies + start,
+    );
     write_guard(nodes, next, definition, guard_table(block.kind), at + 1);
     next + 3
 }
 
 // Writes the constraint of a block after its level's first, and the conjunction of those before
 // with it.
-fn write_next(
-    words: &[u32],
-    list: &[u32],
-    nodes: &mut [u32],
-    starts: &[u16],
-    names: u32,
-    copies: u32,
-    definitions: &[u32],
-    i: usize,
-    at: u32,
-) -> u32
-    requires block_arrays { BlockArrays words.now list.now starts.now names copies definitions.now }
-    requires inner_block { InnerBlock (table_of words.now list.now) i }
+fn write_next(blocks: &Blocks, nodes: &mut [u32], i: usize, at: u32) -> u32
+    requires inner_block { InnerBlock (table blocks.now) i }
     requires at_nonzero { 0 < at }
-    requires room { Room nodes.old at (length (further (table_of words.now list.now) (i ∷ []) at)) }
-    ensures { Wrote nodes.old at (further (table_of words.now list.now) (i ∷ []) at) nodes.new result }
+    requires room { Room nodes.old at (length (further (table blocks.now) (i ∷ []) at)) }
+    ensures { Wrote nodes.old at (further (table blocks.now) (i ∷ []) at) nodes.new result }
 {
-    let end = write_constraint(
-        words,
-        list,
-        nodes,
-        starts,
-        names,
-        copies,
-        definitions,
-        i,
-        at,
-    );
+    let end = write_constraint(blocks, nodes, i, at);
     put_operator(nodes, end, AND, at - 1, end - 1);
     end + 1
 }
 
 // Writes the constraints of the blocks after block i of its level.
-fn write_further(
-    words: &[u32],
-    list: &[u32],
-    nodes: &mut [u32],
-    nexts: &[u16],
-    starts: &[u16],
-    names: u32,
-    copies: u32,
-    definitions: &[u32],
-    i: usize,
-    at: u32,
-) -> u32
-    requires block_arrays { BlockArrays words.now list.now starts.now names copies definitions.now }
-    requires next_blocks { NextBlocks words.now list.now nexts.now }
-    requires inner_block { InnerBlock (table_of words.now list.now) i }
+fn write_further(blocks: &Blocks, nodes: &mut [u32], i: usize, at: u32) -> u32
+    requires inner_block { InnerBlock (table blocks.now) i }
     requires at_nonzero { 0 < at }
-    requires room { Room nodes.old at (length (nodes_after (table_of words.now list.now) i at)) }
-    ensures { Wrote nodes.old at (nodes_after (table_of words.now list.now) i at) nodes.new result }
+    requires room { Room nodes.old at (length (nodes_after (table blocks.now) i at)) }
+    ensures { Wrote nodes.old at (nodes_after (table blocks.now) i at) nodes.new result }
 {
     let mut next = at;
-    let mut link = nexts[i] as usize;
-    while link != 0 {
-        let block = link - 1;
-        next = write_next(
-            words,
-            list,
-            nodes,
-            starts,
-            names,
-            copies,
-            definitions,
-            block,
-            next,
-        );
-        link = nexts[block] as usize;
+    let mut left = blocks.next_block(i);
+    while let Some(block) = left {
+        next = write_next(blocks, nodes, block, next);
+        left = blocks.next_block(block);
     }
     next
 }
@@ -224,98 +173,35 @@ fn write_join(nodes: &mut [u32], at: u32, kind: u32, matrix: u32, constraints: u
 }
 
 // Writes the nodes of level j + 1, whose quantifier is the kind's.
-fn write_level(
-    words: &[u32],
-    list: &[u32],
-    nodes: &mut [u32],
-    firsts: &[u16],
-    nexts: &[u16],
-    starts: &[u16],
-    names: u32,
-    copies: u32,
-    definitions: &[u32],
-    j: usize,
-    kind: u32,
-    at: u32,
-) -> u32
-    requires block_arrays { BlockArrays words.now list.now starts.now names copies definitions.now }
-    requires chained { Chained words.now list.now firsts.now nexts.now }
-    requires level_kind { LevelKind (table_of words.now list.now) j kind }
+fn write_level(blocks: &Blocks, nodes: &mut [u32], j: usize, kind: u32, at: u32) -> u32
+    requires level_kind { LevelKind (table blocks.now) j kind }
     requires at_nonzero { 0 < at }
-    requires room { Room nodes.old at (length (level_nodes (table_of words.now list.now) j at)) }
-    ensures { Wrote nodes.old at (level_nodes (table_of words.now list.now) j at) nodes.new result }
+    requires room { Room nodes.old at (length (level_nodes (table blocks.now) j at)) }
+    ensures { Wrote nodes.old at (level_nodes (table blocks.now) j at) nodes.new result }
 {
-    let first = firsts[j + 1] as usize - 1;
-    let next = write_constraint(
-        words,
-        list,
-        nodes,
-        starts,
-        names,
-        copies,
-        definitions,
-        first,
-        at,
-    );
-    let end = write_further(
-        words,
-        list,
-        nodes,
-        nexts,
-        starts,
-        names,
-        copies,
-        definitions,
-        first,
-        next,
-    );
+    // A level has blocks.
+    let Some(first) = blocks.first_block(j + 1) else {
+        return at;
+    };
+    let next = write_constraint(blocks, nodes, first, at);
+    let end = write_further(blocks, nodes, first, next);
     write_join(nodes, end, kind, at - 1, end - 1);
     end + 1
 }
 
 // Writes the nodes of all levels after the table's own, the first at index `first`. Levels
-// alternate from the root's quantifier; a root that is no block counts as for-all. `names` is the
-// first new name and `copies` the first copy.
-pub fn write_levels(
-    words: &[u32],
-    list: &[u32],
-    nodes: &mut [u32],
-    firsts: &[u16],
-    nexts: &[u16],
-    starts: &[u16],
-    names: u32,
-    copies: u32,
-    definitions: &[u32],
-    first: usize,
-    deepest: usize,
-)
-    requires block_arrays { BlockArrays words.now list.now starts.now names copies definitions.now }
-    requires chained { Chained words.now list.now firsts.now nexts.now }
-    requires first_value { first ≡ kept (table_of words.now list.now) }
-    requires deepest_value { deepest ≡ levels (table_of words.now list.now) }
-    requires room { Room nodes.old first (length (added_nodes (table_of words.now list.now) deepest)) }
-    ensures { let t = table_of words.now list.now in nodes.new ≡ overwrite nodes.old (width * kept t) (flat_map node_words (added_nodes t (levels t))) }
+// alternate from the root's quantifier; a root that is no block counts as for-all.
+pub fn write_levels(blocks: &Blocks, nodes: &mut [u32], first: usize, deepest: usize)
+    requires first_value { first ≡ kept (table blocks.now) }
+    requires deepest_value { deepest ≡ levels (table blocks.now) }
+    requires room { Room nodes.old first (length (added_nodes (table blocks.now) deepest)) }
+    ensures { let t = table blocks.now in nodes.new ≡ overwrite nodes.old (width * kept t) (flat_map node_words (added_nodes t (levels t))) }
 {
-    let root = node_at(words, words.len() / WIDTH - 1);
+    let root = node_at(blocks.words, blocks.words.len() / WIDTH - 1);
     let mut kind = root.kind;
     let mut next = first as u32;
-    let mut j = 0;
-    while j < deepest {
-        next = write_level(
-            words,
-            list,
-            nodes,
-            firsts,
-            nexts,
-            starts,
-            names,
-            copies,
-            definitions,
-            j,
-            kind,
-            next,
-        );
+    for j in 0..deepest {
+        next = write_level(blocks, nodes, j, kind, next);
         kind = prenex_form::dual_kind(kind);
-        j += 1;
     }
 }

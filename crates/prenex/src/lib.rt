@@ -3,7 +3,6 @@
 
 ghost use Rattle.std.specs.Prelude.{◌≡◌, ◌+◌, ◌*◌, ◌-◌, ◌≤◌, eqb, length};
 ghost use Rattle.lists.specs.Choice.{pick};
-ghost use Rattle.lists.specs.Parts.{overwrite};
 ghost use Rattle.formula.specs.Node.{is_block};
 ghost use Rattle.formula.specs.Words.{node_count, node_at, table_of};
 ghost use Rattle.refusals.specs.Verdict.{refusal as refusal_of, accepted};
@@ -11,11 +10,8 @@ ghost use Rattle.acceptance.specs.Limits.{limit};
 ghost use Rattle.acceptance.specs.Verdict.{verdict};
 ghost use Rattle.prenex_form.specs.Sizes.{sizes as sizes_of};
 ghost use Rattle.prenex_form.specs.Names.{highest_number};
-ghost use Rattle.prenex_form.specs.Levels.{levels};
-ghost use Rattle.prenex_form.specs.Matrix.{written_nodes};
-ghost use Rattle.arrays.specs.Held.{first_copy, Definitions, Started, Placed, Chained, Bound};
+ghost use Rattle.arrays.specs.Held.{Started, Chained, Bound};
 ghost use Rattle.block_counts.specs.Counting.{BlockCounts};
-ghost use Rattle.first_nodes.specs.Given.{Given, Counted};
 ghost use Rattle.prenex.specs.Arrays.{Room, Written};
 ghost use Rattle.refusals.specs.Outcome.{refused as refused_of, done as done_of};
 ghost use Rattle.prenex.specs.Outcome.{
@@ -31,6 +27,7 @@ ghost use Rattle.prenex.specs.Outcome.{
 };
 
 use acceptance::LIMIT;
+use arrays::Blocks;
 use block_counts::Counts;
 use names::NameCounter;
 use prefix_writer::PREFIX_WIDTH;
@@ -174,157 +171,89 @@ pub fn lift_accepted(
     if variables.len() < sizes.entries as usize {
         return short();
     }
-    write_form(
+    let mut starts = [0u16; LIMIT];
+    let mut bindings = [0u16; LIMIT];
+    let bound = pass.counts.bound as usize;
+    let highest = bindings::find_bindings(words, list, &parents, &mut starts, &mut bindings, bound);
+    let mut firsts = [0u16; LIMIT];
+    let mut nexts = [0u16; LIMIT];
+    chains::chain_levels(words, list, &levels, &mut firsts, &mut nexts);
+    let found = Found {
         words,
         list,
-        nodes,
-        prefix,
-        variables,
-        &parents,
-        &levels,
-        pass.counts,
-    );
+        starts: &starts,
+        bindings: &bindings,
+        firsts: &firsts,
+        nexts: &nexts,
+        counts: pass.counts,
+        highest,
+    };
+    write_form(&found, nodes, prefix, variables);
     done(sizes)
 }
 
-// Finds the bindings, chains the levels, and goes on.
-fn write_form(
-    words: &[u32],
-    list: &[u32],
-    nodes: &mut [u32],
-    prefix: &mut [u32],
-    variables: &mut [u32],
-    parents: &[u32],
-    levels: &[u16],
+// An accepted table, and what is found of it before new names are handed out.
+#[derive(Clone, Copy)]
+struct Found<'a> {
+    // The table.
+    words: &'a [u32],
+    list: &'a [u32],
+    // How many entries stand before each block's.
+    starts: &'a [u16],
+    // The entry that binds each variable node's number.
+    bindings: &'a [u16],
+    // The inner blocks chained by level.
+    firsts: &'a [u16],
+    nexts: &'a [u16],
     counts: Counts,
-)
-    requires list_value { verdict words.now list.now ≡ accepted }
-    requires placed { Placed words.now list.now parents.now levels.now }
-    requires block_counts { BlockCounts (table_of words.now list.now) counts }
-    requires room { Room words.now list.now nodes.old prefix.old variables.old }
-    ensures { Written words.now list.now nodes.old prefix.old variables.old nodes.new prefix.new variables.new }
-{
-    let mut starts = [0u16; LIMIT];
-    let mut bindings = [0u16; LIMIT];
-    let bound = counts.bound as usize;
-    let highest = bindings::find_bindings(words, list, parents, &mut starts, &mut bindings, bound);
-    let mut firsts = [0u16; LIMIT];
-    let mut nexts = [0u16; LIMIT];
-    chains::chain_levels(words, list, levels, &mut firsts, &mut nexts);
-    write_named(
-        words, list, nodes, prefix, variables, &firsts, &nexts, &starts, &bindings, counts, highest,
-    );
+    // The highest number in the table.
+    highest: u32,
+    ghost started: { Started words.now list.now starts.now },
+    ghost bound: { Bound words.now list.now bindings.now },
+    ghost chained: { Chained words.now list.now firsts.now nexts.now },
+    ghost counted: { BlockCounts (table_of words.now list.now) counts },
+    ghost highest_is: { highest ≡ highest_number (table_of words.now list.now) },
+    ghost highest_low: { highest ≤ 65535 },
 }
 
-// Hands out the new names, and writes the three parts of the form.
-fn write_named(
-    words: &[u32],
-    list: &[u32],
-    nodes: &mut [u32],
-    prefix: &mut [u32],
-    variables: &mut [u32],
-    firsts: &[u16],
-    nexts: &[u16],
-    starts: &[u16],
-    bindings: &[u16],
-    counts: Counts,
-    highest: u32,
-)
-    requires started { Started words.now list.now starts.now }
-    requires chained { Chained words.now list.now firsts.now nexts.now }
-    requires bound { Bound words.now list.now bindings.now }
-    requires block_counts { BlockCounts (table_of words.now list.now) counts }
-    requires highest_value { (highest ≡ highest_number (table_of words.now list.now)) × (highest ≤ 65535) }
-    requires room { Room words.now list.now nodes.old prefix.old variables.old }
-    ensures { Written words.now list.now nodes.old prefix.old variables.old nodes.new prefix.new variables.new }
+// Hands out the new names, and writes the form's nodes, first the table's own and then those of the
+// levels, its prefix and its variables.
+fn write_form(found: &Found, nodes: &mut [u32], prefix: &mut [u32], variables: &mut [u32])
+    requires { Room found.now.words.now found.now.list.now nodes.old prefix.old variables.old }
+    ensures { Written found.now.words.now found.now.list.now nodes.old prefix.old variables.old nodes.new prefix.new variables.new }
 {
     let mut definitions = [0u32; LIMIT];
-    let counter = NameCounter { next: highest + 1 };
-    let names = counter.take_run(counts.bound);
-    let copies = names.counter.take_run(counts.inner_bound);
-    let deepest = counts.deepest as usize;
-    write_nodes(
-        words,
-        list,
-        nodes,
-        firsts,
-        nexts,
-        starts,
-        bindings,
-        names.name,
-        copies.name,
-        &mut definitions,
-        copies.counter,
-        deepest,
-    );
-    let blocks = counts.blocks as usize;
-    prefix_writer::write_prefix(
-        words,
-        list,
-        prefix,
-        variables,
-        starts,
-        names.name,
-        copies.name,
-        &definitions,
-        firsts,
-        nexts,
-        blocks,
-        deepest,
-    );
-}
-
-// Writes the form's nodes, first the table's own and then those of the levels, and the definition
-// variables of the inner blocks to their array.
-fn write_nodes(
-    words: &[u32],
-    list: &[u32],
-    nodes: &mut [u32],
-    firsts: &[u16],
-    nexts: &[u16],
-    starts: &[u16],
-    bindings: &[u16],
-    names: u32,
-    copies: u32,
-    definitions: &mut [u32],
-    counter: NameCounter,
-    deepest: usize,
-)
-    requires started { Started words.now list.now starts.now }
-    requires chained { Chained words.now list.now firsts.now nexts.now }
-    requires given { Given words.now list.now bindings.now names }
-    requires copies_value { copies ≡ first_copy (table_of words.now list.now) }
-    requires counted { Counted words.now list.now 0 definitions.old counter }
-    requires deepest_value { deepest ≡ levels (table_of words.now list.now) }
-    requires list_in_bounds { length (written_nodes (table_of words.now list.now)) ≤ length nodes.old }
-    ensures nodes_after { nodes.new ≡ overwrite nodes.old 0 (written_nodes (table_of words.now list.now)) }
-    ensures definitions { Definitions (table_of words.now list.now) definitions.new }
-{
-    let n = words.len() / formula::WIDTH;
-    let first = n - root_blocks(words, list) as usize;
+    let counter = NameCounter {
+        next: found.highest + 1,
+    };
+    let names = counter.take_run(found.counts.bound);
+    let copies = names.counter.take_run(found.counts.inner_bound);
+    let n = found.words.len() / formula::WIDTH;
+    let first = n - root_blocks(found.words, found.list) as usize;
     first_nodes::write_first(
         nodes,
-        words,
-        list,
-        bindings,
-        names,
-        definitions,
-        counter,
+        found.words,
+        found.list,
+        found.bindings,
+        names.name,
+        &mut definitions,
+        copies.counter,
         first,
     );
-    matrix_writer::write_levels(
-        words,
-        list,
-        nodes,
-        firsts,
-        nexts,
-        starts,
-        names,
-        copies,
-        definitions,
-        first,
-        deepest,
-    );
+    let blocks = Blocks {
+        words: found.words,
+        list: found.list,
+        starts: found.starts,
+        firsts: found.firsts,
+        nexts: found.nexts,
+        names: names.name,
+        copies: copies.name,
+        definitions: &definitions,
+    };
+    let count = found.counts.blocks as usize;
+    let deepest = found.counts.deepest as usize;
+    matrix_writer::write_levels(&blocks, nodes, first, deepest);
+    prefix_writer::write_prefix(&blocks, prefix, variables, count, deepest);
 }
 
 // 1 if the root is a block, else 0.

@@ -1,7 +1,6 @@
--- `matrix_writer::write_levels` meets its contract. The loop's invariant, `Levelled`: the first j levels are written. The measure is how many are left.
+-- `matrix_writer::write_levels` meets its contract. The loop's invariant, `Levelled`: the first j levels are written.
 -- Assumes nothing.
 use native.Mathlib.Omega.{arith}
-use borrow.Author.Rules.{rules}
 use Rattle.matrix_writer.proofs.Blocks.{table_whole, kept_positive_of}
 use Rattle.matrix_writer.proofs.Levels.{levelled_none, level_room, levelled_next, levelled_all, root_quantifier}
 use Rattle.matrix_writer.proofs.write_levels.Goals as goal
@@ -9,32 +8,26 @@ use Rattle.matrix_writer.proofs.write_levels.Goals as goal
 -- with all levels passed, all are written
 pub returns : goal.returns
 returns c =
-    let i = c.loop-j.invariant in
-    levelled_all i.1 (omega (arith, i.0, c.loop-j-test.false, c.requires.deepest_value))
+    levelled_all c.loop-j.invariant (omega (arith, c.loop-j-test.false, c.requires.deepest_value))
 
-pub overflow_sub-words : goal.overflow_sub-words
-overflow_sub-words c = omega (arith, table_whole _ _ c.requires.block_arrays.starts_held.checked)
+pub overflow_sub-blocks : goal.overflow_sub-blocks
+overflow_sub-blocks c = omega (arith, table_whole _ _ c.args.blocks.now.started.checked)
 
 pub node_at-root-requires : goal.node_at-root-requires
-node_at-root-requires c = omega (arith, table_whole _ _ c.requires.block_arrays.starts_held.checked)
+node_at-root-requires c = omega (arith, table_whole _ _ c.args.blocks.now.started.checked)
 
 pub loop-j-init : goal.loop-j-init
-loop-j-init c = (search rules, levelled_none _ _ _ c.requires.first_value (root_quantifier _ _ c.node_at-root.ensures))
+loop-j-init c = levelled_none _ _ _ c.requires.first_value (root_quantifier _ _ c.node_at-root.ensures)
 
 pub write_level-next-requires : goal.write_level-next-requires
 write_level-next-requires c =
-    let d = c.loop-j.invariant.1 in record {
-      block_arrays = c.requires.block_arrays;
-      chained = c.requires.chained;
+    let d = c.loop-j.invariant in record {
       level_kind = record { below = omega (arith, c.loop-j-test.true, c.requires); quantifier_is = d.quantifier_is };
-      at_nonzero = omega (arith, kept_positive_of _ _ c.requires.block_arrays.starts_held.checked, d.wrote_added.next_is);
+      at_nonzero = omega (arith, kept_positive_of _ _ c.args.blocks.now.started.checked, d.wrote_added.next_is);
       room = level_room d _ _ c.requires.first_value c.requires.room c.loop-j-test.true;
     }
 
 pub loop-j-preserved : goal.loop-j-preserved
 loop-j-preserved c =
-    let d = c.loop-j.invariant.1 in
-    (search rules, levelled_next d _ _ _ c.write_level-next.ensures c.dual_kind-kind.ensures c.write_level-next.auto.nodes (level_room d _ _ c.requires.first_value c.requires.room c.loop-j-test.true))
-
-pub shape_of-nodes : goal.shape_of-nodes
-shape_of-nodes c = c.loop-j.invariant.1.long
+    let d = c.loop-j.invariant in
+    levelled_next d _ _ _ c.write_level-next.ensures c.dual_kind-kind.ensures c.write_level-next.auto.nodes (level_room d _ _ c.requires.first_value c.requires.room c.loop-j-test.true)

@@ -5,20 +5,19 @@ use mathlib.Core.List.{[], ◌∷◌}
 use Prim.Native.Nat.{◌+◌}
 use native.Mathlib.Omega.{arith}
 use lib.ListN.{length}
-use Rattle.formula.specs.Words.{table_of}
+use Rattle.arrays.specs.Blocks.{table}
 use Rattle.prenex_form.specs.Matrix.{constraint, further}
 use Rattle.matrix_writer.proofs.Levels.{length_further_one, wrote_further}
 use Rattle.matrix_writer.proofs.write_next.Goals.{Start}
 use Rattle.matrix_writer.proofs.write_next.Goals as goal
 
 -- the nodes of one more block
-longer : (c : Start) → length (further (table_of c.args.words.now c.args.list.now) (c.args.i ∷ []) c.args.at) ≡ length (constraint (table_of c.args.words.now c.args.list.now) c.args.i c.args.at) + 1
+longer : (c : Start) → length (further (table c.args.blocks.now) (c.args.i ∷ []) c.args.at) ≡ length (constraint (table c.args.blocks.now) c.args.i c.args.at) + 1
 longer c = length_further_one _ _ _
 
 pub write_constraint-end-requires : goal.write_constraint-end-requires
 write_constraint-end-requires c =
     record {
-      block_arrays = c.requires.block_arrays;
       inner_block = c.requires.inner_block;
       room = omega (arith, longer (goal.at.write_constraint-end-requires c).Start);
     }

@@ -8,9 +8,6 @@ use Rattle.prefix_writer.proofs.write_block.Goals as goal
 pub write_variables-count-requires : goal.write_variables-count-requires
 write_variables-count-requires c =
     let p = c.requires in record {
-      started = p.started;
-      named = p.named;
-      chained = p.chained;
       j_bound = p.j_bound;
       j_in_bounds = tail_room c.args.variables.now _ _ _ refl p.j_in_bounds;
     }

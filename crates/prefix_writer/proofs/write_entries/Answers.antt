@@ -2,33 +2,27 @@
 -- Assumes nothing.
 use mathlib.Core.Path.{◌∙◌, sym}
 use native.Mathlib.Omega.{arith}
-use Rattle.prefix_writer.specs.Held.{held}
-use Rattle.prefix_writer.proofs.Names.{node_lt, count_le, held_length}
+use Rattle.prefix_writer.proofs.Names.{node_below, node_lt, count_le, held_is, held_length}
 use Rattle.prefix_writer.proofs.write_entries.Goals as goal
 
-pub bounds-starts-i : goal.bounds-starts-i
-bounds-starts-i c = let p = c.requires in omega (arith, p.started.starts_long, node_lt _ _ _ p.started _ p.i_bound.0)
+pub count_at-count-requires : goal.count_at-count-requires
+count_at-count-requires c = node_below c.args.blocks.now _ c.requires.i_bound.0
 
-pub overflow_cast-starts : goal.overflow_cast-starts
-overflow_cast-starts c = omega (arith, c.type_inv.starts c.args.i)
+pub offset_bounds-blocks-i : goal.offset_bounds-blocks-i
+offset_bounds-blocks-i c = omega (arith, node_lt c.args.blocks.now _ c.requires.i_bound.0)
 
-pub overflow_add-first : goal.overflow_add-first
-overflow_add-first c = omega (arith, c.type_inv.starts c.args.i, c.requires.i_bound.1)
+pub bounds-blocks-i : goal.bounds-blocks-i
+bounds-blocks-i c = let b = c.args.blocks.now in omega (arith, b.started.starts_long, node_lt b _ c.requires.i_bound.0)
 
 pub write_numbers-requires : goal.write_numbers-requires
 write_numbers-requires c =
+    let b = c.args.blocks.now in
     let p = c.requires in
-    let a = c.args in
-    let n = c.count_at-count.ensures in (
-      omega (arith, n, p.i_bound.1, c.type_inv.starts a.i, count_le _ _ _ p.started _ p.i_bound.0),
-      omega (arith, n, p.i_in_bounds, held_length a.words.now a.starts.now a.first a.i),
-    )
+    let n = c.count_at-count.ensures in
+    omega (arith, n, p.i_bound.1, p.i_in_bounds, count_le b _ p.i_bound.0, held_length b _ p.i_bound.0 c.args.first)
 
-pub returns : goal.returns
-unfolding held
-returns c =
-    let a = c.args in
-    let n = c.count_at-count.ensures in record {
-      out_after = rw (← n) c.write_numbers.ensures;
-      value = n ∙ sym (held_length a.words.now a.starts.now a.first a.i);
-    }
+pub returns-clause-out_after : goal.returns-clause-out_after
+returns-clause-out_after c = rw (← held_is c.args.blocks.now _ c.requires.i_bound.0 c.args.first, ← c.count_at-count.ensures) c.write_numbers.ensures
+
+pub returns-clause-value : goal.returns-clause-value
+returns-clause-value c = c.count_at-count.ensures ∙ sym (held_length c.args.blocks.now _ c.requires.i_bound.0 c.args.first)

@@ -1,13 +1,8 @@
--- `prefix_writer::write_prefix` meets its contract. The loop's invariant: the blocks before block j are written. The
--- measure is how many levels are left.
+-- `prefix_writer::write_prefix` meets its contract. The loop's invariant: the blocks before block j are written.
 -- Assumes nothing.
-use Prim.Native.Nat.{suc, ◌-◌}
-use Rattle.formula.specs.Words.{table_of}
+use Rattle.arrays.specs.Blocks.{table}
 use Rattle.prefix_writer.proofs.Prefix.{Written}
 use Rattle.prefix_writer.proofs.write_prefix.Given as goal
 
 abbrev pub invariant-loop-j : goal.invariant-loop-j
-invariant-loop-j l = Written (table_of l.words l.list) l.initial.prefix l.prefix l.initial.variables l.variables l.at l.j l.kind
-
-abbrev pub decreases-loop-j : goal.decreases-loop-j
-decreases-loop-j l = suc l.level_count - l.j
+invariant-loop-j l = Written (table l.blocks) l.initial.prefix l.prefix l.initial.variables l.variables l.at l.j l.kind

@@ -1,9 +1,9 @@
 -- `prenex::lift_accepted` meets its contract.
 -- Assumes nothing.
-use mathlib.Core.Path.{ap}
+use mathlib.Core.Path.{refl, ap}
 use Rattle.prenex_form.proofs.Theorem.{sizes_written}
 use Rattle.prenex_form.specs.declared.Sizes.{Sizes}
-use Rattle.arrays.specs.Held.{Placed}
+use Rattle.lists.proofs.Stores.{get_or-filled}
 use Rattle.formula.specs.Words.{table_of}
 use Rattle.prenex.specs.Arrays.{Room}
 use Rattle.prenex.specs.Outcome.{buffers}
@@ -29,27 +29,16 @@ returns-then-variables-sizes c =
     let e = ap (λ (z : Sizes). z.entries) c.sizes_of-sizes.ensures in
     lifted_short c.args.words.now c.args.list.now c.requires (buffers c.args.nodes.now c.args.prefix.now c.args.variables.now) (short_variables (table_of c.args.words.now c.args.list.now) (buffers c.args.nodes.now c.args.prefix.now c.args.variables.now) (omega (arith, m.entries_measured, e, c.if-variables-sizes.true))) _ c.short-then-variables-sizes.ensures
 
+pub chain_levels-requires-clause-cleared : goal.chain_levels-requires-clause-cleared
+chain_levels-requires-clause-cleared c = record { firsts_length = refl; nexts_length = refl; firsts_clear = λ l. get_or-filled 4096 l 0 }
+
 pub write_form-requires : goal.write_form-requires
 write_form-requires c =
     let m = sizes_written (table_of c.args.words.now c.args.list.now) in
-    let z = c.sizes_of-sizes.ensures in
-    let room : Room c.args.words.now c.args.list.now c.args.nodes.now c.args.prefix.now c.args.variables.now =
-    record {
+    let z = c.sizes_of-sizes.ensures in record {
       nodes_fit = omega (arith, m.nodes_measured, ap (λ (z : Sizes). z.nodes) z, c.if-nodes-sizes.false);
       prefix_fits = omega (arith, m.blocks_measured, ap (λ (z : Sizes). z.blocks) z, c.if-prefix-sizes.false);
       variables_fit = omega (arith, m.entries_measured, ap (λ (z : Sizes). z.entries) z, c.if-variables-sizes.false);
-    } in
-    let a : Placed c.args.words.now c.args.list.now _ _ =
-    record {
-      parents_length = c.fill_scopes-pass.auto.parents;
-      levels_length = c.fill_scopes-pass.auto.levels;
-      parents_hold = c.fill_scopes-pass.ensures.parents;
-      levels_hold = c.fill_scopes-pass.ensures.levels;
-    } in record {
-      list_value = c.requires;
-      placed = a;
-      block_counts = c.fill_scopes-pass.ensures.counts;
-      room = room;
     }
 
 pub returns : goal.returns
