@@ -159,7 +159,7 @@ fn put_gate(nodes: &[u32], literals: &[u32], i: usize, text: &mut [u8], at: usiz
     }
     match qcir_rows::shape_at(nodes, i) {
         Shape::Name(_) => at,
-        Shape::Row { row, left, right } => {
+        Shape::Row { left, right, row } => {
             let l = literals[left as usize];
             let m = literals[right as usize];
             put_row(row, own / 2, l, m, text, at)

@@ -49,7 +49,7 @@ fn fill_node(nodes: &[u32], literals: &mut [u32], i: usize, gate: u32) -> u32
             literals[i] = 2 * x;
             gate
         }
-        Shape::Row { row, left, right } => {
+        Shape::Row { left, right, row } => {
             let l = literals[left as usize];
             let m = literals[right as usize];
             literals[i] = row_literal(row, gate, l, m);

@@ -62,7 +62,7 @@ fn mark_node(nodes: &[u32], marks: &mut [u32], names: &mut [u8], i: usize, highe
     }
     match qcir_rows::shape_at(nodes, i) {
         Shape::Name(x) => name_flags::flag_name(names, x, highest),
-        Shape::Row { row, left, right } => {
+        Shape::Row { left, right, row } => {
             mark_operands(marks, row.kind, left as usize, right as usize);
             highest
         }

@@ -69,7 +69,7 @@ module _ (nodes most : ℕ) (ns : List ℕ) (ok : AcceptedWithin (matrix_within 
       go (formed_exists e b) = clash b refl
       go (formed_for_all e b) = clash b refl
 
-  pub shape_operator : w.kind ≡ 4 → (r : Row) → row_meant r ≡ row w.a → ShapeFor (node_at ns [] i) (shape.Row r w.b w.c)
+  pub shape_operator : w.kind ≡ 4 → (r : Row) → row_meant r ≡ row w.a → ShapeFor (node_at ns [] i) (shape.Row w.b w.c r)
   shape_operator k r e = rw (node_is, of_operator w k, e) (operator_node w.a w.b w.c)
 
   -- a not node

@@ -23,7 +23,7 @@ row_meant r = record { kind = kind_meant r.kind; left = r.left; right = r.right;
 
 -- A shape with at most one operand, the left one.
 abbrev pub leaf_shape : RowKind → Bool → ℕ → Shape
-leaf_shape kind whole left = Row (record { kind = kind; left = false; right = false; whole = whole }) left 0
+leaf_shape kind whole left = Row left 0 (record { kind = kind; left = false; right = false; whole = whole })
 
 -- A node is written by the row over these operands: a constant by one of the two constant rows, a not node as its operand with a minus
 -- sign. A matrix has no blocks.
@@ -35,4 +35,4 @@ pub data RowFor : Node → OperatorRow → ℕ → ℕ → Type 0 where
 -- How a node is written: a variable by its name, any other node by a row over its operands.
 abbrev pub ShapeFor : Node → Shape → Type 0
 ShapeFor nd (Name x) = nd ≡ variable x
-ShapeFor nd (Row r a b) = RowFor nd (row_meant r) a b
+ShapeFor nd (Row a b r) = RowFor nd (row_meant r) a b

@@ -64,11 +64,12 @@ pub fn row_of(table: usize) -> Row
     }
 }
 
-// How a node is written: a name, or a row over its operands.
+// How a node is written: a name, or a row over its operands. The row stands last, so that in memory a name lies over an
+// operand: over the four bytes of the row it made the passes over a matrix slower.
 #[derive(Clone, Copy)]
 pub enum Shape {
     Name(u32),
-    Row { row: Row, left: u32, right: u32 },
+    Row { left: u32, right: u32, row: Row },
 }
 
 // How node i of a matrix is written. A not node is the left operand with a minus sign, a constant one of
@@ -81,9 +82,9 @@ pub fn shape_at(nodes: &[u32], i: usize) -> Shape
     let node = formula::node_at(nodes, i);
     match node.kind {
         OPERATOR => Shape::Row {
-            row: row_of(node.a as usize),
             left: node.b,
             right: node.c,
+            row: row_of(node.a as usize),
         },
         NEGATION => leaf(RowKind::Left, true, node.a),
         VARIABLE => Shape::Name(node.a),
@@ -102,8 +103,8 @@ fn leaf(kind: RowKind, whole: bool, left: u32) -> Shape
         whole,
     };
     Shape::Row {
-        row,
         left,
         right: 0,
+        row,
     }
 }
