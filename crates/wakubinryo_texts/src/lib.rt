@@ -55,10 +55,7 @@ pub extern "C" fn wakubinryo_lift_text_in(
 {
     let asked = text_answers::format_of(format);
     match asked {
-        Some(f) => text_answers::put_lift(
-            answer,
-            lift_text::lift_text_in(text, f, nodes, out),
-        ),
+        Some(f) => text_answers::put_lift(answer, lift_text::lift_text_in(text, f, nodes, out)),
         None => text_answers::put_lift(answer, text_answers::unknown_format()),
     }
 }
