@@ -8,7 +8,7 @@
 // that no walk takes more steps, and nothing is ever cleared.
 #![tactic(auto)]
 
-ghost use Rattle.std.specs.Prelude.{true, ◌≡◌, ◌+◌, ◌-◌, ◌%◌, ◌≤◌, ◌<◌, length, get_or, set};
+ghost use Rattle.std.specs.Prelude.{true, false, ◌≡◌, ◌+◌, ◌-◌, ◌%◌, ◌≤◌, ◌<◌, length, get_or, set};
 ghost use Rattle.lists.specs.Members.{mem};
 ghost use Rattle.formula.specs.Words.{range};
 ghost use Rattle.acceptance.specs.Limits.{limit};
@@ -18,7 +18,7 @@ ghost use Rattle.range_check.specs.Chains.{good_range, buckets, Ready, Chains, C
 use acceptance::LIMIT;
 
 // Entries are chained by the remainders that their variables leave by this.
-const BUCKETS: usize = 1024;
+pub const BUCKETS: usize = 1024;
 
 // Variables are numbered from 1 to this.
 const HIGHEST_VARIABLE: u32 = 65535;
@@ -33,8 +33,8 @@ pub fn is_number(x: u32) -> bool
 // The entries that blocks cover, chained.
 #[derive(Drop)]
 pub struct EntryChains {
-    heads: [u16; BUCKETS],
-    prevs: [u16; LIMIT],
+    pub heads: [u16; BUCKETS],
+    pub prevs: [u16; LIMIT],
     // how many entries the blocks so far cover
     pub entries: usize,
 }
@@ -57,6 +57,7 @@ impl EntryChains {
         requires ready { Ready self.old }
         ensures value { result ≡ good_range list.now first count }
         ensures entries { result ≡ true → self.new.entries ≡ self.old.entries + count }
+        ensures refused { result ≡ false → self.new.entries ≡ self.old.entries }
         ensures ready_2 { result ≡ true → Ready self.new }
     {
         let before = self.entries;
@@ -76,6 +77,7 @@ impl EntryChains {
         requires chains { Chains list.now self.old.heads self.old.prevs before first k }
         ensures value { result ≡ is_new list.now first k }
         ensures chains_2 { result ≡ true → Chains list.now self.new.heads self.new.prevs before first (k + 1) }
+        ensures entries { self.new.entries ≡ self.old.entries }
     {
         let x = list[first + k];
         if !is_number(x) {
@@ -111,6 +113,7 @@ impl EntryChains {
         requires heads_len { (length self.old.heads ≡ buckets) × (length self.old.prevs ≡ limit) }
         ensures heads_after { self.new.heads ≡ set self.old.heads (x % buckets) (e + 1) }
         ensures prevs_after { self.new.prevs ≡ set self.old.prevs e (get_or self.old.heads (x % buckets) 0) }
+        ensures entries { self.new.entries ≡ self.old.entries }
     {
         let h = x as usize % BUCKETS;
         let head = self.heads[h];

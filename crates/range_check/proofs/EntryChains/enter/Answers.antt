@@ -18,6 +18,7 @@ returns-then-not-is_number c =
     let no : is_number (get_or a.list.now (a.first + a.k) 0) ≡ false = sym c.is_number.ensures ∙ c.if-not-is_number.true in record {
       value = rw no;
       chains_2 = λ t. clash t refl;
+      entries = refl;
     }
 
 -- Past the first test, the entry is a variable number.
@@ -37,6 +38,7 @@ returns-then-in_chain c =
     let p = c.requires in record {
       value = sym (ap not c.if-in_chain.true) ∙ new_is _ _ _ _ _ _ p.k_bound.0 p.k_bound.1 p.chains _ (number (goal.at.returns-then-in_chain c).Else-not-is_number) c.in_chain.ensures;
       chains_2 = λ t. clash t refl;
+      entries = refl;
     }
 
 pub returns : goal.returns
@@ -45,4 +47,5 @@ returns c =
     let r = c.push.ensures in record {
       value = sym (ap not c.if-in_chain.false) ∙ new_is _ _ _ _ _ _ p.k_bound.0 p.k_bound.1 p.chains _ (number (goal.at.returns c).Else-not-is_number) c.in_chain.ensures;
       chains_2 = λ t. rw (r.heads_after, r.prevs_after) (chains_more _ _ _ _ _ _ p.k_bound.0 p.k_bound.1 p.chains);
+      entries = r.entries;
     }

@@ -6,4 +6,4 @@ use Rattle.range_check.specs.Chains.{good_range, Chains}
 use Rattle.range_check.proofs.EntryChains.good_range.Given as goal
 
 abbrev pub invariant-loop-k : goal.invariant-loop-k
-invariant-loop-k l = (good_range l.list l.first l.k ≡ true) × Chains l.list l.self.heads l.self.prevs l.before l.first l.k
+invariant-loop-k l = (good_range l.list l.first l.k ≡ true) × Chains l.list l.self.heads l.self.prevs l.before l.first l.k × (l.self.entries ≡ l.before)

@@ -8,4 +8,5 @@ returns c =
     record {
       heads_after = refl;
       prevs_after = refl;
+      entries = refl;
     }
