@@ -10,6 +10,8 @@ use lib.Dec.{eqb, leb, ltb}
 use lib.ListN.{length, get_or, set, take, drop, drop_of_length-le, length-set}
 use lib.Seq.{drop-cons}
 use borrow.Author.Tests.{eq-eqb, ne_eqb, ltb-false, lt-ltb, le-ltb, leb-true, not-true}
+use Rattle.std.specs.Prelude.{Result, IfOk}
+use Rattle.std.proofs.lemmas.Result.{IfOk-weaker}
 use Rattle.lists.specs.Choice.{pick_yes, pick_no, Is, is_true, is_false, look, and_right, and_off_left}
 use Rattle.lists.specs.Search.{lowest}
 use Rattle.lists.specs.Members.{mem, all, maximum}
@@ -24,6 +26,7 @@ use Rattle.acceptance.specs.Verdict.{is_number_to, range_past_end}
 use Rattle.form_check.specs.Verdict.{form_limits, repeats, names_before, bad_block, prefix_verdict}
 use Rattle.form_check.specs.Accepted.{prefix_names}
 use Rattle.form_check.specs.declared.BlockWords.{BlockWords}
+use Rattle.form_check.specs.declared.Malformed.{Malformed}
 use Rattle.form_check.specs.Steps.{NamesFlagged, new_name, new_names, pushed, block_words_at, fitting_block}
 use Rattle.form_check.proofs.Names.{names_next, names_are}
 
@@ -220,6 +223,14 @@ pub flags_bind : (ps xs bound : List ℕ) (highest : ℕ) → NamesFlagged (pref
     → (x : ℕ) → get_or bound x 0 ≡ digit (binds (blocks_of ps xs) x)
 flags_bind ps xs bound highest f x = f.flag_is x ∙ ap digit (binds_names (blocks_of ps xs) x)
 
+-- What the flags of an accepted prefix say, by the pass's answer.
+module _ (ps xs bound : List ℕ) (r : Result ℕ Malformed) (f : IfOk r (NamesFlagged (prefix_names (blocks_of ps xs)) bound)) where
+  pub passed_bind : IfOk r (λ _. (x : ℕ) → get_or bound x 0 ≡ digit (binds (blocks_of ps xs) x))
+  passed_bind = IfOk-weaker r (NamesFlagged (prefix_names (blocks_of ps xs)) bound) _ (flags_bind ps xs bound) f
+
+  pub passed_highest : IfOk r (λ highest. highest ≡ maximum (prefix_names (blocks_of ps xs)))
+  passed_highest = IfOk-weaker r (NamesFlagged (prefix_names (blocks_of ps xs)) bound) _ (λ highest n. n.highest_is) f
+
 -- The verdict on a prefix, by its pass.
 module _ (ps xs : List ℕ) where
   abbrev ragged : Bool
@@ -235,8 +246,8 @@ module _ (ps xs : List ℕ) where
   prefix_bad whole j l first_is = rw first_is (sym (pick_no _ _ _ whole ∙ pick_yes _ _ _ (lt-ltb _ _ (rw first_is at l))))
 
   pub prefix_passed : ragged ≡ false → ((j : ℕ) → j < length ps / prefix_width → bad_block form_limits ps xs j ≡ false)
-      → refusal 0 0 ≡ prefix_verdict form_limits ps xs
-  unfolding prefix_verdict refusal accepted
+      → accepted ≡ prefix_verdict form_limits ps xs
+  unfolding prefix_verdict
   prefix_passed whole good =
       sym (pick_no _ _ _ whole ∙ pick_no _ _ _ (le-ltb _ _ (omega (arith, lowest_none (bad_block form_limits ps xs) (length ps / prefix_width) good))))
 

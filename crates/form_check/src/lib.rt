@@ -2,12 +2,11 @@
 // matrix, 15 the prefix).
 #![tactic(auto)]
 
-ghost use Rattle.std.specs.Prelude.{true, false, not, List, [], ◌∷◌, ◌≡◌, ℕ, ◌+◌, ◌/◌, ◌<◌, max, length, get_or, MatchOption};
+ghost use Rattle.std.specs.Prelude.{true, false, not, List, [], ◌∷◌, ◌≡◌, ℕ, ◌+◌, ◌/◌, ◌<◌, max, length, get_or, MatchOption, IfOk};
 ghost use Rattle.lists.specs.Search.{lowest};
 ghost use Rattle.lists.specs.Members.{maximum};
 ghost use Rattle.formula.specs.Form.{prefix_width, blocks_of, binds};
 ghost use Rattle.formula.specs.Truth.{digit};
-ghost use Rattle.refusals.specs.Verdict.{refusal};
 ghost use Rattle.form_check.specs.Verdict.{
   form_limits,
   names_before,
@@ -16,6 +15,7 @@ ghost use Rattle.form_check.specs.Verdict.{
   form_verdict,
 };
 ghost use Rattle.form_check.specs.Accepted.{prefix_names};
+ghost use Rattle.form_check.specs.Answer.{verdict_of};
 ghost use Rattle.form_check.specs.Steps.{
   NamesFlagged,
   new_name,
@@ -24,8 +24,6 @@ ghost use Rattle.form_check.specs.Steps.{
   block_words_at,
   fitting_block,
 };
-
-use refusals::{ACCEPTED, MALFORMED_MATRIX, MALFORMED_PREFIX};
 
 // The most nodes of a matrix, and how many flags there are for names: one for each number up to the
 // highest, 77,823, and one for 0.
@@ -36,74 +34,56 @@ pub const NAMES: usize = 77824;
 // The words of a prefix block: its kind, where its names start in the list, and how many there are.
 pub const PREFIX_WIDTH: usize = 3;
 
-// The number of a refusal (0: accepted), and its node or block. A prefix may have more blocks than 32
-// bits count, if they are empty.
-#[derive(Clone, Copy)]
-pub struct FormVerdict {
-    pub number: u32,
-    pub position: u64,
-}
-
-// The verdict, and the highest name in the prefix (0 if it has none).
-#[derive(Clone, Copy)]
-pub struct Checked {
-    pub verdict: FormVerdict,
-    pub highest: u32,
+// Why a form is refused: the node of its matrix (14) or the block of its prefix (15) that is at fault. A
+// prefix may have more blocks than 32 bits count, if they are empty.
+#[derive(Clone, Copy, PartialEq, Eq)]
+pub enum Malformed {
+    Matrix(usize),
+    Prefix(usize),
 }
 
 // Refuses a form by request S-5's refusals 14 and 15, in that order, or accepts it. Of an accepted form
-// `bound` then holds which names stand in the prefix, and `highest` is the highest of them.
+// `bound` then holds which names stand in the prefix, and the result is the highest of them (0 if there
+// is none).
 //
 // The contract rules out a checker that tests the prefix first, one that lets a name stand in two
 // blocks, and one that passes over an empty block whose range starts past the list's end.
-pub fn check(nodes: &[u32], prefix: &[u32], variables: &[u32], bound: &mut [u8]) -> Checked
+pub fn check(
+    nodes: &[u32],
+    prefix: &[u32],
+    variables: &[u32],
+    bound: &mut [u8],
+) -> Result<u32, Malformed>
     requires bound_len { length bound.old ≡ 77824 }
     requires by_index { (x : ℕ) → get_or bound.old x 0 ≡ 0 }
-    ensures verdict { refusal result.verdict.number result.verdict.position
-        ≡ form_verdict nodes.now prefix.now variables.now }
-    ensures bound { result.verdict.number ≡ 0
-        → (x : ℕ) → get_or bound.new x 0 ≡ digit (binds (blocks_of prefix.now variables.now) x) }
-    ensures highest { result.verdict.number ≡ 0
-        → result.highest ≡ maximum (prefix_names (blocks_of prefix.now variables.now)) }
+    ensures verdict { verdict_of result ≡ form_verdict nodes.now prefix.now variables.now }
+    ensures bound { IfOk result (λ _. (x : ℕ)
+        → get_or bound.new x 0 ≡ digit (binds (blocks_of prefix.now variables.now) x)) }
+    ensures highest { IfOk result
+        (λ highest. highest ≡ maximum (prefix_names (blocks_of prefix.now variables.now))) }
 {
     if let Err(position) = matrix_check::check(nodes) {
-        let verdict = refused(MALFORMED_MATRIX, position);
-        return Checked {
-            verdict,
-            highest: 0,
-        };
+        return Err(Malformed::Matrix(position));
     }
     check_prefix(prefix, variables, bound)
 }
 
-fn refused(number: u32, position: usize) -> FormVerdict
-    ensures { (result.number ≡ number) × (result.position ≡ position) }
-{
-    FormVerdict {
-        number,
-        position: position as u64,
-    }
-}
-
-// Refusal 15. Of a prefix that it does not apply to, the names are then flagged.
-fn check_prefix(prefix: &[u32], variables: &[u32], bound: &mut [u8]) -> Checked
+// Refusal 15. Of a prefix that it does not apply to, the names are then flagged, and the result is the
+// highest of them.
+fn check_prefix(prefix: &[u32], variables: &[u32], bound: &mut [u8]) -> Result<u32, Malformed>
     requires { NamesFlagged [] bound.old 0 }
-    ensures position_value { refusal result.verdict.number result.verdict.position
-        ≡ prefix_verdict form_limits prefix.now variables.now }
-    ensures names_flagged { result.verdict.number ≡ 0
-        → NamesFlagged (prefix_names (blocks_of prefix.now variables.now)) bound.new result.highest }
+    ensures verdict { verdict_of result ≡ prefix_verdict form_limits prefix.now variables.now }
+    ensures names_flagged { IfOk result
+        (λ highest. NamesFlagged (prefix_names (blocks_of prefix.now variables.now)) bound.new highest) }
 {
-    let mut highest: u32 = 0;
     if prefix.len() % PREFIX_WIDTH != 0 {
-        let verdict = refused(MALFORMED_PREFIX, 0);
-        return Checked { verdict, highest };
+        return Err(Malformed::Prefix(0));
     }
-    if let Some(j) = first_bad(prefix, variables, bound, &mut highest) {
-        let verdict = refused(MALFORMED_PREFIX, j);
-        return Checked { verdict, highest };
+    let mut highest: u32 = 0;
+    match first_bad(prefix, variables, bound, &mut highest) {
+        Some(j) => Err(Malformed::Prefix(j)),
+        None => Ok(highest),
     }
-    let verdict = refused(ACCEPTED, 0);
-    Checked { verdict, highest }
 }
 
 // The first block at fault, if there is one. Where there is none, the names of all are flagged.

@@ -10,18 +10,22 @@ use borrow.Author.Tests.{eqb-true, eqb-false, ltb-true, ltb-false}
 use Rattle.lists.specs.Choice.{Is, is_true, is_false, look}
 use Rattle.lists.proofs.Overwrite.{start_of}
 use Rattle.refusals.specs.Verdict.{refusal, accepted}
-use Rattle.refusals.specs.Outcome.{Outcome, done, refused}
+use Rattle.refusals.specs.Outcome.{AnswerWith, Outcome, done, refused}
 use Rattle.refusals.specs.declared.Verdict.{Verdict}
 use Rattle.refusals.proofs.Outcome.{call_refused, call_room, call_short}
 use Rattle.form_check.specs.Verdict.{form_verdict}
 use Rattle.form_check.specs.Accepted.{AcceptedForm}
+use Rattle.form_check.specs.Answer.{refusal_of}
+use Rattle.form_check.specs.declared.Malformed.{Malformed}
+use Rattle.form_check.specs.declared.Malformed.TheVariants.{Matrix, Prefix}
 use Rattle.form_check.specs.Order.{FirstOfForm, matrix, ragged, bad, none}
 use Rattle.form_check.proofs.Order.{form_order}
 use Rattle.acceptance.specs.Limits.{TableLimits}
 use Rattle.form_check.proofs.Accepted.{form_holds, holds_form, number_zero}
 use Rattle.texts.specs.Put.{Put}
-use Rattle.form_texts.specs.Writing.{text_outcome, after, Written, Suffices}
-use Rattle.form_texts.proofs.Texts.{written, roomy, text_refused, text_accepted, counted_short, counted_done}
+use Rattle.form_texts.specs.declared.Answer.{Answer}
+use Rattle.form_texts.specs.Writing.{text_outcome, answer_of, after, Written, Suffices}
+use Rattle.form_texts.proofs.Texts.{written, roomy, text_accepted, counted_short, counted_done}
 
 -- No form is refused by 9.
 not_nine : (lim : TableLimits) (ns ps xs : List ℕ) (v : Verdict) → FirstOfForm lim ns ps xs v → v.number ≡ 9 → ⊥
@@ -31,13 +35,26 @@ not_nine lim ns ps xs _ (ragged e f) z = omega (arith, z)
 not_nine lim ns ps xs _ (bad w j l b k) z = omega (arith, z)
 not_nine lim ns ps xs _ (none w k) z = omega (arith, z)
 
+-- Every fault has a refusal's number.
+not_zero : (fault : Malformed) → (refusal_of fault).number ≡ 0 → ⊥
+unfolding refusal
+not_zero (Matrix i) z = omega (arith, z)
+not_zero (Prefix j) z = omega (arith, z)
+
 module _ (ns ps xs text before : List ℕ) where
   outcome : Outcome ℕ (List ℕ)
   outcome = text_outcome (form_verdict ns ps xs) text before
 
-  pub is_refused : (number position : ℕ) → refusal number position ≡ form_verdict ns ps xs → (number ≡ 0 → ⊥)
-      → after (record { number = number; position = position; bytes = 0 }) before ≡ text_outcome (form_verdict ns ps xs) text before
-  is_refused number position e n = text_refused text before (form_verdict ns ps xs) number position e n
+  -- a refusal leaves the buffer as it is
+  held : AnswerWith ℕ → Outcome ℕ (List ℕ)
+  held a = record { answer = a; buffers = before }
+
+  pub is_refused : (fault : Malformed) → refusal_of fault ≡ form_verdict ns ps xs → (r : Answer) → answer_of r ≡ refused (refusal_of fault) 0
+      → after r before ≡ text_outcome (form_verdict ns ps xs) text before
+  unfolding held text_outcome written roomy
+  is_refused fault e r a =
+      ap held (a ∙ ap (λ (v : Verdict). refused v 0) e)
+      ∙ sym (call_refused 0 before (roomy text before) (form_verdict ns ps xs) (λ z. not_zero fault (ap (λ (v : Verdict). v.number) e ∙ z)))
 
   pub lines_short : (part lent : List ℕ) (n : ℕ) → AcceptedForm ns ps xs → Put lent 0 text part n → length lent ≡ 0 → length before < n
       → after (record { number = 9; position = 0; bytes = 0 }) (part ++ before) ≡ text_outcome (form_verdict ns ps xs) text before

@@ -34,16 +34,10 @@ pub fn write(nodes: &[u32], prefix: &[u32], variables: &[u32], text: &mut [u8]) 
         (after result text.new) }
 {
     let mut names = [0u8; NAMES];
-    let checked = form_check::check(nodes, prefix, variables, &mut names);
-    let verdict = checked.verdict;
-    if verdict.number != ACCEPTED {
-        return Answer {
-            number: verdict.number,
-            position: verdict.position,
-            bytes: 0,
-        };
+    match form_check::check(nodes, prefix, variables, &mut names) {
+        Ok(highest) => write_accepted(nodes, prefix, variables, &mut names, highest, text),
+        Err(fault) => form_texts::refused(fault),
     }
-    write_accepted(nodes, prefix, variables, &mut names, checked.highest, text)
 }
 
 // The same of a form that is not refused. `names` holds which names the prefix binds, and `highest` is

@@ -6,11 +6,13 @@ use Prim.Native.Nat.{ℕ, ◌/◌, ◌<◌, ◌≤◌}
 use lib.ListN.{length}
 use Rattle.formula.specs.Words.{node_count}
 use Rattle.formula.specs.Form.{prefix_width}
-use Rattle.refusals.specs.Verdict.{refusal}
-use Rattle.refusals.specs.Outcome.{Outcome}
+use Rattle.refusals.specs.Outcome.{Outcome, refused}
 use Rattle.form_check.specs.Verdict.{form_verdict}
 use Rattle.form_check.specs.Accepted.{AcceptedForm}
-use Rattle.form_texts.specs.Writing.{after}
+use Rattle.form_check.specs.Answer.{refusal_of}
+use Rattle.form_check.specs.declared.Malformed.{Malformed}
+use Rattle.form_texts.specs.declared.Answer.{Answer}
+use Rattle.form_texts.specs.Writing.{answer_of, after}
 use Rattle.form_texts.proofs.Outcomes as outcomes
 use Rattle.texts.specs.Put.{Put}
 use Rattle.qdimacs_form.specs.Clauses.{clauses_text}
@@ -21,8 +23,8 @@ use Rattle.qdimacs_form.proofs.Theorem.{clauses_written}
 use Rattle.qdimacs_writer.specs.Writing.{write_outcome, ClausesWritten, RoomSuffices}
 
 module _ (ns ps xs before : List ℕ) where
-  pub is_refused : (number position : ℕ) → refusal number position ≡ form_verdict ns ps xs → (number ≡ 0 → ⊥)
-      → after (record { number = number; position = position; bytes = 0 }) before ≡ write_outcome ns ps xs before
+  pub is_refused : (fault : Malformed) → refusal_of fault ≡ form_verdict ns ps xs → (r : Answer) → answer_of r ≡ refused (refusal_of fault) 0
+      → after r before ≡ write_outcome ns ps xs before
   unfolding write_outcome
   is_refused = outcomes.is_refused ns ps xs (clauses_text ns ps xs) before
 
