@@ -15,31 +15,40 @@ ghost use Rattle.first_nodes.specs.Given.{Given, Counted, DefinedBelow};
 use formula::{EXISTS_BLOCK, VARIABLE};
 use names::NameCounter;
 
+// An accepted table, and what its variable nodes are renamed by.
+#[derive(Clone, Copy)]
+pub struct Renaming<'a> {
+    // The table.
+    pub words: &'a [u32],
+    pub list: &'a [u32],
+    // The entry that binds each variable node's number.
+    pub bindings: &'a [u16],
+    // The first new name.
+    pub names: u32,
+    ghost given: { Given words.now list.now bindings.now names },
+}
+
 // Writes the first nodes of the prenex form, of which there are `count`, and the definition variables
 // of the inner blocks to their array: a variable renamed, a block replaced by its definition variable,
 // and any other node as it is.
 pub fn write_first(
+    renaming: &Renaming,
     nodes: &mut [u32],
-    words: &[u32],
-    list: &[u32],
-    bindings: &[u16],
-    names: u32,
     definitions: &mut [u32],
     counter: NameCounter,
     count: usize,
 )
-    requires given { Given words.now list.now bindings.now names }
-    requires counted { Counted words.now list.now 0 definitions.old counter }
-    requires count_value_1 { count ≡ kept (table_of words.now list.now) }
+    requires counted { Counted renaming.now.words.now renaming.now.list.now 0 definitions.old counter }
+    requires count_value_1 { count ≡ kept (table_of renaming.now.words.now renaming.now.list.now) }
     requires count_value_2 { width * count ≤ length nodes.old }
-    ensures nodes_after { nodes.new ≡ overwrite nodes.old 0 (flat_map node_words (first_nodes (table_of words.now list.now))) }
-    ensures definitions { Definitions (table_of words.now list.now) definitions.new }
+    ensures nodes_after { nodes.new ≡ overwrite nodes.old 0 (flat_map node_words (first_nodes (table_of renaming.now.words.now renaming.now.list.now))) }
+    ensures definitions { Definitions (table_of renaming.now.words.now renaming.now.list.now) definitions.new }
 {
     let mut counter = counter;
     for i in 0..count {
-        let node = formula::node_at(words, i);
+        let node = formula::node_at(renaming.words, i);
         if node.kind == VARIABLE {
-            let name = new_name(words, list, bindings, names, i, node.a);
+            let name = new_name(renaming, i, node.a);
             formula::put_node(nodes, i, formula::variable_node(name));
         } else if node.kind >= EXISTS_BLOCK {
             let handed = counter.take();
@@ -53,15 +62,14 @@ pub fn write_first(
 }
 
 // The new name of the number x at variable node i.
-fn new_name(words: &[u32], list: &[u32], bindings: &[u16], names: u32, i: usize, x: u32) -> u32
-    requires given { Given words.now list.now bindings.now names }
-    requires i_bound_1 { i < node_count words.now }
-    requires i_bound_2 { node_at words.now list.now i ≡ variable x }
-    ensures { result ≡ new_name (table_of words.now list.now) i x }
+fn new_name(renaming: &Renaming, i: usize, x: u32) -> u32
+    requires i_bound_1 { i < node_count renaming.now.words.now }
+    requires i_bound_2 { node_at renaming.now.words.now renaming.now.list.now i ≡ variable x }
+    ensures { result ≡ new_name (table_of renaming.now.words.now renaming.now.list.now) i x }
 {
-    let entry = bindings[i] as u32;
+    let entry = renaming.bindings[i] as u32;
     if entry == 0 {
         return x;
     }
-    names + (entry - 1)
+    renaming.names + (entry - 1)
 }

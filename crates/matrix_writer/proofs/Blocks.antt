@@ -12,39 +12,21 @@ use Rattle.lists.specs.Choice.{pick, and_left}
 use Rattle.lists.specs.Parts.{sum, up_to}
 use Rattle.lists.proofs.Parts.{get_or-numbers, sum_grows, up_to_cong}
 use Rattle.formula.specs.Node.{Table, is_block}
-use Rattle.formula.specs.Words.{width, node_count, field, words_at, node_of, node_at, table_of}
-use Rattle.formula.specs.declared.NodeWords.{NodeWords}
-use Rattle.formula.specs.Form.{quantifier_of}
+use Rattle.formula.specs.Words.{width, node_count, field, table_of}
 use Rattle.formula.specs.Tree.{count, bound_below}
-use Rattle.formula.proofs.Nodes.{Kind, kind_of_lem, kind_constant, kind_variable, kind_negation, kind_operator, kind_exists, kind_for_all, kind_none, block_kind, node_block}
+use Rattle.formula.proofs.Nodes.{block_kind, node_block}
 use Rattle.refusals.specs.Verdict.{accepted}
 use Rattle.acceptance.specs.Verdict.{verdict}
 use Rattle.acceptance.specs.Accepted.{Accepted}
 use Rattle.acceptance.proofs.Accepted.{count_at_lem, count_block, accepted_holds}
 use Rattle.prenex_form.specs.Scope.{inner}
 use Rattle.prenex_form.specs.Names.{highest_number, first_name, new_names, bound_count, copies}
-use Rattle.prenex_form.specs.Levels.{quantifier_at}
 use Rattle.prenex_form.specs.Matrix.{kept, body_of, equation}
 use Rattle.prenex_form.proofs.Paths.{kept_positive}
 use Rattle.prenex_form.proofs.NameLaws.{copies_shift}
 use Rattle.arrays.specs.Held.{Starts, first_new, first_copy}
 use Rattle.matrix_writer.specs.Entries.{entry_nodes, entries_nodes}
 use Rattle.arrays.specs.Chains.{InnerBlock}
-
-quantifier_of_lem : (ls : List ℕ) (w : NodeWords) → Kind w.kind → quantifier_at (node_of ls w) ≡ quantifier_of w.kind
-unfolding node_of pick quantifier_at quantifier_of
-quantifier_of_lem ls w (kind_constant e) = rw e
-quantifier_of_lem ls w (kind_variable e) = rw e
-quantifier_of_lem ls w (kind_negation e) = rw e
-quantifier_of_lem ls w (kind_operator e) = rw e
-quantifier_of_lem ls w (kind_exists e) = rw e
-quantifier_of_lem ls w (kind_for_all e) = rw e
-quantifier_of_lem ls w (kind_none e1 e2 e3 e4 e5 e6) = rw (e1, e2, e3, e4, e5, e6)
-
--- the quantifier of a node is that of its kind
-pub quantifier_is : (ws ls : List ℕ) (i : ℕ) → quantifier_at ((table_of ws ls).node i) ≡ quantifier_of (field ws i 0)
-unfolding table_of node_at
-quantifier_is ws ls i = quantifier_of_lem ls (words_at ws i) (kind_of_lem (field ws i 0))
 
 pub size_is : (ws ls : List ℕ) → (table_of ws ls).size ≡ node_count ws
 unfolding table_of

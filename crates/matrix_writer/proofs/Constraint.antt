@@ -17,6 +17,7 @@ use Rattle.acceptance.proofs.Accepted.{accepted_holds}
 use Rattle.prenex_form.specs.Names.{highest_number, bound_count, definition_variable}
 use Rattle.prenex_form.specs.Levels.{quantifier_at}
 use Rattle.prenex_form.specs.Matrix.{body_of, equation, guard, constraint}
+use Rattle.prenex_form.proofs.Quantifiers.{quantifier_is}
 use Rattle.prenex_form.proofs.Limits.{highest_limit, bound_limit}
 use Rattle.prenex_form.proofs.Written.{length_constraint}
 use Rattle.matrix_writer.specs.Buffer.{with_nodes, Wrote}
@@ -26,7 +27,7 @@ use Rattle.arrays.specs.declared.Blocks.{Blocks}
 use Rattle.arrays.specs.Blocks.{table}
 use Rattle.matrix_writer.proofs.Buffer.{wrote, with_then}
 use Rattle.matrix_writer.proofs.Entries.{length_entries}
-use Rattle.matrix_writer.proofs.Blocks.{quantifier_is, size_is, body_is, count_is, count_some, entries_within, start_at, entries_are}
+use Rattle.matrix_writer.proofs.Blocks.{size_is, body_is, count_is, count_some, entries_within, start_at, entries_are}
 
 same_parts : {a a' b b' d d' : List Node} → a ≡ a' → b ≡ b' → d ≡ d' → a ++ (b ++ d) ≡ a' ++ (b' ++ d')
 same_parts p q r = rw (p, q, r)

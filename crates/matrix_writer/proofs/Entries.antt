@@ -10,10 +10,9 @@ use lib.ListN.{length, length-append}
 use borrow.Author.Tests.{eq-eqb, ne_eqb}
 use Rattle.lists.specs.Choice.{pick, pick_yes, pick_no}
 use Rattle.lists.specs.Parts.{up_to}
-use Rattle.formula.specs.Node.{Node, variable, operator, exists, for_all}
+use Rattle.formula.specs.Node.{Node, variable, operator}
 use Rattle.formula.specs.Words.{width}
-use Rattle.formula.specs.Form.{quantifier_of}
-use Rattle.prenex_form.specs.Matrix.{and, or, iff, implies, guard}
+use Rattle.prenex_form.specs.Matrix.{and, iff}
 use Rattle.matrix_writer.specs.Buffer.{Wrote}
 use Rattle.matrix_writer.specs.Entries.{entry_nodes, entries_nodes}
 use Rattle.matrix_writer.proofs.Buffer.{with_none, wrote_then}
@@ -26,14 +25,6 @@ module _ (x y at k : ℕ) where
   pub entry_later : (k ≡ 0 → ⊥) → entry_nodes x y at k ≡ variable x ∷ variable y ∷ operator iff at (at + 1) ∷ operator and (at - 1) (at + 2) ∷ []
   unfolding entry_nodes
   entry_later h = pick_no _ _ _ (ne_eqb k 0 h)
-
-pub guard_exists : (kind : ℕ) → kind ≡ 5 → or ≡ guard (quantifier_of kind)
-unfolding guard quantifier_of
-guard_exists kind h = rw (pick_yes (eqb kind 5) exists for_all (eq-eqb kind 5 h))
-
-pub guard_for_all : (kind : ℕ) → (kind ≡ 5 → ⊥) → implies ≡ guard (quantifier_of kind)
-unfolding guard quantifier_of
-guard_for_all kind h = rw (pick_no (eqb kind 5) exists for_all (ne_eqb kind 5 h))
 
 length_pick : (k : ℕ) (a b : List Node) → length a ≡ 3 → length b ≡ 4 → length (pick (eqb k 0) a b) ≡ 4 * suc k - 1 - (4 * k - 1)
 length_pick zero a b p q = rw (pick_yes (eqb 0 0) a b refl) p

@@ -5,44 +5,37 @@ use mathlib.Core.List.{List, [], ◌∷◌, ◌++◌, flat_map, append_assoc}
 use Prim.Native.Nat.{ℕ, suc, ◌+◌, ◌-◌, ◌*◌, ◌≤◌, ◌<◌}
 use native.Mathlib.Omega.{arith}
 use native.Mathlib.Numerals.{add-one}
-use lib.Dec.{eqb}
 use lib.ListN.{length, length-append}
-use borrow.Author.Tests.{eq-eqb, ne_eqb}
-use Rattle.lists.specs.Choice.{pick_yes, pick_no}
 use Rattle.lists.specs.Parts.{overwrite}
-use Rattle.formula.specs.Node.{exists, for_all, dual, Node, operator, Table}
-use Rattle.formula.specs.Words.{width, node_count, words_at, node_words, table_of}
-use Rattle.formula.specs.declared.NodeWords.{NodeWords}
-use Rattle.formula.specs.Form.{quantifier_of, kind_of}
+use Rattle.formula.specs.Node.{Quantifier, dual, Node, operator, Table}
+use Rattle.formula.specs.Words.{width, node_words}
 use Rattle.prenex_form.specs.Scope.{level}
 use Rattle.prenex_form.specs.Levels.{blocks_at, levels, level_quantifier}
-use Rattle.prenex_form.specs.Matrix.{and, implies, kept, constraint, further, constraints, level_join, level_nodes}
-use Rattle.formula.proofs.Prefix.{quantifier_read}
+use Rattle.prenex_form.specs.Matrix.{and, kept, constraint, further, constraints, level_join, level_nodes}
 use Rattle.arrays.specs.Chains.{blocks_from, linked, BlockOf}
 use Rattle.matrix_writer.specs.Added.{added_nodes}
 use Rattle.matrix_writer.specs.Buffer.{with_nodes, Room, Wrote}
 use Rattle.matrix_writer.specs.Chain.{nodes_after}
 use Rattle.matrix_writer.proofs.Added.{length_added, added_grows}
 use Rattle.matrix_writer.proofs.Buffer.{with_none, with_append, with_then, wrote, wrote_then}
-use Rattle.matrix_writer.proofs.Blocks.{quantifier_is}
 use Rattle.std.proofs.Common.{Option, Some, None, IfSome}
 
--- The first j levels are written, and the next one's quantifier is the kind's.
-pub record Levelled (t : Table) (out nodes : List ℕ) (kind next j : ℕ) : Type 0 where
+-- The first j levels are written, and the next one's quantifier is this.
+pub record Levelled (t : Table) (out nodes : List ℕ) (q : Quantifier) (next j : ℕ) : Type 0 where
   pub wrote_added : Wrote out (kept t) (added_nodes t j) nodes next
-  pub quantifier_is : quantifier_of kind ≡ level_quantifier t j
+  pub quantifier_is : q ≡ level_quantifier t j
   pub long : length nodes ≡ length out
 
-pub levelled_none : {t : Table} (out : List ℕ) (kind next : ℕ) → next ≡ kept t → quantifier_of kind ≡ level_quantifier t 0 → Levelled t out out kind next 0
+pub levelled_none : {t : Table} (out : List ℕ) (q : Quantifier) (next : ℕ) → next ≡ kept t → q ≡ level_quantifier t 0 → Levelled t out out q next 0
 unfolding added_nodes
-levelled_none {t} out kind next e q =
+levelled_none {t} out q next e p =
     record {
       wrote_added = record { nodes_are = sym (with_none out (kept t)); next_is = omega arith };
-      quantifier_is = q;
+      quantifier_is = p;
       long = refl;
     }
 
-module _ {t : Table} {out nodes : List ℕ} {kind next j : ℕ} (done : Levelled t out nodes kind next j) where
+module _ {t : Table} {out nodes : List ℕ} {q : Quantifier} {next j : ℕ} (done : Levelled t out nodes q next j) where
   -- the room for all levels is room for the next one
   pub level_room : (first l : ℕ) → first ≡ kept t → Room out first (length (added_nodes t l)) → j < l → Room nodes next (length (level_nodes t j next))
   level_room first l e room h =
@@ -50,7 +43,7 @@ module _ {t : Table} {out nodes : List ℕ} {kind next j : ℕ} (done : Levelled
       let g : length (added_nodes t (suc j)) ≤ length (added_nodes t l) = added_grows t (suc j) l h in
       rw n (record { fits = omega (arith, room.fits, length_added t j, done.long); small = omega (arith, room.small, length_added t j) })
 
-  pub levelled_next : (last : List ℕ) (after other : ℕ) → Wrote nodes next (level_nodes t j next) last after → other ≡ kind_of (dual (quantifier_of kind))
+  pub levelled_next : (last : List ℕ) (after : ℕ) (other : Quantifier) → Wrote nodes next (level_nodes t j next) last after → other ≡ dual q
       → length last ≡ length nodes → Room nodes next (length (level_nodes t j next)) → Levelled t out last other after (j + 1)
   unfolding added_nodes level_quantifier
   levelled_next last after other p d k room =
@@ -60,27 +53,13 @@ module _ {t : Table} {out nodes : List ℕ} {kind next j : ℕ} (done : Levelled
         wrote_added =
             wrote_then done.wrote_added (subst (λ s. Wrote nodes next (level_nodes t j s) last after) n p)
             (omega (arith, p.next_is, room.fits, done.long));
-        quantifier_is = ap quantifier_of d ∙ quantifier_read _ ∙ ap dual done.quantifier_is;
+        quantifier_is = d ∙ ap dual done.quantifier_is;
         long = k ∙ done.long;
       })
 
   pub levelled_all : j ≡ levels t → nodes ≡ overwrite out (width * kept t) (flat_map node_words (added_nodes t (levels t)))
   unfolding with_nodes
   levelled_all e = rw (← e) done.wrote_added.nodes_are
-
-pub root_quantifier : (ws ls : List ℕ) {w : NodeWords} → w ≡ words_at ws (node_count ws - 1) → quantifier_of w.kind ≡ level_quantifier (table_of ws ls) 0
-unfolding level_quantifier table_of
-root_quantifier ws ls e = rw e (sym (quantifier_is ws ls (node_count ws - 1)))
-
--- how a level is joined to the matrix, by a block's kind
-module _ (kind m d at : ℕ) (out last : List ℕ) where
-  pub join_exists : kind ≡ 5 → last ≡ with_nodes out at (operator implies d m ∷ []) → last ≡ with_nodes out at (level_join (quantifier_of kind) m d ∷ [])
-  unfolding level_join quantifier_of
-  join_exists h p = rw (pick_yes (eqb kind 5) exists for_all (eq-eqb kind 5 h)) p
-
-  pub join_for_all : (kind ≡ 5 → ⊥) → last ≡ with_nodes out at (operator and m d ∷ []) → last ≡ with_nodes out at (level_join (quantifier_of kind) m d ∷ [])
-  unfolding level_join quantifier_of
-  join_for_all h p = rw (pick_no (eqb kind 5) exists for_all (ne_eqb kind 5 h)) p
 
 module _ (t : Table) where
   -- one block further
@@ -123,12 +102,12 @@ module _ (t : Table) where
       → length (level_nodes t j s) ≡ length (constraint t b s) + length (nodes_after t b (s + length (constraint t b s))) + 1
   length_level j b s e f = ap (λ (ns : List Node). length ns) (level_parts j b s e f) ∙ simp length-append
 
-  pub wrote_level : (j b s n e kind : ℕ) (out m o last : List ℕ) → blocks_at t (suc j) ≡ b ∷ blocks_from t (suc j) (suc b) → level t b ≡ suc j
-      → Wrote out s (constraint t b s) m n → Wrote m n (nodes_after t b n) o e → last ≡ with_nodes o e (level_join (quantifier_of kind) (s - 1) (e - 1) ∷ [])
-      → quantifier_of kind ≡ level_quantifier t j → width * (s + length (level_nodes t j s)) ≤ length out → Wrote out s (level_nodes t j s) last (e + 1)
-  wrote_level j b s n e kind out m o last f g p q r k fits =
+  pub wrote_level : (j b s n e : ℕ) (q : Quantifier) (out m o last : List ℕ) → blocks_at t (suc j) ≡ b ∷ blocks_from t (suc j) (suc b) → level t b ≡ suc j
+      → Wrote out s (constraint t b s) m n → Wrote m n (nodes_after t b n) o e → last ≡ with_nodes o e (level_join q (s - 1) (e - 1) ∷ [])
+      → q ≡ level_quantifier t j → width * (s + length (level_nodes t j s)) ≤ length out → Wrote out s (level_nodes t j s) last (e + 1)
+  wrote_level j b s n e q out m o last f g p w r k fits =
       let l = length_level j b s f g in
-      let next : Wrote m n (nodes_after t b (s + length (constraint t b s))) o e = subst (λ a. Wrote m n (nodes_after t b a) o e) p.next_is q in
+      let next : Wrote m n (nodes_after t b (s + length (constraint t b s))) o e = subst (λ a. Wrote m n (nodes_after t b a) o e) p.next_is w in
       let both : Wrote out s (level_constraints b s) o e = wrote_then p next (omega (arith, p.next_is, next.next_is)) in
       let last_is = subst (λ k. last ≡ with_nodes o e (level_join k (s - 1) (e - 1) ∷ [])) k r in
       wrote (level_constraints b s ++ (level_join (level_quantifier t j) (s - 1) (e - 1) ∷ []))

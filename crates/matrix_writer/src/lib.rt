@@ -7,7 +7,7 @@ ghost use Rattle.std.specs.Prelude.{◌≡◌, ◌+◌, ◌*◌, ◌-◌, ◌≤
 ghost use Rattle.lists.specs.Parts.{overwrite};
 ghost use Rattle.formula.specs.Node.{variable, operator};
 ghost use Rattle.formula.specs.Words.{width, node_words};
-ghost use Rattle.formula.specs.Form.{quantifier_of};
+ghost use Rattle.prenex_form.specs.Quantifiers.{node_quantifier};
 ghost use Rattle.prenex_form.specs.Levels.{levels};
 ghost use Rattle.prenex_form.specs.Matrix.{kept, guard, constraint, further, level_join, level_nodes};
 ghost use Rattle.arrays.specs.Chains.{InnerBlock};
@@ -15,10 +15,11 @@ ghost use Rattle.arrays.specs.Blocks.{table};
 ghost use Rattle.matrix_writer.specs.Added.{added_nodes};
 ghost use Rattle.matrix_writer.specs.Buffer.{with_nodes, Room, Wrote};
 ghost use Rattle.matrix_writer.specs.Entries.{entry_nodes, entries_nodes, definition_nodes, guard_nodes};
-ghost use Rattle.matrix_writer.specs.Chain.{LevelKind, nodes_after};
+ghost use Rattle.matrix_writer.specs.Chain.{IsLevel, nodes_after};
 
 use arrays::Blocks;
-use formula::{EXISTS_BLOCK, WIDTH, node_at, operator_node, put_node, variable_node};
+use formula::{WIDTH, node_at, operator_node, put_node, variable_node};
+use prenex_form::Quantifier;
 
 // The truth tables of the operators that are written.
 const AND: u32 = 8;
@@ -99,14 +100,14 @@ fn write_guard(nodes: &mut [u32], at: u32, definition: u32, table: u32, equation
     put_operator(nodes, at + 2, AND, equation, at + 1);
 }
 
-// The truth table that guards a block's equations, by the block's kind.
-fn guard_table(kind: u32) -> u32
-    ensures { result ≡ guard (quantifier_of kind) }
+// The truth table that guards the equations of a block of this quantifier.
+fn guard_table(quantifier: Quantifier) -> u32
+    ensures { result ≡ guard (node_quantifier quantifier) }
 {
-    if kind == EXISTS_BLOCK {
-        return OR;
+    match quantifier {
+        Quantifier::Exists => OR,
+        Quantifier::ForAll => IMPLIES,
     }
-    IMPLIES
 }
 
 // Writes the constraint of inner block i.
@@ -126,7 +127,8 @@ fn write_constraint(blocks: &Blocks, nodes: &mut [u32], i: usize, at: u32) -> u3
         blocks.names + start,
         blocks.copies + start,
     );
-    write_guard(nodes, next, definition, guard_table(block.kind), at + 1);
+    let table = guard_table(Quantifier::of_kind(block.kind));
+    write_guard(nodes, next, definition, table, at + 1);
     next + 3
 }
 
@@ -161,20 +163,19 @@ fn write_further(blocks: &Blocks, nodes: &mut [u32], i: usize, at: u32) -> u32
 
 // Writes how a level's constraints are joined to the matrix, by the level's
 // quantifier.
-fn write_join(nodes: &mut [u32], at: u32, kind: u32, matrix: u32, constraints: u32)
+fn write_join(nodes: &mut [u32], at: u32, quantifier: Quantifier, matrix: u32, constraints: u32)
     requires { Room nodes.old at 1 }
-    ensures { nodes.new ≡ with_nodes nodes.old at (level_join (quantifier_of kind) matrix constraints ∷ []) }
+    ensures { nodes.new ≡ with_nodes nodes.old at (level_join (node_quantifier quantifier) matrix constraints ∷ []) }
 {
-    if kind == EXISTS_BLOCK {
-        put_operator(nodes, at, IMPLIES, constraints, matrix);
-        return;
+    match quantifier {
+        Quantifier::Exists => put_operator(nodes, at, IMPLIES, constraints, matrix),
+        Quantifier::ForAll => put_operator(nodes, at, AND, matrix, constraints),
     }
-    put_operator(nodes, at, AND, matrix, constraints);
 }
 
-// Writes the nodes of level j + 1, whose quantifier is the kind's.
-fn write_level(blocks: &Blocks, nodes: &mut [u32], j: usize, kind: u32, at: u32) -> u32
-    requires level_kind { LevelKind (table blocks.now) j kind }
+// Writes the nodes of level j + 1, which has this quantifier.
+fn write_level(blocks: &Blocks, nodes: &mut [u32], j: usize, quantifier: Quantifier, at: u32) -> u32
+    requires is_level { IsLevel (table blocks.now) j (node_quantifier quantifier) }
     requires at_nonzero { 0 < at }
     requires room { Room nodes.old at (length (level_nodes (table blocks.now) j at)) }
     ensures { Wrote nodes.old at (level_nodes (table blocks.now) j at) nodes.new result }
@@ -185,7 +186,7 @@ fn write_level(blocks: &Blocks, nodes: &mut [u32], j: usize, kind: u32, at: u32)
     };
     let next = write_constraint(blocks, nodes, first, at);
     let end = write_further(blocks, nodes, first, next);
-    write_join(nodes, end, kind, at - 1, end - 1);
+    write_join(nodes, end, quantifier, at - 1, end - 1);
     end + 1
 }
 
@@ -198,10 +199,10 @@ pub fn write_levels(blocks: &Blocks, nodes: &mut [u32], first: usize, deepest: u
     ensures { let t = table blocks.now in nodes.new ≡ overwrite nodes.old (width * kept t) (flat_map node_words (added_nodes t (levels t))) }
 {
     let root = node_at(blocks.words, blocks.words.len() / WIDTH - 1);
-    let mut kind = root.kind;
+    let mut quantifier = Quantifier::of_kind(root.kind);
     let mut next = first as u32;
     for j in 0..deepest {
-        next = write_level(blocks, nodes, j, kind, next);
-        kind = prenex_form::dual_kind(kind);
+        next = write_level(blocks, nodes, j, quantifier, next);
+        quantifier = quantifier.dual();
     }
 }

@@ -10,11 +10,10 @@ use borrow.Author.Tests.{eq-eqb, ne_eqb}
 use Rattle.lists.specs.Choice.{pick_yes, pick_no}
 use Rattle.lists.specs.Parts.{overwrite}
 use Rattle.lists.proofs.Overwrite.{overwrite_nil}
-use Rattle.formula.specs.Node.{dual, Table}
-use Rattle.formula.specs.Form.{Block, prefix_width, quantifier_of, kind_of, prefix_words}
+use Rattle.formula.specs.Node.{Quantifier, dual, Table}
+use Rattle.formula.specs.Form.{Block, prefix_width, kind_of, prefix_words}
 use Rattle.prenex_form.specs.Levels.{levels, level_quantifier}
 use Rattle.prenex_form.specs.Prefix.{block_count, prefix_block, prefix_blocks, written_prefix, written_variables}
-use Rattle.formula.proofs.Prefix.{quantifier_read}
 use Rattle.arrays.specs.Chains.{between}
 use Rattle.arrays.proofs.Chains.{between_all, between_on, between_end}
 use Rattle.prefix_writer.proofs.Writing.{Left, left_start, left_room, left_step, left_end, flat_map_next}
@@ -29,11 +28,11 @@ variables_left t j = flat_map (λ (b : Block). b.variables) (blocks_left t j)
 unfoldable pub words_left : Table → ℕ → ℕ → List ℕ
 words_left t at j = prefix_words at (blocks_left t j)
 
--- The blocks before block j are written: their variables end at entry at, and block j has this kind.
-pub record Written (t : Table) (prefix₀ prefix variables₀ variables : List ℕ) (at j kind : ℕ) : Type 0 where
+-- The blocks before block j are written: their variables end at entry at, and block j has this quantifier.
+pub record Written (t : Table) (prefix₀ prefix variables₀ variables : List ℕ) (at j : ℕ) (q : Quantifier) : Type 0 where
   pub words : Left prefix₀ prefix (prefix_width * j) (written_prefix t) (words_left t at j)
   pub list : Left variables₀ variables at (written_variables t) (variables_left t j)
-  pub kind_is : kind ≡ kind_of (level_quantifier t j)
+  pub quantifier_is : q ≡ level_quantifier t j
   pub within : j ≤ suc (levels t)
 
 module _ (t : Table) where
@@ -52,18 +51,18 @@ module _ (t : Table) where
   unfolding blocks_left prefix_blocks
   blocks_start n = between_all (λ k. prefix_block t k ∷ []) (suc (levels t)) ∙ sym (pick_no _ _ _ (ne_eqb (block_count t) 0 n))
 
-  pub written_start : (prefix variables : List ℕ) (kind : ℕ) → (block_count t ≡ 0 → ⊥) → kind ≡ kind_of (level_quantifier t 0)
-      → Written t prefix prefix variables variables 0 0 kind
+  pub written_start : (prefix variables : List ℕ) (q : Quantifier) → (block_count t ≡ 0 → ⊥) → q ≡ level_quantifier t 0
+      → Written t prefix prefix variables variables 0 0 q
   unfolding written_prefix written_variables words_left variables_left
-  written_start prefix variables kind n e =
+  written_start prefix variables q n e =
       record {
         words = left_start prefix _ _ (ap (prefix_words 0) (blocks_start n));
         list = left_start variables _ _ (ap (flat_map (λ (b : Block). b.variables)) (blocks_start n));
-        kind_is = e;
+        quantifier_is = e;
         within = omega arith;
       }
 
-  module _ (prefix₀ prefix variables₀ variables : List ℕ) (at j kind : ℕ) (w : Written t prefix₀ prefix variables₀ variables at j kind) where
+  module _ (prefix₀ prefix variables₀ variables : List ℕ) (at j : ℕ) (q : Quantifier) (w : Written t prefix₀ prefix variables₀ variables at j q) where
     -- none is left after the last
     blocks_end : suc (levels t) ≤ j → blocks_left t j ≡ []
     unfolding blocks_left
@@ -103,22 +102,19 @@ module _ (t : Table) where
       pub end_le : at + length (prefix_block t j).variables ≤ length (written_variables t)
       end_le = omega (arith, w.list.reached, ap length list_next, length-append (prefix_block t j).variables (variables_left t (j + 1)))
 
-      pub written_step : (prefix' variables' : List ℕ) (at' kind' : ℕ) → length (written_prefix t) ≤ length prefix₀
+      pub written_step : (prefix' variables' : List ℕ) (at' : ℕ) (q' : Quantifier) → length (written_prefix t) ≤ length prefix₀
           → length (written_variables t) ≤ length variables₀
-          → prefix' ≡ overwrite prefix (prefix_width * j) (kind ∷ at ∷ length (prefix_block t j).variables ∷ [])
+          → prefix' ≡ overwrite prefix (prefix_width * j) (kind_of q ∷ at ∷ length (prefix_block t j).variables ∷ [])
           → variables' ≡ overwrite variables at (prefix_block t j).variables → at' ≡ at + length (prefix_block t j).variables
-          → kind' ≡ kind_of (dual (quantifier_of kind))
-          → Written t prefix₀ prefix' variables₀ variables' at' (j + 1) kind'
+          → q' ≡ dual q → Written t prefix₀ prefix' variables₀ variables' at' (j + 1) q'
       unfolding three level_quantifier
-      written_step prefix' variables' at' kind' fp fv p v e k =
+      written_step prefix' variables' at' q' fp fv p v e k =
           let m : prefix_width * (j + 1) ≡ prefix_width * j + prefix_width = omega arith in
           let p' : prefix' ≡ overwrite prefix (prefix_width * j) three =
-          p ∙ ap (λ (c : ℕ). overwrite prefix (prefix_width * j) (c ∷ at ∷ length (prefix_block t j).variables ∷ [])) w.kind_is in
+          p ∙ ap (λ c. overwrite prefix (prefix_width * j) (kind_of c ∷ at ∷ length (prefix_block t j).variables ∷ [])) w.quantifier_is in
           record {
             words = rw (m, e) (left_step prefix₀ prefix _ _ _ w.words three _ prefix' words_next fp p');
             list = rw e (left_step variables₀ variables at _ _ w.list (prefix_block t j).variables _ variables' list_next fv v);
-            kind_is =
-                rw add-one
-                (k ∙ ap (λ c. kind_of (dual (quantifier_of c))) w.kind_is ∙ ap (λ q. kind_of (dual q)) (quantifier_read (level_quantifier t j)));
+            quantifier_is = rw add-one (k ∙ ap dual w.quantifier_is);
             within = omega arith;
           }

@@ -8,6 +8,7 @@ ghost use Rattle.lists.specs.Parts.{numbers, overwrite};
 ghost use Rattle.formula.specs.Words.{node_count};
 ghost use Rattle.formula.specs.Form.{prefix_width, kind_of};
 ghost use Rattle.acceptance.specs.Verdict.{count_at};
+ghost use Rattle.prenex_form.specs.Quantifiers.{node_quantifier};
 ghost use Rattle.prenex_form.specs.Levels.{blocks_at, levels, level_quantifier};
 ghost use Rattle.prenex_form.specs.Prefix.{
   block_count,
@@ -21,7 +22,7 @@ ghost use Rattle.arrays.specs.Blocks.{table};
 ghost use Rattle.prefix_writer.specs.Parts.{highest_first, numbered, part_of};
 
 use arrays::Blocks;
-use formula::{EXISTS_BLOCK, FOR_ALL_BLOCK};
+use prenex_form::Quantifier;
 
 // The words of a prefix block: its kind, where its variables start in the list, and how many there are.
 pub const PREFIX_WIDTH: usize = 3;
@@ -52,23 +53,20 @@ pub fn write_prefix(
     if count == 0 {
         return;
     }
-    let mut kind = first_kind(blocks);
+    let mut quantifier = first_quantifier(blocks);
     let mut at: usize = 0;
     for j in 0..=level_count {
-        at = write_block(blocks, prefix, variables, j, kind, at);
-        kind = prenex_form::dual_kind(kind);
+        at = write_block(blocks, prefix, variables, j, quantifier, at);
+        quantifier = quantifier.dual();
     }
 }
 
-// The kind of prefix block 0: the root's if it is a block, else for-all.
-fn first_kind(blocks: &Blocks) -> u32
-    ensures { result ≡ kind_of (level_quantifier (table blocks.now) 0) }
+// The quantifier of prefix block 0: the root's if it is a block, else for-all.
+fn first_quantifier(blocks: &Blocks) -> Quantifier
+    ensures { node_quantifier result ≡ level_quantifier (table blocks.now) 0 }
 {
     let root = formula::node_at(blocks.words, blocks.words.len() / formula::WIDTH - 1);
-    if root.kind == EXISTS_BLOCK {
-        return EXISTS_BLOCK;
-    }
-    FOR_ALL_BLOCK
+    Quantifier::of_kind(root.kind)
 }
 
 // Writes prefix block j, whose variables go in from entry at on, and returns where they end.
@@ -77,29 +75,29 @@ fn write_block(
     prefix: &mut [u32],
     variables: &mut [u32],
     j: usize,
-    kind: u32,
+    quantifier: Quantifier,
     at: usize,
 ) -> usize
     requires j_bound { j ≤ levels (table blocks.now) }
     requires prefix_width_in_bounds { prefix_width * j + prefix_width ≤ length prefix.old }
     requires j_in_bounds { at + length (prefix_block (table blocks.now) j).variables ≤ length variables.old }
     requires j_bound_2 { at + length (prefix_block (table blocks.now) j).variables < 4294967296 }
-    ensures prefix_after { prefix.new ≡ overwrite prefix.old (prefix_width * j) (kind ∷ at ∷ length (prefix_block (table blocks.now) j).variables ∷ []) }
+    ensures prefix_after { prefix.new ≡ overwrite prefix.old (prefix_width * j) (kind_of (node_quantifier quantifier) ∷ at ∷ length (prefix_block (table blocks.now) j).variables ∷ []) }
     ensures variables_after { variables.new ≡ overwrite variables.old at (prefix_block (table blocks.now) j).variables }
     ensures value { result ≡ at + length (prefix_block (table blocks.now) j).variables }
 {
     let count = write_variables(blocks, &mut variables[at..], j);
-    write_words(prefix, j, kind, at, count);
+    write_words(prefix, j, quantifier, at, count);
     at + count
 }
 
 // Writes the words of prefix block j.
-fn write_words(prefix: &mut [u32], j: usize, kind: u32, first: usize, count: usize)
+fn write_words(prefix: &mut [u32], j: usize, quantifier: Quantifier, first: usize, count: usize)
     requires { (prefix_width * j + prefix_width ≤ length prefix.old) × (first < 4294967296) × (count < 4294967296) }
-    ensures { prefix.new ≡ overwrite prefix.old (prefix_width * j) (kind ∷ first ∷ count ∷ []) }
+    ensures { prefix.new ≡ overwrite prefix.old (prefix_width * j) (kind_of (node_quantifier quantifier) ∷ first ∷ count ∷ []) }
 {
     let at = PREFIX_WIDTH * j;
-    prefix[at] = kind;
+    prefix[at] = quantifier.kind();
     prefix[at + 1] = first as u32;
     prefix[at + 2] = count as u32;
 }

@@ -29,6 +29,7 @@ ghost use Rattle.prenex.specs.Outcome.{
 use acceptance::LIMIT;
 use arrays::Blocks;
 use block_counts::Counts;
+use first_nodes::Renaming;
 use names::NameCounter;
 use prefix_writer::PREFIX_WIDTH;
 use prenex_form::Sizes;
@@ -230,16 +231,13 @@ fn write_form(found: &Found, nodes: &mut [u32], prefix: &mut [u32], variables: &
     let copies = names.counter.take_run(found.counts.inner_bound);
     let n = found.words.len() / formula::WIDTH;
     let first = n - root_blocks(found.words, found.list) as usize;
-    first_nodes::write_first(
-        nodes,
-        found.words,
-        found.list,
-        found.bindings,
-        names.name,
-        &mut definitions,
-        copies.counter,
-        first,
-    );
+    let renaming = Renaming {
+        words: found.words,
+        list: found.list,
+        bindings: found.bindings,
+        names: names.name,
+    };
+    first_nodes::write_first(&renaming, nodes, &mut definitions, copies.counter, first);
     let blocks = Blocks {
         words: found.words,
         list: found.list,

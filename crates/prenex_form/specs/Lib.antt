@@ -1,6 +1,7 @@
 pub mod Scope
 pub mod Names
 pub mod Levels
+pub mod Quantifiers
 pub mod Matrix
 pub mod Prefix
 pub mod Sizes

@@ -1,11 +1,12 @@
 // The prenex form of a formula table as a definition (specs/), and the proof that it has the
 // table's truth value and the promised sizes (proofs/). The code here is what measuring gives, and
-// the alternation of quantifiers.
+// the quantifiers of levels and prefix blocks.
 #![tactic(auto)]
 
 ghost use Rattle.std.specs.Prelude.{◌≡◌};
 ghost use Rattle.formula.specs.Node.{dual};
 ghost use Rattle.formula.specs.Form.{quantifier_of, kind_of};
+ghost use Rattle.prenex_form.specs.Quantifiers.{node_quantifier};
 
 // Document 01's sizes: n nodes, b blocks, q bound variables and the quantifier depth of a table, and
 // the nodes, prefix blocks and list entries of its prenex form.
@@ -20,12 +21,41 @@ pub struct Sizes {
     pub entries: u32,
 }
 
-// The block kind of the other quantifier.
-pub fn dual_kind(kind: u32) -> u32
-    ensures { result ≡ kind_of (dual (quantifier_of kind)) }
-{
-    if kind == formula::EXISTS_BLOCK {
-        return formula::FOR_ALL_BLOCK;
+// A quantifier, as the kind of a block says it.
+#[derive(Clone, Copy, PartialEq, Eq)]
+pub enum Quantifier {
+    Exists,
+    ForAll,
+}
+
+impl Quantifier {
+    // The quantifier of a block of this kind; for-all of any other node's kind.
+    pub fn of_kind(kind: u32) -> Quantifier
+        ensures { node_quantifier result ≡ quantifier_of kind }
+    {
+        if kind == formula::EXISTS_BLOCK {
+            return Quantifier::Exists;
+        }
+        Quantifier::ForAll
     }
-    formula::EXISTS_BLOCK
+
+    // The other one.
+    pub fn dual(self) -> Quantifier
+        ensures { node_quantifier result ≡ dual (node_quantifier self) }
+    {
+        match self {
+            Quantifier::Exists => Quantifier::ForAll,
+            Quantifier::ForAll => Quantifier::Exists,
+        }
+    }
+
+    // The kind of its blocks.
+    pub fn kind(self) -> u32
+        ensures { result ≡ kind_of (node_quantifier self) }
+    {
+        match self {
+            Quantifier::Exists => formula::EXISTS_BLOCK,
+            Quantifier::ForAll => formula::FOR_ALL_BLOCK,
+        }
+    }
 }

@@ -1,30 +1,27 @@
 -- `first_nodes::new_name` meets its contract: by the entry that binds the number.
 -- Assumes nothing.
 use native.Mathlib.Omega.{arith}
-use borrow.Author.Rules.{rules}
 use Rattle.acceptance.proofs.Accepted.{accepted_holds}
 use Rattle.first_nodes.proofs.Renamed.{keeps_number, name_small, takes_name}
 use Rattle.first_nodes.proofs.new_name.Goals as goal
 
-pub bounds-bindings-i : goal.bounds-bindings-i
-bounds-bindings-i c =
+pub bounds-renaming-i : goal.bounds-renaming-i
+bounds-renaming-i c =
     let p = c.requires in
-    omega (arith, (accepted_holds _ _ p.given.accepts).nodes_limit, p.given.entries_bound.bindings_length, p.i_bound_1)
-
-pub overflow_cast-entry : goal.overflow_cast-entry
-overflow_cast-entry c = search (rules, c.type_inv.bindings c.args.i)
+    let g = c.args.renaming.now.given in
+    omega (arith, (accepted_holds _ _ g.accepts).nodes_limit, g.entries_bound.bindings_length, p.i_bound_1)
 
 pub returns-then-entry-eq0 : goal.returns-then-entry-eq0
 returns-then-entry-eq0 c =
     let p = c.requires in
-    keeps_number p.given _ _ p.i_bound_1 p.i_bound_2 c.if-entry-eq0.true
+    keeps_number c.args.renaming.now.given _ _ p.i_bound_1 p.i_bound_2 c.if-entry-eq0.true
 
 pub overflow_add-result : goal.overflow_add-result
 overflow_add-result c =
     let p = c.requires in
-    omega (arith, name_small p.given _ _ p.i_bound_1 p.i_bound_2 c.if-entry-eq0.false)
+    omega (arith, name_small c.args.renaming.now.given _ _ p.i_bound_1 p.i_bound_2 c.if-entry-eq0.false)
 
 pub returns : goal.returns
 returns c =
     let p = c.requires in
-    takes_name p.given _ _ p.i_bound_1 p.i_bound_2 c.if-entry-eq0.false
+    takes_name c.args.renaming.now.given _ _ p.i_bound_1 p.i_bound_2 c.if-entry-eq0.false

@@ -21,14 +21,14 @@ use Rattle.first_nodes.proofs.write_first.Goals.{
 use Rattle.first_nodes.proofs.write_first.Goals as goal
 
 -- the table is accepted, and node i is kept
-accepted-table : (c : Start) → Accepted c.args.words.now c.args.list.now
-accepted-table c = accepted_holds _ _ c.requires.given.accepts
+accepted-table : (c : Start) → Accepted c.args.renaming.now.words.now c.args.renaming.now.list.now
+accepted-table c = accepted_holds _ _ c.args.renaming.now.given.accepts
 
-is_kept : (c : In-loop-i) → c.loop-i.i < kept (table_of c.args.words.now c.args.list.now)
+is_kept : (c : In-loop-i) → c.loop-i.i < kept (table_of c.args.renaming.now.words.now c.args.renaming.now.list.now)
 is_kept c = omega arith
 
-node_in : (c : In-loop-i) → c.loop-i.i < node_count c.args.words.now
-node_in c = kept_node _ _ (accepted_holds _ _ c.requires.given.accepts) _ (is_kept c)
+node_in : (c : In-loop-i) → c.loop-i.i < node_count c.args.renaming.now.words.now
+node_in c = kept_node _ _ (accepted_holds _ _ c.args.renaming.now.given.accepts) _ (is_kept c)
 
 pub loop-i-init : goal.loop-i-init
 loop-i-init c = (write_none _ _, c.requires.counted, defined_none _ _)
@@ -95,7 +95,7 @@ pub returns : goal.returns
 returns c =
     let p = c.requires in
     let inv = c.loop-i.invariant in
-    let e : c.loop-i.i ≡ kept (table_of c.args.words.now c.args.list.now) = omega arith in record {
+    let e : c.loop-i.i ≡ kept (table_of c.args.renaming.now.words.now c.args.renaming.now.list.now) = omega arith in record {
       nodes_after = write_all _ _ _ _ inv.0 e;
       definitions = defined_all _ (rw e at inv.2);
     }

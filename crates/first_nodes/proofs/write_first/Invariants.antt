@@ -9,6 +9,6 @@ use Rattle.first_nodes.proofs.Renamed.{first_words}
 use Rattle.first_nodes.proofs.write_first.Given as goal
 
 abbrev pub invariant-loop-i : goal.invariant-loop-i
-invariant-loop-i l = (l.nodes ≡ overwrite l.initial.nodes 0 (first_words (table_of l.words l.list) l.i))
-    × Counted l.words l.list l.i l.definitions l.counter
-    × DefinedBelow (table_of l.words l.list) l.i l.definitions
+invariant-loop-i l = (l.nodes ≡ overwrite l.initial.nodes 0 (first_words (table_of l.renaming.words.now l.renaming.list.now) l.i))
+    × Counted l.renaming.words.now l.renaming.list.now l.i l.definitions l.counter
+    × DefinedBelow (table_of l.renaming.words.now l.renaming.list.now) l.i l.definitions

@@ -1,10 +1,13 @@
--- `matrix_writer::guard_table` meets its contract. The kind says which quantifier it is.
+-- `matrix_writer::guard_table` meets its contract.
 -- Assumes nothing.
-use Rattle.matrix_writer.proofs.Entries.{guard_exists, guard_for_all}
+use mathlib.Core.Path.{refl}
+use Rattle.prenex_form.specs.Matrix.{guard}
 use Rattle.matrix_writer.proofs.guard_table.Goals as goal
 
-pub returns-then-kind-eq-EXISTS_BLOCK : goal.returns-then-kind-eq-EXISTS_BLOCK
-returns-then-kind-eq-EXISTS_BLOCK c = guard_exists _ c.if-kind-eq-EXISTS_BLOCK.true
+pub returns-in-Exists : goal.returns-in-Exists
+unfolding guard
+returns-in-Exists c = rw c.in-Exists.is refl
 
-pub returns : goal.returns
-returns c = guard_for_all _ c.if-kind-eq-EXISTS_BLOCK.false
+pub returns-in-ForAll : goal.returns-in-ForAll
+unfolding guard
+returns-in-ForAll c = rw c.in-ForAll.is refl

@@ -1,8 +1,9 @@
 -- `matrix_writer::write_constraint` meets its contract: the definition, the equations and the guard.
 -- Assumes nothing.
-use mathlib.Core.Path.{ap}
+use mathlib.Core.Path.{◌∙◌, ap}
 use native.Mathlib.Omega.{arith}
 use Rattle.formula.specs.declared.NodeWords.{NodeWords}
+use Rattle.prenex_form.specs.Matrix.{guard}
 use Rattle.matrix_writer.proofs.Constraint.{block_facts, wrote_constraint}
 use Rattle.matrix_writer.proofs.write_constraint.Goals as goal
 
@@ -41,5 +42,5 @@ overflow_add-result c = omega (arith, block_facts c.args.blocks.now c.args.at c.
 
 pub returns : goal.returns
 returns c =
-    wrote_constraint c.args.blocks.now c.requires.inner_block _ _ _ _ _ _ _ c.node_at-block.ensures c.guard_table.ensures
+    wrote_constraint c.args.blocks.now c.requires.inner_block _ _ _ _ _ _ _ c.node_at-block.ensures (c.guard_table-table.ensures ∙ ap guard c.of_kind.ensures)
     c.write_definition.ensures c.write_entries-next.ensures.wrote c.write_guard.ensures c.requires.room.fits

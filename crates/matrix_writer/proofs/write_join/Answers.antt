@@ -1,10 +1,12 @@
--- `matrix_writer::write_join` meets its contract. The kind says which operator it is.
+-- `matrix_writer::write_join` meets its contract. The quantifier says which operator it is.
 -- Assumes nothing.
-use Rattle.matrix_writer.proofs.Levels.{join_exists, join_for_all}
+use Rattle.prenex_form.specs.Matrix.{level_join}
 use Rattle.matrix_writer.proofs.write_join.Goals as goal
 
-pub returns-then-kind-eq-EXISTS_BLOCK : goal.returns-then-kind-eq-EXISTS_BLOCK
-returns-then-kind-eq-EXISTS_BLOCK c = join_exists _ _ _ _ _ _ c.if-kind-eq-EXISTS_BLOCK.true c.put_operator.ensures
+pub returns-in-Exists : goal.returns-in-Exists
+unfolding level_join
+returns-in-Exists c = rw c.in-Exists.is c.put_operator.ensures
 
-pub returns : goal.returns
-returns c = join_for_all _ _ _ _ _ _ c.if-kind-eq-EXISTS_BLOCK.false c.put_operator-2.ensures
+pub returns-in-ForAll : goal.returns-in-ForAll
+unfolding level_join
+returns-in-ForAll c = rw c.in-ForAll.is c.put_operator-in-ForAll.ensures

@@ -12,4 +12,4 @@ pub bounds-prefix-at-3 : goal.bounds-prefix-at-3
 bounds-prefix-at-3 c = simp length-set (omega arith)
 
 pub returns : goal.returns
-returns c = set_three _ _ _ _ _ c.requires.0
+returns c = rw c.kind.ensures (set_three _ _ _ _ _ c.requires.0)

@@ -52,7 +52,6 @@ write_first-requires c =
     let k = c.root_blocks.ensures in
     let e = kept_is f.words.now f.list.now ok in
     let r = first_room f.words.now f.list.now ok c.args.nodes.now c.requires.nodes_fit in record {
-      given = record { accepts = ok; entries_bound = f.bound; names_first = omega (arith, x.0, f.highest_is) };
       counted = record { definitions_length = refl; next_is = omega (arith, x.1, y.1, f.highest_is, f.counted.bound_is, f.counted.inner_bound_is) };
       count_value_1 = omega (arith, k, e);
       count_value_2 = omega (arith, k, e, r);
