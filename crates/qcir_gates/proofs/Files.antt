@@ -17,7 +17,7 @@ use Rattle.qcir.proofs.Keep.{keep_cong}
 use Rattle.qcir_tokens.specs.Tokens.{Token, token, output_role, junction_role, xor_role, quantifier_role, bound_role, input_role, is_output, is_definition, is_input, is_use, list_tokens, free_tokens, prefix_tokens, output_token, inputs_tokens, any_inputs_tokens, gate_tokens, gates_tokens, file_tokens}
 use Rattle.qcir_gates.specs.Uses.{uses_in, defined_in, misused_in}
 use Rattle.qcir_tokens.proofs.Roles.{free_all, line_all, later_all, output_all, junction_all, quantifier_all, bound_all, input_all, output_no_definition, Quiet, none, more, quiet_list, quiet_front, front_no_definition, gate_tokens_lem}
-use Rattle.qcir_tokens.proofs.Tokens.{file_parts}
+use Rattle.qcir_tokens.proofs.Parts.{file_parts}
 
 uses_quiet : {ts : List Token} (us : List Token) (x : ℕ) → Quiet is_use ts → uses_in (ts ++ us) x ≡ uses_in us x
 unfolding uses_in

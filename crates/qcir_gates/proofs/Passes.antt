@@ -17,7 +17,7 @@ use Rattle.qcir_tokens.specs.Tokens.{Token, is_definition, is_use, definition_fr
 use Rattle.qcir_tokens.specs.Held.{token_at, tokens_from, number_count, Definitions, found_of}
 use Rattle.std.specs.Prelude.{Option, None}
 use Rattle.qcir_gates.specs.Uses.{uses_in, defined_in, misused_in}
-use Rattle.qcir_tokens.proofs.Tokens.{tokens_end, tokens_back, tokens_all}
+use Rattle.qcir_tokens.proofs.Parts.{tokens_end, tokens_back, tokens_all}
 
 -- the first definitions among the tokens from token i on
 pub record Marked (roles numbers : List ℕ) (count : ℕ) (gates : List ℕ) (i : ℕ) : Type 0 where

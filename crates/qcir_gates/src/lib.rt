@@ -1,7 +1,7 @@
 // Gates of a QCIR file by number: where each is defined first, and how often it is used.
 #![tactic(auto)]
 
-ghost use Rattle.std.specs.Prelude.{not, ◌&&◌, List, ◌∷◌, ◌≡◌, ℕ, ◌+◌, ◌<◌, ◌≤◌, min, eqb, length, get_or};
+ghost use Rattle.std.specs.Prelude.{not, ◌&&◌, List, ◌∷◌, ◌≡◌, ℕ, ◌+◌, ◌<◌, min, eqb, length, get_or};
 ghost use Rattle.lists.specs.Choice.{pick};
 ghost use Rattle.qcir.specs.File.{File};
 ghost use Rattle.qcir.specs.Refusals.{not_used_once};
@@ -9,21 +9,20 @@ ghost use Rattle.qcir_tokens.specs.Tokens.{is_definition, is_use};
 ghost use Rattle.qcir_tokens.specs.Held.{tokens_from, HoldsNames, number_count, DefinitionsIn, found_of, token_limit};
 ghost use Rattle.qcir_gates.specs.Uses.{uses_in, misused_in};
 
-use qcir_tokens::NUMBERS;
+use qcir_tokens::{NUMBERS, Tokens};
 
 // Marks each gate's first definition: one more than the index of its token. The tokens are read from the last to the
 // first, so that the first definition is stored last. Zero stands for none: as options, the marks of all numbers would
 // take twice the memory, and it is fixed.
 //
 // The contract rules out marks that name the token after.
-pub fn mark_gates(roles: &[u8], numbers: &[u16], count: usize, gates: &mut [u16])
-    requires count_in_bounds { (count ≤ length roles.now) × (count ≤ length numbers.now) × (count ≤ token_limit) }
+pub fn mark_gates(tokens: &Tokens, gates: &mut [u16])
     requires gates_len { length gates.old ≡ number_count }
     requires by_index { (x : ℕ) → get_or gates.old x 0 ≡ 0 }
-    ensures { DefinitionsIn roles.now numbers.now count gates.new }
+    ensures { DefinitionsIn tokens.now.roles.now tokens.now.numbers.now tokens.now.count gates.new }
 {
-    for i in (0..count).rev() {
-        mark_gate(roles[i], numbers[i], i, gates);
+    for i in (0..tokens.count).rev() {
+        mark_gate(tokens.roles[i], tokens.numbers[i], i, gates);
     }
 }
 
@@ -42,26 +41,24 @@ fn mark_gate(role: u8, number: u16, i: usize, gates: &mut [u16])
 // Refusal 13: the lowest number of a gate that is not used exactly once.
 //
 // The contract rules out a search that does not notice a gate that is never used.
-pub fn lowest_misused(roles: &[u8], numbers: &[u16], count: usize) -> Option<u32>
-    requires { (count ≤ length roles.now) × (count ≤ length numbers.now) }
-    ensures { (f : File) → HoldsNames roles.now numbers.now count f → result ≡ found_of (not_used_once f) }
+pub fn lowest_misused(tokens: &Tokens) -> Option<u32>
+    ensures { (f : File) → HoldsNames tokens.now.roles.now tokens.now.numbers.now tokens.now.count f → result ≡ found_of (not_used_once f) }
 {
     let mut uses = [0u8; NUMBERS];
-    count_uses(roles, numbers, count, &mut uses);
-    lowest_not_once(roles, numbers, count, &uses)
+    count_uses(tokens, &mut uses);
+    lowest_not_once(tokens, &uses)
 }
 
 // Counts the uses of each number, up to two.
-fn count_uses(roles: &[u8], numbers: &[u16], count: usize, uses: &mut [u8])
-    requires count_in_bounds { (count ≤ length roles.now) × (count ≤ length numbers.now) }
+fn count_uses(tokens: &Tokens, uses: &mut [u8])
     requires uses_len { length uses.old ≡ number_count }
     requires by_index { (x : ℕ) → get_or uses.old x 0 ≡ 0 }
     ensures { (ps : List ℕ) (x : ℕ)
         → get_or uses.new x 0
-        ≡ min 2 (uses_in (tokens_from roles.now numbers.now ps 0 count) x) }
+        ≡ min 2 (uses_in (tokens_from tokens.now.roles.now tokens.now.numbers.now ps 0 tokens.now.count) x) }
 {
-    for i in (0..count).rev() {
-        count_use(roles[i], numbers[i], uses);
+    for i in (0..tokens.count).rev() {
+        count_use(tokens.roles[i], tokens.numbers[i], uses);
     }
 }
 
@@ -90,16 +87,15 @@ fn one_more(uses: u8) -> u8
 }
 
 // The lowest number of a gate whose uses are not 1.
-fn lowest_not_once(roles: &[u8], numbers: &[u16], count: usize, uses: &[u8]) -> Option<u32>
-    requires count_in_bounds { (count ≤ length roles.now) × (count ≤ length numbers.now) }
+fn lowest_not_once(tokens: &Tokens, uses: &[u8]) -> Option<u32>
     requires uses_len { length uses.now ≡ number_count }
     ensures { (ps : List ℕ)
         → result ≡ found_of (misused_in (λ x. get_or uses.now x 0)
-        (tokens_from roles.now numbers.now ps 0 count)) }
+        (tokens_from tokens.now.roles.now tokens.now.numbers.now ps 0 tokens.now.count)) }
 {
     let mut lowest = None;
-    for i in (0..count).rev() {
-        lowest = with_token(roles[i], numbers[i], uses, lowest);
+    for i in (0..tokens.count).rev() {
+        lowest = with_token(tokens.roles[i], tokens.numbers[i], uses, lowest);
     }
     lowest
 }

@@ -15,7 +15,7 @@ use Rattle.lists.proofs.Members.{mem_nil}
 use Rattle.qcir.specs.File.{Name, Literal, File, numbers_of}
 use Rattle.qcir.specs.Refusals.{gate_names, quantified_names, outer_names, repeated, repeated_in_gates, gates_listed, naming_gates, early_uses, misplaced}
 use Rattle.qcir_tokens.specs.Tokens.{Token, token, output_role, empty_role, is_outer, is_bound, is_definition, is_input, free_tokens, prefix_tokens, output_token, gates_tokens, file_tokens, definition_from, definition, ascending}
-use Rattle.qcir_tokens.proofs.Tokens.{file_parts}
+use Rattle.qcir_tokens.proofs.Parts.{file_parts}
 use Rattle.qcir_tokens.specs.Held.{Definitions, found_of}
 use Rattle.qcir_misplaced.specs.Faults.{is_entry, fault, lists_after, line_after, faults, first_of}
 use Rattle.qcir_misplaced.proofs.Turn.{faults_here, faults_later, faults_passed}

@@ -4,7 +4,7 @@
 ghost use Rattle.std.specs.Prelude.{◌≡◌, ℕ, ◌<◌, ◌≤◌, length, get_or};
 ghost use Rattle.qcir.specs.File.{File};
 ghost use Rattle.qcir.specs.Refusals.{misplaced};
-ghost use Rattle.qcir_tokens.specs.Held.{tokens_from, Room, HoldsFile, number_count, DefinitionsIn, found_of, token_limit};
+ghost use Rattle.qcir_tokens.specs.Held.{tokens_from, HoldsFile, number_count, DefinitionsIn, found_of, token_limit};
 ghost use Rattle.qcir_misplaced.specs.Faults.{
   is_entry,
   fault,
@@ -14,7 +14,7 @@ ghost use Rattle.qcir_misplaced.specs.Faults.{
   first_of,
 };
 
-use qcir_tokens::NUMBERS;
+use qcir_tokens::{NUMBERS, Tokens};
 
 // Finds the first misplaced name among the tokens: a gate name defined twice or also in a list, an
 // input not after its gate, or a name twice in a list. `gates` has, for each number, one more than
@@ -22,46 +22,29 @@ use qcir_tokens::NUMBERS;
 //
 // The contract rules out a search that takes the earlier of two places, and one by which a gate may
 // be its own input.
-pub fn first_misplaced(
-    roles: &[u8],
-    numbers: &[u16],
-    positions: &[u16],
-    count: usize,
-    gates: &[u16],
-) -> Option<u32>
-    requires room { Room roles.now numbers.now positions.now count }
-    requires count_le_token_limit { count ≤ token_limit }
-    requires definitions_in { DefinitionsIn roles.now numbers.now count gates.now }
-    ensures { (f : File) → HoldsFile roles.now numbers.now positions.now count f
+pub fn first_misplaced(tokens: &Tokens, gates: &[u16]) -> Option<u32>
+    requires definitions_in { DefinitionsIn tokens.now.roles.now tokens.now.numbers.now tokens.now.count gates.now }
+    ensures { (f : File) → HoldsFile tokens.now.roles.now tokens.now.numbers.now tokens.now.positions.now tokens.now.count f
         → result ≡ found_of (misplaced f) }
 {
     let mut lists = [0u16; NUMBERS];
-    first_fault(roles, numbers, positions, count, gates, &mut lists)
+    first_fault(tokens, gates, &mut lists)
 }
 
 // The position of the first token at fault. `lists` has, for each number, the last list that holds
 // it: first none.
-fn first_fault(
-    roles: &[u8],
-    numbers: &[u16],
-    positions: &[u16],
-    count: usize,
-    gates: &[u16],
-    lists: &mut [u16],
-) -> Option<u32>
-    requires room { Room roles.now numbers.now positions.now count }
-    requires count_le_token_limit { count ≤ token_limit }
+fn first_fault(tokens: &Tokens, gates: &[u16], lists: &mut [u16]) -> Option<u32>
     requires gates_len { (length gates.now ≡ number_count) × (length lists.old ≡ number_count) }
     ensures { result ≡ first_of
         (faults (λ x. get_or gates.now x 0) (λ x. get_or lists.old x 0) 0 0
-        (tokens_from roles.now numbers.now positions.now 0 count)) }
+        (tokens_from tokens.now.roles.now tokens.now.numbers.now tokens.now.positions.now 0 tokens.now.count)) }
 {
     let mut line: u16 = 0;
-    for i in 0..count {
-        let role = roles[i];
-        let x = numbers[i] as usize;
+    for i in 0..tokens.count {
+        let role = tokens.roles[i];
+        let x = tokens.numbers[i] as usize;
         if is_fault(role, gates[x], lists[x], line, i) {
-            return Some(positions[i] as u32);
+            return Some(tokens.positions[i] as u32);
         }
         line = pass(lists, role, x, line, i);
     }

@@ -20,7 +20,7 @@ ghost use Rattle.qcir_header.specs.Header.{header_end};
 ghost use Rattle.qcir_reader.specs.Reads.{answer_of, after, Reads};
 
 use acceptance::LIMIT;
-use qcir_tokens::{NUMBERS, TOKENS};
+use qcir_tokens::{NUMBERS, TOKENS, Tokens};
 use refusals::{
     ACCEPTED, BUFFER_TOO_SHORT, GATE_NOT_USED_ONCE, MISPLACED_NAME, MISSPELLED, TOO_LARGE,
     TOO_MANY_VARIABLES, UNBOUND_VARIABLE, Verdict, accepted, refusal,
@@ -127,50 +127,45 @@ fn read_spelled(text: &[u8], at: usize, words: &mut [u32], list: &mut [u32]) -> 
     let mut numbers = [0u16; TOKENS];
     let mut positions = [0u16; TOKENS];
     match qcir_scan::scan(text, at, &mut roles, &mut numbers, &mut positions) {
-        Ok(count) => read_tokens(&roles, &numbers, &positions, count, words, list),
+        Ok(count) => {
+            let tokens = Tokens {
+                roles: &roles,
+                numbers: &numbers,
+                positions: &positions,
+                count,
+            };
+            read_tokens(&tokens, words, list)
+        }
         Err(position) => refused(refusal(MISSPELLED, position)),
     }
 }
 
 // Reads the tokens of a file: refusals 11, 13 and 12, then its table.
-fn read_tokens(
-    roles: &[u8],
-    numbers: &[u16],
-    positions: &[u16],
-    count: usize,
-    words: &mut [u32],
-    list: &mut [u32],
-) -> Answer
-    requires { (f : File) × HoldsFile roles.now numbers.now positions.now count f }
-    ensures { (f : File) → HoldsFile roles.now numbers.now positions.now count f
+fn read_tokens(tokens: &Tokens, words: &mut [u32], list: &mut [u32]) -> Answer
+    requires { (f : File) × HoldsFile tokens.now.roles.now tokens.now.numbers.now tokens.now.positions.now tokens.now.count f }
+    ensures { (f : File) → HoldsFile tokens.now.roles.now tokens.now.numbers.now tokens.now.positions.now tokens.now.count f
         → after result (buffers words.new list.new)
         ≡ file_outcome limits f (buffers words.old list.old) }
 {
     let mut gates = [0u16; NUMBERS];
-    qcir_gates::mark_gates(roles, numbers, count, &mut gates);
-    let verdict = judge_names(roles, numbers, positions, count, &gates);
+    qcir_gates::mark_gates(tokens, &mut gates);
+    let verdict = judge_names(tokens, &gates);
     if ACCEPTED < verdict.number {
         return refused(verdict);
     }
-    store_table(roles, numbers, count, &gates, words, list)
+    store_table(tokens, &gates, words, list)
 }
 
 // The verdict on the names of a file.
-fn judge_names(
-    roles: &[u8],
-    numbers: &[u16],
-    positions: &[u16],
-    count: usize,
-    gates: &[u16],
-) -> Verdict
-    requires holds_file { (f : File) × HoldsFile roles.now numbers.now positions.now count f }
-    requires definitions_in { DefinitionsIn roles.now numbers.now count gates.now }
-    ensures { (f : File) → HoldsFile roles.now numbers.now positions.now count f
+fn judge_names(tokens: &Tokens, gates: &[u16]) -> Verdict
+    requires holds_file { (f : File) × HoldsFile tokens.now.roles.now tokens.now.numbers.now tokens.now.positions.now tokens.now.count f }
+    requires definitions_in { DefinitionsIn tokens.now.roles.now tokens.now.numbers.now tokens.now.count gates.now }
+    ensures { (f : File) → HoldsFile tokens.now.roles.now tokens.now.numbers.now tokens.now.positions.now tokens.now.count f
         → result ≡ name_verdict f }
 {
-    let place = qcir_misplaced::first_misplaced(roles, numbers, positions, count, gates);
-    let gate = qcir_gates::lowest_misused(roles, numbers, count);
-    let variable = qcir_unbound::lowest_unbound(roles, numbers, count, gates);
+    let place = qcir_misplaced::first_misplaced(tokens, gates);
+    let gate = qcir_gates::lowest_misused(tokens);
+    let variable = qcir_unbound::lowest_unbound(tokens, gates);
     name_verdict(place, gate, variable)
 }
 
@@ -195,21 +190,14 @@ fn name_verdict(place: Option<u32>, gate: Option<u32>, variable: Option<u32>) ->
 }
 
 // Refusals 2, 6 and 9; nothing is written before all are decided.
-fn store_table(
-    roles: &[u8],
-    numbers: &[u16],
-    count: usize,
-    gates: &[u16],
-    words: &mut [u32],
-    list: &mut [u32],
-) -> Answer
-    requires holds_names { (f : File) × HoldsNames roles.now numbers.now count f }
-    requires definitions_in { DefinitionsIn roles.now numbers.now count gates.now }
-    ensures { (f : File) → HoldsNames roles.now numbers.now count f
+fn store_table(tokens: &Tokens, gates: &[u16], words: &mut [u32], list: &mut [u32]) -> Answer
+    requires holds_names { (f : File) × HoldsNames tokens.now.roles.now tokens.now.numbers.now tokens.now.count f }
+    requires definitions_in { DefinitionsIn tokens.now.roles.now tokens.now.numbers.now tokens.now.count gates.now }
+    ensures { (f : File) → HoldsNames tokens.now.roles.now tokens.now.numbers.now tokens.now.count f
         → after result (buffers words.new list.new)
         ≡ table_outcome limits f (buffers words.old list.old) }
 {
-    let sizes = qcir_table_sizes::table_sizes(roles, numbers, count, gates);
+    let sizes = qcir_table_sizes::table_sizes(tokens, gates);
     let nodes = sizes.nodes;
     if (LIMIT as u32) < nodes {
         return refused(refusal(TOO_LARGE, 0));
@@ -225,7 +213,7 @@ fn store_table(
     if list.len() < entries as usize {
         return refused(refusal(BUFFER_TOO_SHORT, 0));
     }
-    qcir_table::write_table(roles, numbers, count, words, list);
+    qcir_table::write_table(tokens, words, list);
     Answer {
         verdict: accepted(),
         words: length,

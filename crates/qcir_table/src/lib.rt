@@ -26,36 +26,34 @@ ghost use Rattle.qcir_table.specs.TableFits.{TableFits};
 
 use formula::{EXISTS_BLOCK, FOR_ALL_BLOCK, block_node};
 use qcir_nodes::{Progress, write_literal, write_node, write_token};
-use qcir_tokens::{EXISTS_LINE, EXISTS_LINE_LAST, NUMBERS, is_minus, is_outer};
+use qcir_tokens::{EXISTS_LINE, EXISTS_LINE_LAST, NUMBERS, Tokens, is_minus, is_outer};
 
 // The role of a for-all line's only variable, the highest of those that start a line.
 const FOR_ALL_LINE_LAST: u8 = 8;
 
-// Writes the gate lines, whose tokens are those from `first` up to `count`.
+// Writes the gate lines, whose tokens are those from `first` on.
 fn write_gates(
-    roles: &[u8],
-    numbers: &[u16],
+    tokens: &Tokens,
     first: usize,
-    count: usize,
     words: &mut [u32],
     list: &mut [u32],
     nodes: &mut [u16],
 ) -> Progress
-    requires first_le_count { (first ≤ count) × (count ≤ length roles.now) × (count ≤ length numbers.now) }
+    requires first_le_count { first ≤ tokens.now.count }
     requires nodes_of { NodesOf nodes.old (λ x. 0) }
-    requires first_in_bounds { (length (gates_written roles.now numbers.now first (count - first)).draft.words ≤ length words.old)
-        × (length (gates_written roles.now numbers.now first (count - first)).draft.words ≤ width * limit) }
-    requires first_in_bounds_2 { (length (gates_written roles.now numbers.now first (count - first)).draft.entries ≤ length list.old)
-        × (length (gates_written roles.now numbers.now first (count - first)).draft.entries ≤ limit) }
+    requires first_in_bounds { (length (gates_written tokens.now.roles.now tokens.now.numbers.now first (tokens.now.count - first)).draft.words ≤ length words.old)
+        × (length (gates_written tokens.now.roles.now tokens.now.numbers.now first (tokens.now.count - first)).draft.words ≤ width * limit) }
+    requires first_in_bounds_2 { (length (gates_written tokens.now.roles.now tokens.now.numbers.now first (tokens.now.count - first)).draft.entries ≤ length list.old)
+        × (length (gates_written tokens.now.roles.now tokens.now.numbers.now first (tokens.now.count - first)).draft.entries ≤ limit) }
     ensures words_after { words.new
         ≡ overwrite words.old 0
-        (gates_written roles.now numbers.now first (count - first)).draft.words }
+        (gates_written tokens.now.roles.now tokens.now.numbers.now first (tokens.now.count - first)).draft.words }
     ensures list_after { list.new
         ≡ overwrite list.old 0
-        (gates_written roles.now numbers.now first (count - first)).draft.entries }
+        (gates_written tokens.now.roles.now tokens.now.numbers.now first (tokens.now.count - first)).draft.entries }
     ensures nodes_of_2 { NodesOf nodes.new
-        (gates_written roles.now numbers.now first (count - first)).draft.gate }
-    ensures value { result ≡ (gates_written roles.now numbers.now first (count - first)).progress }
+        (gates_written tokens.now.roles.now tokens.now.numbers.now first (tokens.now.count - first)).draft.gate }
+    ensures value { result ≡ (gates_written tokens.now.roles.now tokens.now.numbers.now first (tokens.now.count - first)).progress }
 {
     let mut p = Progress {
         next: 0,
@@ -66,23 +64,22 @@ fn write_gates(
         inputs: None,
         first: 0,
     };
-    for i in first..count {
-        p = write_token(words, list, nodes, p, roles[i], numbers[i]);
+    for i in first..tokens.count {
+        p = write_token(words, list, nodes, p, tokens.roles[i], tokens.numbers[i]);
     }
     p
 }
 
 // The index of the output's token: how many outer tokens stand before it.
-fn output_index(roles: &[u8], count: usize) -> usize
-    requires { count ≤ length roles.now }
-    ensures { result ≡ output_index roles.now count }
+fn output_index(tokens: &Tokens) -> usize
+    ensures { result ≡ output_index tokens.now.roles.now tokens.now.count }
 {
-    for (i, role) in roles[..count].iter().enumerate() {
+    for (i, role) in tokens.roles[..tokens.count].iter().enumerate() {
         if !is_outer(*role) {
             return i;
         }
     }
-    count
+    tokens.count
 }
 
 // Whether a prefix line starts with this token.
@@ -137,31 +134,24 @@ fn write_line(
 
 // Writes the prefix lines as blocks over what was stored last, the last line first. Their tokens are
 // among the outer ones, which are those before `outer`.
-fn write_lines(
-    roles: &[u8],
-    numbers: &[u16],
-    outer: usize,
-    words: &mut [u32],
-    list: &mut [u32],
-    start: Progress,
-)
-    requires outer_in_bounds { (outer ≤ length roles.now) × (outer ≤ length numbers.now) }
-    requires outer_in_bounds_2 { (width * (lines_written roles.now numbers.now start 0 outer).progress.next ≤ length words.old)
-        × ((lines_written roles.now numbers.now start 0 outer).progress.next ≤ limit) }
-    requires outer_in_bounds_3 { ((lines_written roles.now numbers.now start 0 outer).progress.listed ≤ length list.old)
-        × ((lines_written roles.now numbers.now start 0 outer).progress.listed ≤ limit) }
+fn write_lines(tokens: &Tokens, outer: usize, words: &mut [u32], list: &mut [u32], start: Progress)
+    requires outer_in_bounds { outer ≤ tokens.now.count }
+    requires outer_in_bounds_2 { (width * (lines_written tokens.now.roles.now tokens.now.numbers.now start 0 outer).progress.next ≤ length words.old)
+        × ((lines_written tokens.now.roles.now tokens.now.numbers.now start 0 outer).progress.next ≤ limit) }
+    requires outer_in_bounds_3 { ((lines_written tokens.now.roles.now tokens.now.numbers.now start 0 outer).progress.listed ≤ length list.old)
+        × ((lines_written tokens.now.roles.now tokens.now.numbers.now start 0 outer).progress.listed ≤ limit) }
     ensures words_after { words.new
         ≡ overwrite words.old (width * start.next)
-        (lines_written roles.now numbers.now start 0 outer).words }
+        (lines_written tokens.now.roles.now tokens.now.numbers.now start 0 outer).words }
     ensures list_after { list.new
         ≡ overwrite list.old start.listed
-        (lines_written roles.now numbers.now start 0 outer).entries }
+        (lines_written tokens.now.roles.now tokens.now.numbers.now start 0 outer).entries }
 {
     let mut p = start;
     let mut end = outer;
     for i in (0..outer).rev() {
-        let role = roles[i];
-        p = write_outer(words, list, p, role, &numbers[i..end]);
+        let role = tokens.roles[i];
+        p = write_outer(words, list, p, role, &tokens.numbers[i..end]);
         end = line_end(role, i, end);
     }
 }
@@ -198,23 +188,29 @@ fn write_outer(
     p
 }
 
-// Writes the formula table of the file whose tokens are the first `count`: its nodes to the start of
+// Writes the formula table of the file whose tokens these are: its nodes to the start of
 // `words`, its list to the start of `list`.
 //
 // The contract rules out a writer that takes inputs from right to left, and one by which the first
 // prefix line's block is lowest.
-pub fn write_table(roles: &[u8], numbers: &[u16], count: usize, words: &mut [u32], list: &mut [u32])
-    requires { (f : File) × HoldsNames roles.now numbers.now count f × TableFits f words.old list.old }
-    ensures { (f : File) → HoldsNames roles.now numbers.now count f
+pub fn write_table(tokens: &Tokens, words: &mut [u32], list: &mut [u32])
+    requires { (f : File) × HoldsNames tokens.now.roles.now tokens.now.numbers.now tokens.now.count f × TableFits f words.old list.old }
+    ensures { (f : File) → HoldsNames tokens.now.roles.now tokens.now.numbers.now tokens.now.count f
         → (words.new ≡ overwrite words.old 0 (table_words f))
         × (list.new ≡ overwrite list.old 0 (table_list f)) }
 {
     // for each number, one more than the node of the gate that it names, or 0: an `Option` would take twice the room
     let mut nodes = [0u16; NUMBERS];
-    let output = output_index(roles, count);
-    let p = write_gates(roles, numbers, output + 1, count, words, list, &mut nodes);
-    let q = write_output(roles[output], numbers[output], words, &nodes, p);
-    write_lines(roles, numbers, output, words, list, q);
+    let output = output_index(tokens);
+    let p = write_gates(tokens, output + 1, words, list, &mut nodes);
+    let q = write_output(
+        tokens.roles[output],
+        tokens.numbers[output],
+        words,
+        &nodes,
+        p,
+    );
+    write_lines(tokens, output, words, list, q);
 }
 
 // Writes the output: the node of its name, and its not.

@@ -23,7 +23,7 @@ use Rattle.qcir.specs.Table.{Draft, Stored, store, store_name, store_literal, st
 use Rattle.qcir_tokens.specs.Tokens.{Token, token, line_role, later_role, output_role, junction_role, xor_role, quantifier_role, bound_role, input_role, empty_role, is_outer, is_free, is_definition, is_bound, is_input, is_minus, list_tokens, free_tokens, prefix_tokens, output_token, inputs_tokens, any_inputs_tokens, gate_tokens, gates_tokens, file_tokens, definition_from}
 use Rattle.qcir_tokens.specs.Held.{Definitions}
 use Rattle.qcir_tokens.proofs.Roles.{free_all, line_all, later_all, output_all, bound_all, input_all, output_minus, input_minus, output_no_definition, bound_no_definition, input_no_definition, junction_defines, xor_defines, quantifier_defines, Quiet, none, more, quiet_free, quiet_front, front_no_definition, gate_tokens_lem}
-use Rattle.qcir_tokens.proofs.Tokens.{file_parts}
+use Rattle.qcir_tokens.proofs.Parts.{file_parts}
 use Rattle.qcir_table_sizes.specs.declared.Pass.{Pass}
 use Rattle.qcir_table_sizes.specs.Pass.{is_earlier, start, block_added, operand_added, input_added, line_begun, variable_added, constant_added, gate_step, gates_pass, output_added, outer_step, file_pass}
 use Rattle.qcir_table_sizes.specs.Excess.{lowest_below}

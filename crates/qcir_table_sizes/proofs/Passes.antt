@@ -13,7 +13,7 @@ use Rattle.lists.specs.Choice.{pick, pick_yes, pick_no}
 use Rattle.lists.proofs.Parts.{pick_le}
 use Rattle.qcir_tokens.specs.Tokens.{Token, is_outer, is_free, is_definition, is_bound, is_input, is_minus}
 use Rattle.qcir_tokens.specs.Held.{token_at, tokens_from}
-use Rattle.qcir_tokens.proofs.Tokens.{tokens_end, tokens_next}
+use Rattle.qcir_tokens.proofs.Parts.{tokens_end, tokens_next}
 use Rattle.qcir_table_sizes.specs.declared.Pass.{Pass}
 use Rattle.qcir_table_sizes.specs.Pass.{Small, Room, is_earlier, start, block_added, operand_added, input_added, line_begun, variable_added, constant_added, gate_step, gates_pass, output_added, outer_step, outer_pass, file_pass}
 

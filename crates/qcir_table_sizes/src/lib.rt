@@ -26,6 +26,8 @@ ghost use Rattle.qcir_table_sizes.specs.Pass.{
   file_pass,
 };
 
+use qcir_tokens::Tokens;
+
 // How many nodes and list entries a table has, and its lowest block that brings the sum of counts over the limit, if
 // there is one.
 #[derive(Clone, Copy)]
@@ -51,17 +53,16 @@ pub struct Pass {
 // The sizes of the table of the file whose tokens these are. `gates` gives each gate's first definition.
 //
 // The contract rules out a count by which the limit is passed where it is only reached.
-pub fn table_sizes(roles: &[u8], numbers: &[u16], count: usize, gates: &[u16]) -> TableSizes
-    requires count_in_bounds { (count ≤ length roles.now) × (count ≤ length numbers.now) × (count ≤ token_limit) }
-    requires definitions_in { DefinitionsIn roles.now numbers.now count gates.now }
-    ensures { (f : File) → HoldsNames roles.now numbers.now count f
+pub fn table_sizes(tokens: &Tokens, gates: &[u16]) -> TableSizes
+    requires definitions_in { DefinitionsIn tokens.now.roles.now tokens.now.numbers.now tokens.now.count gates.now }
+    ensures { (f : File) → HoldsNames tokens.now.roles.now tokens.now.numbers.now tokens.now.count f
         → (result.nodes ≡ node_count (table_words f))
         × (result.entries ≡ length (table_list f))
         × (result.excess ≡ lowest_below (too_many_variables limit (table_words f)) (node_count (table_words f))) }
 {
-    let end = outer_end(roles, count);
-    let inner = inner_pass(roles, numbers, count, gates, end);
-    let whole = outer_pass(roles, end, inner);
+    let end = outer_end(tokens);
+    let inner = inner_pass(tokens, gates, end);
+    let whole = outer_pass(tokens.roles, end, inner);
     TableSizes {
         nodes: whole.nodes,
         entries: whole.entries,
@@ -70,33 +71,31 @@ pub fn table_sizes(roles: &[u8], numbers: &[u16], count: usize, gates: &[u16]) -
 }
 
 // The index of the first token that is no entry of the free line or a prefix line.
-fn outer_end(roles: &[u8], count: usize) -> usize
-    requires { count ≤ length roles.now }
-    ensures { (result ≤ count) × ((j : ℕ) → j < result → is_outer (get_or roles.now j 0) ≡ true)
-        × (result < count → is_outer (get_or roles.now result 0) ≡ false) }
+fn outer_end(tokens: &Tokens) -> usize
+    ensures { (result ≤ tokens.now.count) × ((j : ℕ) → j < result → is_outer (get_or tokens.now.roles.now j 0) ≡ true)
+        × (result < tokens.now.count → is_outer (get_or tokens.now.roles.now result 0) ≡ false) }
 {
-    roles[..count]
+    tokens.roles[..tokens.count]
         .iter()
         .position(|role| !qcir_tokens::is_outer(*role))
-        .unwrap_or(count)
+        .unwrap_or(tokens.count)
 }
 
 // The gates and then the output, which is token `end`.
-fn inner_pass(roles: &[u8], numbers: &[u16], count: usize, gates: &[u16], end: usize) -> Pass
-    requires count_in_bounds { (count ≤ length roles.now) × (count ≤ length numbers.now) × (count ≤ token_limit) }
-    requires gates_len { (length gates.now ≡ number_count) × (end ≤ count) }
-    requires end_value { end < count → is_outer (get_or roles.now end 0) ≡ false }
+fn inner_pass(tokens: &Tokens, gates: &[u16], end: usize) -> Pass
+    requires gates_len { (length gates.now ≡ number_count) × (end ≤ tokens.now.count) }
+    requires end_value { end < tokens.now.count → is_outer (get_or tokens.now.roles.now end 0) ≡ false }
     ensures small { Small 32769 result }
     ensures by_index { (ps : List ℕ)
         → result ≡ file_pass gates.now end
-        (tokens_from roles.now numbers.now ps end (count - end)) }
+        (tokens_from tokens.now.roles.now tokens.now.numbers.now ps end (tokens.now.count - end)) }
 {
-    if count <= end {
+    if tokens.count <= end {
         return start();
     }
-    let s = gates_pass(roles, numbers, count, gates, end + 1);
-    let gate = gate_of(numbers, gates, end);
-    add_output(roles[end], gate, s)
+    let s = gates_pass(tokens, gates, end + 1);
+    let gate = gate_of(tokens.numbers, gates, end);
+    add_output(tokens.roles[end], gate, s)
 }
 
 // The first definition of token i's number.
@@ -123,18 +122,17 @@ fn start() -> Pass
 }
 
 // The gate lines, whose tokens are those from `from` on.
-fn gates_pass(roles: &[u8], numbers: &[u16], count: usize, gates: &[u16], from: usize) -> Pass
-    requires count_in_bounds { (count ≤ length roles.now) × (count ≤ length numbers.now) × (count ≤ token_limit) }
-    requires gates_len { (length gates.now ≡ number_count) × (from ≤ count) }
-    ensures small { Small count result }
+fn gates_pass(tokens: &Tokens, gates: &[u16], from: usize) -> Pass
+    requires gates_len { (length gates.now ≡ number_count) × (from ≤ tokens.now.count) }
+    ensures small { Small tokens.now.count result }
     ensures by_index { (ps : List ℕ)
         → result ≡ gates_pass gates.now from
-        (tokens_from roles.now numbers.now ps from (count - from)) start }
+        (tokens_from tokens.now.roles.now tokens.now.numbers.now ps from (tokens.now.count - from)) start }
 {
     let mut s = start();
-    for i in from..count {
-        let gate = gate_of(numbers, gates, i);
-        s = add_token(roles[i], gate, i as u32, s);
+    for i in from..tokens.count {
+        let gate = gate_of(tokens.numbers, gates, i);
+        s = add_token(tokens.roles[i], gate, i as u32, s);
     }
     s
 }

@@ -1,4 +1,4 @@
 pub mod Roles
-pub mod Tokens
+pub mod Parts
 pub mod Files
 pub mod Lowest

@@ -2,15 +2,27 @@
 // them: roles, numbers and positions.
 #![tactic(auto)]
 
-ghost use Rattle.std.specs.Prelude.{◌≡◌};
+ghost use Rattle.std.specs.Prelude.{◌≡◌, ◌≤◌};
 ghost use Rattle.qcir_tokens.specs.Tokens.{is_outer, is_free, is_output, is_definition, is_bound, is_input, is_use, is_minus, is_last};
-ghost use Rattle.qcir_tokens.specs.Held.{with_number};
+ghost use Rattle.qcir_tokens.specs.Held.{Room, token_limit, with_number};
 
 // At most half as many tokens as bytes are in a text.
 pub const TOKENS: usize = 32768;
 
 // How many different numbers of 16 bits there are.
 pub const NUMBERS: usize = 65536;
+
+// The tokens of a file: the role, the number and the position of each. They are the first `count` of the arrays, which may be
+// longer.
+#[derive(Clone, Copy)]
+pub struct Tokens<'a> {
+    pub roles: &'a [u8],
+    pub numbers: &'a [u16],
+    pub positions: &'a [u16],
+    pub count: usize,
+    ghost room: { Room roles.now numbers.now positions.now count },
+    ghost few: { count ≤ token_limit },
+}
 
 // Roles that single tokens have; the tests below cover the others.
 pub const EXISTS_LINE: u8 = 5;

@@ -8,7 +8,7 @@
 // a gate line is come by twice: the walk ends within two steps a token.
 #![tactic(auto)]
 
-ghost use Rattle.std.specs.Prelude.{true, false, not, ◌&&◌, [], ◌≡◌, ℕ, ◌*◌, ◌≤◌, ◌<◌, eqb, length, get_or};
+ghost use Rattle.std.specs.Prelude.{true, false, not, ◌&&◌, [], ◌≡◌, ℕ, ◌*◌, ◌<◌, eqb, length, get_or};
 ghost use Rattle.qcir.specs.File.{File};
 ghost use Rattle.qcir.specs.Refusals.{misplaced, not_used_once, unbound};
 ghost use Rattle.qcir_tokens.specs.Tokens.{is_use};
@@ -16,7 +16,7 @@ ghost use Rattle.qcir_tokens.specs.Held.{HoldsNames, DefinitionsIn, number_count
 ghost use Rattle.qcir_unbound.specs.Outer.{Outer, AllMarked};
 ghost use Rattle.qcir_unbound.specs.Steps.{tokens_of, token_of, state_of, start, is_end, is_above, moved, past, noted, judged, onward, back, step_at, run, Within, StepFits, BackFits};
 
-use qcir_tokens::{NUMBERS, TOKENS};
+use qcir_tokens::{NUMBERS, TOKENS, Tokens};
 
 // The token at which the walk stands, on its way onward or back through a gate line; and the lowest unbound variable that was
 // found, if any was.
@@ -39,54 +39,45 @@ pub struct Token {
 // The lowest unbound variable, if there is one, of a file that refusals 11 and 13 leave.
 //
 // The contract rules out a walk that takes a name as bound once some gate has bound it, and one that stops early.
-pub fn lowest_unbound(roles: &[u8], numbers: &[u16], count: usize, gates: &[u16]) -> Option<u32>
-    requires holds_names { (f : File) × HoldsNames roles.now numbers.now count f }
-    requires definitions_in { DefinitionsIn roles.now numbers.now count gates.now }
-    ensures { (f : File) → HoldsNames roles.now numbers.now count f
+pub fn lowest_unbound(tokens: &Tokens, gates: &[u16]) -> Option<u32>
+    requires holds_names { (f : File) × HoldsNames tokens.now.roles.now tokens.now.numbers.now tokens.now.count f }
+    requires definitions_in { DefinitionsIn tokens.now.roles.now tokens.now.numbers.now tokens.now.count gates.now }
+    ensures { (f : File) → HoldsNames tokens.now.roles.now tokens.now.numbers.now tokens.now.count f
         → misplaced f ≡ [] → not_used_once f ≡ [] → result ≡ found_of (unbound f) }
 {
     let mut marks = [false; NUMBERS];
-    let output = mark_outer(roles, numbers, count, &mut marks);
-    if all_marked(roles, numbers, output, count, gates, &marks) {
+    let output = mark_outer(tokens, &mut marks);
+    if all_marked(tokens, output, gates, &marks) {
         return None;
     }
-    let walk = walk_tokens(roles, numbers, count, gates, output, &mut marks);
+    let walk = walk_tokens(tokens, gates, output, &mut marks);
     walk.lowest
 }
 
 // Marks the numbers that the free and prefix lines name. The result is the output's token, the first after theirs.
-fn mark_outer(roles: &[u8], numbers: &[u16], count: usize, marks: &mut [bool]) -> usize
-    requires count_in_bounds { (count ≤ length roles.now) × (count ≤ length numbers.now) }
+fn mark_outer(tokens: &Tokens, marks: &mut [bool]) -> usize
     requires marks_len { length marks.old ≡ number_count }
     requires by_index { (x : ℕ) → get_or marks.old x false ≡ false }
-    ensures { Outer roles.now numbers.now count result marks.new }
+    ensures { Outer tokens.now.roles.now tokens.now.numbers.now tokens.now.count result marks.new }
 {
-    for i in 0..count {
-        if !qcir_tokens::is_outer(roles[i]) {
+    for i in 0..tokens.count {
+        if !qcir_tokens::is_outer(tokens.roles[i]) {
             return i;
         }
-        marks[numbers[i] as usize] = true;
+        marks[tokens.numbers[i] as usize] = true;
     }
-    count
+    tokens.count
 }
 
 // Whether every variable used at a token from `first` on is marked.
-fn all_marked(
-    roles: &[u8],
-    numbers: &[u16],
-    first: usize,
-    count: usize,
-    gates: &[u16],
-    marks: &[bool],
-) -> bool
-    requires count_in_bounds { (count ≤ length roles.now) × (count ≤ length numbers.now) }
+fn all_marked(tokens: &Tokens, first: usize, gates: &[u16], marks: &[bool]) -> bool
     requires gates_len { (length gates.now ≡ number_count) × (length marks.now ≡ number_count) }
-    ensures { result ≡ true → AllMarked roles.now numbers.now
-        gates.now marks.now first count }
+    ensures { result ≡ true → AllMarked tokens.now.roles.now tokens.now.numbers.now
+        gates.now marks.now first tokens.now.count }
 {
-    for i in first..count {
-        let x = numbers[i] as usize;
-        if is_unmarked(roles[i], gates[x], marks[x]) {
+    for i in first..tokens.count {
+        let x = tokens.numbers[i] as usize;
+        if is_unmarked(tokens.roles[i], gates[x], marks[x]) {
             return false;
         }
     }
@@ -102,18 +93,11 @@ fn is_unmarked(role: u8, gate: u16, marked: bool) -> bool
 
 // Walks from the output, with the numbers marked that the free and prefix lines name, until it is back there: two steps a
 // token at most.
-fn walk_tokens(
-    roles: &[u8],
-    numbers: &[u16],
-    count: usize,
-    gates: &[u16],
-    output: usize,
-    marks: &mut [bool],
-) -> Walk
-    requires within { Within roles.now numbers.now count gates.now }
-    requires output_lt_count { (output < count) × (length marks.old ≡ number_count) }
-    ensures { result ≡ (run (tokens_of roles.now numbers.now gates.now)
-        (2 * count) (start output marks.old)).walk }
+fn walk_tokens(tokens: &Tokens, gates: &[u16], output: usize, marks: &mut [bool]) -> Walk
+    requires within { Within tokens.now.roles.now tokens.now.numbers.now tokens.now.count gates.now }
+    requires output_lt_count { (output < tokens.now.count) × (length marks.old ≡ number_count) }
+    ensures { result ≡ (run (tokens_of tokens.now.roles.now tokens.now.numbers.now gates.now)
+        (2 * tokens.now.count) (start output marks.old)).walk }
 {
     let mut kept = [0u16; TOKENS];
     let mut walk = Walk {
@@ -121,25 +105,25 @@ fn walk_tokens(
         leaving: false,
         lowest: None,
     };
-    for _ in 0..2 * count {
-        let token = token_at(roles, numbers, gates, walk.at);
+    for _ in 0..2 * tokens.count {
+        let token = token_at(tokens, gates, walk.at);
         if walk.leaving & is_above(token.role) {
             return walk;
         }
-        walk = take_step(roles, token, marks, &mut kept, walk);
+        walk = take_step(tokens.roles, token, marks, &mut kept, walk);
     }
     walk
 }
 
 // Token i, as the walk reads it.
-fn token_at(roles: &[u8], numbers: &[u16], gates: &[u16], i: usize) -> Token
-    requires i_in_bounds { (i < length roles.now) × (i < length numbers.now) }
+fn token_at(tokens: &Tokens, gates: &[u16], i: usize) -> Token
+    requires i_in_bounds { i < tokens.now.count }
     requires gates_len { length gates.now ≡ number_count }
-    ensures { result ≡ token_of (tokens_of roles.now numbers.now gates.now) i }
+    ensures { result ≡ token_of (tokens_of tokens.now.roles.now tokens.now.numbers.now gates.now) i }
 {
-    let number = numbers[i];
+    let number = tokens.numbers[i];
     Token {
-        role: roles[i],
+        role: tokens.roles[i],
         number,
         gate: gates[number as usize],
     }

@@ -4,4 +4,4 @@ use Rattle.qcir_gates.proofs.Passes.{Counted}
 use Rattle.qcir_gates.proofs.count_uses.Given as goal
 
 abbrev pub invariant-loop-i : goal.invariant-loop-i
-invariant-loop-i l = Counted l.roles l.numbers l.count l.uses l.i
+invariant-loop-i l = Counted l.tokens.roles.now l.tokens.numbers.now l.tokens.count l.uses l.i

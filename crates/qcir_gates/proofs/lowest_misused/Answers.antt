@@ -11,7 +11,6 @@ use Rattle.qcir_gates.proofs.lowest_misused.Goals as goal
 pub count_uses-requires : goal.count_uses-requires
 count_uses-requires c =
     record {
-      count_in_bounds = c.requires;
       uses_len = search rules;
       by_index = λ x. get_or-filled {A = ℕ} 65536 x 0;
     }

@@ -4,4 +4,4 @@ use Rattle.qcir_gates.proofs.Passes.{Misused}
 use Rattle.qcir_gates.proofs.lowest_not_once.Given as goal
 
 abbrev pub invariant-loop-i : goal.invariant-loop-i
-invariant-loop-i l = Misused l.roles l.numbers l.count l.uses l.lowest l.i
+invariant-loop-i l = Misused l.tokens.roles.now l.tokens.numbers.now l.tokens.count l.uses l.lowest l.i

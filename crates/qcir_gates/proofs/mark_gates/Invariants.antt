@@ -4,4 +4,4 @@ use Rattle.qcir_gates.proofs.Passes.{Marked}
 use Rattle.qcir_gates.proofs.mark_gates.Given as goal
 
 abbrev pub invariant-loop-i : goal.invariant-loop-i
-invariant-loop-i l = Marked l.roles l.numbers l.count l.gates l.i
+invariant-loop-i l = Marked l.tokens.roles.now l.tokens.numbers.now l.tokens.count l.gates l.i

@@ -9,4 +9,4 @@ use Rattle.qcir_misplaced.proofs.first_fault.Given as goal
 
 abbrev pub invariant-loop-i : goal.invariant-loop-i
 invariant-loop-i l = (l.line ≤ l.i) × (length l.lists ≡ number_count)
-    × (All l.gates l.roles l.numbers l.positions l.count l.initial.lists ≡ From l.gates l.roles l.numbers l.positions l.count l.lists l.line l.i)
+    × (All l.gates l.tokens.roles.now l.tokens.numbers.now l.tokens.positions.now l.tokens.count l.initial.lists ≡ From l.gates l.tokens.roles.now l.tokens.numbers.now l.tokens.positions.now l.tokens.count l.lists l.line l.i)

@@ -10,8 +10,7 @@ use Rattle.qcir_reader.proofs.read_tokens.Goals as goal
 
 pub mark_gates-requires : goal.mark_gates-requires
 mark_gates-requires c =
-    let h = c.requires.1 in record {
-      count_in_bounds = (h.room.roles_hold, h.room.numbers_hold, h.few);
+    record {
       gates_len = search rules;
       by_index = λ x. get_or-filled {A = ℕ} 65536 x 0;
     }
@@ -29,9 +28,9 @@ returns-then-verdict-gt-ACCEPTED c = λ f h. names_refuse f c.args.words.now c.a
 pub store_table-requires : goal.store_table-requires
 store_table-requires c =
     let p = c.requires in record {
-      holds_names = (p.0, (c.args.positions.now, p.1));
+      holds_names = (p.0, (c.args.tokens.now.positions.now, p.1));
       definitions_in = c.mark_gates.ensures;
     }
 
 pub returns : goal.returns
-returns c = λ f h. c.store_table.ensures f (c.args.positions.now, h) ∙ names_pass_lem f c.args.words.now c.args.list.now c.judge_names-verdict.result (c.judge_names-verdict.ensures f h) (omega (arith, c.if-verdict-gt-ACCEPTED.false))
+returns c = λ f h. c.store_table.ensures f (c.args.tokens.now.positions.now, h) ∙ names_pass_lem f c.args.words.now c.args.list.now c.judge_names-verdict.result (c.judge_names-verdict.ensures f h) (omega (arith, c.if-verdict-gt-ACCEPTED.false))

@@ -10,11 +10,7 @@ use Rattle.qcir_reader.proofs.store_table.Goals as goal
 
 pub table_sizes-sizes-requires : goal.table_sizes-sizes-requires
 table_sizes-sizes-requires c =
-    let p = c.requires in
-    let h = p.holds_names.1.1 in record {
-      count_in_bounds = (h.room.roles_hold, h.room.numbers_hold, h.few);
-      definitions_in = p.definitions_in;
-    }
+    record { definitions_in = c.requires.definitions_in }
 
 pub returns-then-nodes : goal.returns-then-nodes
 returns-then-nodes c =

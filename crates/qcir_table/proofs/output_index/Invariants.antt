@@ -8,4 +8,4 @@ use Rattle.qcir_tokens.specs.Tokens.{is_outer}
 use Rattle.qcir_table.proofs.output_index.Given as goal
 
 abbrev pub invariant-loop-i : goal.invariant-loop-i
-invariant-loop-i l = (k : ℕ) → k < l.i → not (is_outer (get_or l.roles k 0)) ≡ false
+invariant-loop-i l = (k : ℕ) → k < l.i → not (is_outer (get_or l.tokens.roles.now k 0)) ≡ false

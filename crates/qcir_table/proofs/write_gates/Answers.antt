@@ -16,9 +16,9 @@ write_token-p-requires c =
     let a = c.args in
     let v = c.loop-i in
     let t = c.loop-i-test.true in
-    let f = fits_less a.roles.now a.numbers.now a.first (suc (v.i - a.first)) (a.count - a.first) a.words.now a.list.now (omega arith) (record { words_fit = c.requires.first_in_bounds.0; few_words = c.requires.first_in_bounds.1; list_fits = c.requires.first_in_bounds_2.0; few_entries = c.requires.first_in_bounds_2.1 }) in
-    let role = from_first a.roles.now a.first v.i (omega arith) in
-    let x = from_first a.numbers.now a.first v.i (omega arith) in record {
+    let f = fits_less a.tokens.now.roles.now a.tokens.now.numbers.now a.first (suc (v.i - a.first)) (a.tokens.now.count - a.first) a.words.now a.list.now (omega arith) (record { words_fit = c.requires.first_in_bounds.0; few_words = c.requires.first_in_bounds.1; list_fits = c.requires.first_in_bounds_2.0; few_entries = c.requires.first_in_bounds_2.1 }) in
+    let role = from_first a.tokens.now.roles.now a.first v.i (omega arith) in
+    let x = from_first a.tokens.now.numbers.now a.first v.i (omega arith) in record {
       first_le_listed = token_listed _ _ _ _ _ _ _ _ _ _ _ _ v.invariant role x f;
       nodes_len = v.invariant.nodes_are.wide;
       room = token_room _ _ _ _ _ _ _ _ _ _ _ _ v.invariant role x f;
@@ -29,17 +29,16 @@ loop-i-preserved c =
     let a = c.args in
     let v = c.loop-i in
     let t = c.loop-i-test.true in
-    let f = fits_less a.roles.now a.numbers.now a.first (suc (v.i - a.first)) (a.count - a.first) a.words.now a.list.now (omega arith) (record { words_fit = c.requires.first_in_bounds.0; few_words = c.requires.first_in_bounds.1; list_fits = c.requires.first_in_bounds_2.0; few_entries = c.requires.first_in_bounds_2.1 }) in
-    let role = from_first a.roles.now a.first v.i (omega arith) in
-    let x = from_first a.numbers.now a.first v.i (omega arith) in
+    let f = fits_less a.tokens.now.roles.now a.tokens.now.numbers.now a.first (suc (v.i - a.first)) (a.tokens.now.count - a.first) a.words.now a.list.now (omega arith) (record { words_fit = c.requires.first_in_bounds.0; few_words = c.requires.first_in_bounds.1; list_fits = c.requires.first_in_bounds_2.0; few_entries = c.requires.first_in_bounds_2.1 }) in
+    let role = from_first a.tokens.now.roles.now a.first v.i (omega arith) in
+    let x = from_first a.tokens.now.numbers.now a.first v.i (omega arith) in
     let e : v.i + 1 - a.first ≡ suc (v.i - a.first) = omega arith in
-    let low = c.type_inv.numbers v.i in
     rw e (reached_token _ _ _ _ _ _ _ _ _ _ _ _ v.invariant role x f _ _ _ _ (omega arith) c.write_token-p.ensures.wrote c.write_token-p.ensures.list_after c.write_token-p.ensures.nodes_after c.write_token-p.auto.words c.write_token-p.auto.list)
 
 pub returns : goal.returns
 returns c =
     let v = c.loop-i in
-    let e : v.i ≡ c.args.count = omega arith in
+    let e : v.i ≡ c.args.tokens.now.count = omega arith in
     let r = rw e at v.invariant in record {
       words_after = r.words_are;
       list_after = r.list_is;

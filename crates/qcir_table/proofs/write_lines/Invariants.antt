@@ -4,4 +4,4 @@ use Rattle.qcir_table.proofs.Lines.{Reached}
 use Rattle.qcir_table.proofs.write_lines.Given as goal
 
 abbrev pub invariant-loop-i : goal.invariant-loop-i
-invariant-loop-i l = Reached l.roles l.numbers l.initial.p l.outer l.i l.end l.initial.words l.initial.list l.words l.list l.p
+invariant-loop-i l = Reached l.tokens.roles.now l.tokens.numbers.now l.initial.p l.outer l.i l.end l.initial.words l.initial.list l.words l.list l.p

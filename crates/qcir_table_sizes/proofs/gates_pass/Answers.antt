@@ -11,7 +11,7 @@ use Rattle.qcir_table_sizes.proofs.gates_pass.Goals as goal
 pub loop-i-init : goal.loop-i-init
 loop-i-init c =
     let a = c.args in
-    rw c.start-s.ensures (left_start a.roles.now a.numbers.now a.count a.gates.now a.from)
+    rw c.start-s.ensures (left_start a.tokens.now.roles.now a.tokens.now.numbers.now a.tokens.now.count a.gates.now a.from)
 
 pub add_token-s-requires : goal.add_token-s-requires
 add_token-s-requires c =
@@ -22,13 +22,13 @@ pub loop-i-preserved : goal.loop-i-preserved
 loop-i-preserved c =
     let l = c.loop-i in
     let a = c.args in
-    rw (c.add_token-s.ensures ∙ ap (λ (gate : ℕ). gate_step (get_or a.roles.now l.i 0) gate l.i l.s) c.gate_of-gate.ensures) (left_more a.roles.now a.numbers.now a.count a.gates.now a.from l.i l.s (omega arith) l.invariant)
+    rw (c.add_token-s.ensures ∙ ap (λ (gate : ℕ). gate_step (get_or a.tokens.now.roles.now l.i 0) gate l.i l.s) c.gate_of-gate.ensures) (left_more a.tokens.now.roles.now a.tokens.now.numbers.now a.tokens.now.count a.gates.now a.from l.i l.s (omega arith) l.invariant)
 
 pub returns : goal.returns
 returns c =
     let l = c.loop-i in
     let a = c.args in
-    let e : l.i ≡ a.count = omega arith in record {
+    let e : l.i ≡ a.tokens.now.count = omega arith in record {
       small = rw e at l.invariant.small;
-      by_index = left_none a.roles.now a.numbers.now a.count a.gates.now a.from l.i l.s (omega arith) l.invariant;
+      by_index = left_none a.tokens.now.roles.now a.tokens.now.numbers.now a.tokens.now.count a.gates.now a.from l.i l.s (omega arith) l.invariant;
     }

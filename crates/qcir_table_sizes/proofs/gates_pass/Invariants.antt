@@ -4,4 +4,4 @@ use Rattle.qcir_table_sizes.proofs.Passes.{Left}
 use Rattle.qcir_table_sizes.proofs.gates_pass.Given as goal
 
 abbrev pub invariant-loop-i : goal.invariant-loop-i
-invariant-loop-i l = Left l.roles l.numbers l.count l.gates l.from l.i l.s
+invariant-loop-i l = Left l.tokens.roles.now l.tokens.numbers.now l.tokens.count l.gates l.from l.i l.s

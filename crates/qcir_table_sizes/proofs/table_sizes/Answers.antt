@@ -13,7 +13,6 @@ use Rattle.qcir_table_sizes.proofs.table_sizes.Goals as goal
 pub inner_pass-inner-requires : goal.inner_pass-inner-requires
 inner_pass-inner-requires c =
     let end = c.outer_end-end.ensures in record {
-      count_in_bounds = c.requires.count_in_bounds;
       gates_len = ((c.requires.definitions_in []).wide, end.0);
       end_value = end.2;
     }
@@ -27,4 +26,4 @@ pub returns : goal.returns
 returns c f (ps, h) =
     let a = c.args in
     let end = c.outer_end-end in
-    sizes-of_file f a.gates.now (subst (λ (ts : List Token). Definitions a.gates.now ts) h.tokens (c.requires.definitions_in ps)) _ (c.outer_pass-whole.ensures ∙ ap (outer_pass a.roles.now end.result) (c.inner_pass-inner.ensures.by_index ps) ∙ outer_whole a.roles.now a.numbers.now a.count a.gates.now ps end.result end.result end.ensures.0 end.ensures.1 (omega arith) ∙ ap (file_pass a.gates.now 0) h.tokens)
+    sizes-of_file f a.gates.now (subst (λ (ts : List Token). Definitions a.gates.now ts) h.tokens (c.requires.definitions_in ps)) _ (c.outer_pass-whole.ensures ∙ ap (outer_pass a.tokens.now.roles.now end.result) (c.inner_pass-inner.ensures.by_index ps) ∙ outer_whole a.tokens.now.roles.now a.tokens.now.numbers.now a.tokens.now.count a.gates.now ps end.result end.result end.ensures.0 end.ensures.1 (omega arith) ∙ ap (file_pass a.gates.now 0) h.tokens)

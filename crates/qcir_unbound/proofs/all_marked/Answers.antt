@@ -9,19 +9,7 @@ use Rattle.qcir_unbound.proofs.all_marked.Goals as goal
 pub loop-i-init : goal.loop-i-init
 loop-i-init c =
     let a = c.args in
-    all_marked_none a.roles.now a.numbers.now a.gates.now a.marks.now a.first
-
-pub overflow_cast-x : goal.overflow_cast-x
-overflow_cast-x c = omega (arith, c.type_inv.numbers c.loop-i.i)
-
-pub offset_bounds-gates-x : goal.offset_bounds-gates-x
-offset_bounds-gates-x c = omega (arith, c.type_inv.numbers c.loop-i.i)
-
-pub bounds-gates-x : goal.bounds-gates-x
-bounds-gates-x c = omega (arith, c.type_inv.numbers c.loop-i.i)
-
-pub bounds-marks-x : goal.bounds-marks-x
-bounds-marks-x c = omega (arith, c.type_inv.numbers c.loop-i.i)
+    all_marked_none a.tokens.now.roles.now a.tokens.now.numbers.now a.gates.now a.marks.now a.first
 
 pub returns-then-is_unmarked : goal.returns-then-is_unmarked
 returns-then-is_unmarked c = λ e. absurd (true≢false (sym e))
@@ -30,7 +18,7 @@ pub loop-i-preserved : goal.loop-i-preserved
 loop-i-preserved c =
     let a = c.args in
     let l = c.loop-i in
-    all_marked_next a.roles.now a.numbers.now a.gates.now a.marks.now a.first l.i (sym c.is_unmarked.ensures ∙ c.if-is_unmarked.false) l.invariant
+    all_marked_next a.tokens.now.roles.now a.tokens.now.numbers.now a.gates.now a.marks.now a.first l.i (sym c.is_unmarked.ensures ∙ c.if-is_unmarked.false) l.invariant
 
 pub returns : goal.returns
 returns c = λ e k l h. c.loop-i.invariant k l (omega arith)

@@ -8,35 +8,27 @@ use Rattle.qcir_unbound.proofs.mark_outer.Goals as goal
 pub loop-i-init : goal.loop-i-init
 loop-i-init c =
     let a = c.args in
-    marking_start a.roles.now a.numbers.now a.count a.marks.now c.requires.marks_len c.requires.by_index
+    marking_start a.tokens.now.roles.now a.tokens.now.numbers.now a.tokens.now.count a.marks.now c.requires.marks_len c.requires.by_index
 
 pub returns-then-not-is_outer : goal.returns-then-not-is_outer
 returns-then-not-is_outer c =
     let a = c.args in
     let l = c.loop-i in
-    marking_done a.roles.now a.numbers.now a.count l.marks l.i
-    (outer_stop a.roles.now a.numbers.now a.count l.i c.loop-i-test.true (sym c.is_outer.ensures ∙ c.if-not-is_outer.true))
+    marking_done a.tokens.now.roles.now a.tokens.now.numbers.now a.tokens.now.count l.marks l.i
+    (outer_stop a.tokens.now.roles.now a.tokens.now.numbers.now a.tokens.now.count l.i c.loop-i-test.true (sym c.is_outer.ensures ∙ c.if-not-is_outer.true))
     l.invariant
-
-pub overflow_cast-marks : goal.overflow_cast-marks
-overflow_cast-marks c = omega (arith, c.type_inv.numbers c.loop-i.i)
-
-pub bounds-marks-numbers : goal.bounds-marks-numbers
-bounds-marks-numbers c =
-    let l = c.loop-i in
-    omega (arith, c.type_inv.numbers l.i, l.invariant.wide)
 
 pub loop-i-preserved : goal.loop-i-preserved
 loop-i-preserved c =
     let a = c.args in
     let l = c.loop-i in
-    marking_next a.roles.now a.numbers.now a.count l.marks l.i c.loop-i-test.true (omega (arith, c.type_inv.numbers l.i)) (sym c.is_outer.ensures ∙ c.if-not-is_outer.false) l.invariant
+    marking_next a.tokens.now.roles.now a.tokens.now.numbers.now a.tokens.now.count l.marks l.i c.loop-i-test.true (omega arith) (sym c.is_outer.ensures ∙ c.if-not-is_outer.false) l.invariant
 
 pub returns : goal.returns
 returns c =
     let a = c.args in
     let l = c.loop-i in
-    let all : l.i ≡ a.count = omega arith in
-    rw all at (marking_done a.roles.now a.numbers.now a.count l.marks l.i
-    (outer_end a.roles.now a.numbers.now a.count l.i c.loop-i-test.false)
+    let all : l.i ≡ a.tokens.now.count = omega arith in
+    rw all at (marking_done a.tokens.now.roles.now a.tokens.now.numbers.now a.tokens.now.count l.marks l.i
+    (outer_end a.tokens.now.roles.now a.tokens.now.numbers.now a.tokens.now.count l.i c.loop-i-test.false)
     l.invariant)

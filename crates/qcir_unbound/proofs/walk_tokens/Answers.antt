@@ -16,17 +16,17 @@ overflow_mul-end c = omega (arith, c.requires.within.few)
 pub loop-init : goal.loop-init
 loop-init c =
     let e = start_is c.args.output c.args.marks.now in
-    let all : 2 * c.args.count - 0 ≡ 2 * c.args.count = omega arith in (
-      subst (Low c.args.count) (sym e) (start_low _ _ _ c.requires.output_lt_count.0),
+    let all : 2 * c.args.tokens.now.count - 0 ≡ 2 * c.args.tokens.now.count = omega arith in (
+      subst (Low c.args.tokens.now.count) (sym e) (start_low _ _ _ c.requires.output_lt_count.0),
       c.requires.output_lt_count.1,
       length-replicate {A = ℕ} token_limit 0,
-      rw all (ap (run _ (2 * c.args.count)) e),
+      rw all (ap (run _ (2 * c.args.tokens.now.count)) e),
     )
 
 pub token_at-token-requires : goal.token_at-token-requires
 token_at-token-requires c =
     let h = c.requires.within in record {
-      i_in_bounds = (omega (arith, stands_low _ _ _ _ c.loop.invariant.0, h.roles_hold), omega (arith, stands_low _ _ _ _ c.loop.invariant.0, h.numbers_hold));
+      i_in_bounds = stands_low _ _ _ _ c.loop.invariant.0;
       gates_len = h.gates_wide;
     }
 
@@ -35,7 +35,7 @@ unfolding state_of
 returns-then-walk-is_above c =
     let a = c.args in
     ap (λ u. u.walk)
-    (run_ended (tokens_of a.roles.now a.numbers.now a.gates.now) _ (state_of c.loop.walk c.loop.marks c.loop.kept) _ c.token_at-token.ensures (ended_is _ c.loop.walk _ _ c.is_above.ensures c.if-walk-is_above.true) c.loop.invariant.3)
+    (run_ended (tokens_of a.tokens.now.roles.now a.tokens.now.numbers.now a.gates.now) _ (state_of c.loop.walk c.loop.marks c.loop.kept) _ c.token_at-token.ensures (ended_is _ c.loop.walk _ _ c.is_above.ensures c.if-walk-is_above.true) c.loop.invariant.3)
 
 pub take_step-walk-requires : goal.take_step-walk-requires
 take_step-walk-requires c =
@@ -50,11 +50,11 @@ unfolding tokens_of state_of
 loop-preserved c =
     let a = c.args in
     let k = c.token_at-token.ensures in
-    let e = step_taken (tokens_of a.roles.now a.numbers.now a.gates.now) _ (state_of c.loop.walk c.loop.marks c.loop.kept) _ k (ended_is _ c.loop.walk _ _ c.is_above.ensures c.if-walk-is_above.false) c.take_step-walk.ensures in (
-      subst (Low a.count) (sym e) (step_low c.requires.within _ c.loop.invariant.0),
+    let e = step_taken (tokens_of a.tokens.now.roles.now a.tokens.now.numbers.now a.gates.now) _ (state_of c.loop.walk c.loop.marks c.loop.kept) _ k (ended_is _ c.loop.walk _ _ c.is_above.ensures c.if-walk-is_above.false) c.take_step-walk.ensures in (
+      subst (Low a.tokens.now.count) (sym e) (step_low c.requires.within _ c.loop.invariant.0),
       c.take_step-walk.auto.marks ∙ c.loop.invariant.1,
       c.take_step-walk.auto.kept ∙ c.loop.invariant.2,
-      run_less (tokens_of a.roles.now a.numbers.now a.gates.now) _ _ _ _ _ (omega arith) e c.loop.invariant.3,
+      run_less (tokens_of a.tokens.now.roles.now a.tokens.now.numbers.now a.gates.now) _ _ _ _ _ (omega arith) e c.loop.invariant.3,
     )
 
 pub returns : goal.returns

@@ -10,7 +10,7 @@ use Rattle.qcir_unbound.proofs.Within.{Low}
 use Rattle.qcir_unbound.proofs.walk_tokens.Given as goal
 
 abbrev pub invariant-loop : goal.invariant-loop
-invariant-loop l = Low l.count (state_of l.walk l.marks l.kept)
+invariant-loop l = Low l.tokens.count (state_of l.walk l.marks l.kept)
     × (length l.marks ≡ number_count)
     × (length l.kept ≡ token_limit)
-    × (run (tokens_of l.roles l.numbers l.gates) (2 * l.count - l.counter) (state_of l.walk l.marks l.kept) ≡ run (tokens_of l.roles l.numbers l.gates) (2 * l.count) (start l.output l.initial.marks))
+    × (run (tokens_of l.tokens.roles.now l.tokens.numbers.now l.gates) (2 * l.tokens.count - l.counter) (state_of l.walk l.marks l.kept) ≡ run (tokens_of l.tokens.roles.now l.tokens.numbers.now l.gates) (2 * l.tokens.count) (start l.output l.initial.marks))
