@@ -35,4 +35,4 @@ pub shape_of-lines : goal.shape_of-lines
 shape_of-lines c = omega (arith, c.loop-i.invariant.0, c.requires)
 
 pub returns : goal.returns
-returns c = let inv = c.loop-i.invariant in (inv.1, λ few. omega (arith, inv, few, c.loop-i-test.false))
+returns c = let inv = c.loop-i.invariant in (omega arith, λ few. omega (arith, inv, few, c.loop-i-test.false))
