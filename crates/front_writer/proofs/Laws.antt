@@ -26,6 +26,16 @@ use Rattle.kept_prefix.proofs.Leading.{names_one_more, names_append}
 use Rattle.kept_prefix.proofs.Kept.{front_append, front_next, front_kept}
 use Rattle.front_writer.specs.Written.{front_words, front_names, FrontFits, WrittenTo, moved, Movable}
 
+-- What stands in front of one number of blocks stands in front of an equal one.
+pub written_of_same : {t : Table} {i j : ℕ} {p v q w : List ℕ} → i ≡ j → WrittenTo t i p v q w → WrittenTo t j p v q w
+written_of_same e h = rw (sym e) h
+
+pub words_of_same : (t : Table) {i j : ℕ} → i ≡ j → length (front_words t i) ≡ length (front_words t j)
+words_of_same t e = ap (λ k. length (front_words t k)) e
+
+pub names_of_same : (t : Table) {i j : ℕ} → i ≡ j → length (front_names t i) ≡ length (front_names t j)
+names_of_same t e = ap (λ k. length (front_names t k)) e
+
 -- One part more after what is written from a buffer's start on.
 write_more : (out cur next a b whole : List ℕ) (at : ℕ) → cur ≡ overwrite out 0 a → at ≡ length a → next ≡ overwrite cur at b → whole ≡ a ++ b
     → length whole ≤ length out → next ≡ overwrite out 0 whole

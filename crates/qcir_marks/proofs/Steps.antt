@@ -10,11 +10,10 @@ use lib.ListN.{length, get_or, set, length-set}
 use borrow.Author.Tests.{eq-eqb, ne_eqb}
 use Rattle.lists.specs.Choice.{pick, pick_no}
 use Rattle.lists.specs.Members.{mem}
-use Rattle.lists.proofs.Members.{mem_one}
 use Rattle.lists.proofs.Stores.{get_d_set}
 use Rattle.formula.specs.Node.{Node, variable}
 use Rattle.formula.specs.FreeVariables.{stands_at, number_at}
-use Rattle.qcir_form.specs.Rows.{OperatorRow, left_row, right_row}
+use Rattle.qcir_form.specs.Rows.{OperatorRow}
 use Rattle.qcir_form.specs.File.{row_operands, used_operands}
 use Rattle.qcir_rows.specs.Shapes.{RowFor}
 use Rattle.qcir_rows.proofs.Shapes.{row_used, row_no_name, row_no_number}
@@ -28,21 +27,23 @@ two_marks true false m = refl
 two_marks false true m = refl
 two_marks false false m = refl
 
--- Marks of operands, by the row's kind.
+-- Marks of operands.
 module _ (marks : List ℕ) (a b : ℕ) where
-  pub operands_left : a < length marks → (i : ℕ) → get_or (set marks a 1) i 0 ≡ pick (mem i (row_operands left_row a b)) 1 (get_or marks i 0)
-  unfolding row_operands pick
-  operands_left h i = rw mem_one (get_d_set marks a 1 0 h i)
-
-  pub operands_right : b < length marks → (i : ℕ) → get_or (set marks b 1) i 0 ≡ pick (mem i (row_operands right_row a b)) 1 (get_or marks i 0)
-  unfolding row_operands pick
-  operands_right h i = rw mem_one (get_d_set marks b 1 0 h i)
-
   pub operands_both : a < length marks → b < length marks → (i : ℕ)
       → get_or (set (set marks a 1) b 1) i 0 ≡ pick (mem i (a ∷ b ∷ [])) 1 (get_or marks i 0)
   unfolding mem pick
   operands_both h l i =
       rw (get_d_set (set marks a 1) b 1 0 (simp length-set (omega arith)) i, get_d_set marks a 1 0 h i) (two_marks (eqb i a) (eqb i b) (get_or marks i 0))
+
+same_twice : (p : Bool) (m : ℕ) → pick (p || (p || false)) 1 m ≡ pick (p || false) 1 m
+unfolding pick
+same_twice true m = refl
+same_twice false m = refl
+
+-- an operand marked twice is marked
+pub operand_twice : (a m i : ℕ) → pick (mem i (a ∷ a ∷ [])) 1 m ≡ pick (mem i (a ∷ [])) 1 m
+unfolding mem
+operand_twice a m i = same_twice (eqb i a) m
 
 -- One node.
 

@@ -2,7 +2,7 @@
 // operand that a row ignores is not written, nor what hangs on it.
 #![tactic(auto)]
 
-ghost use Rattle.std.specs.Prelude.{[], ◌≡◌, ℕ, ◌<◌, length, get_or};
+ghost use Rattle.std.specs.Prelude.{[], ◌∷◌, ◌≡◌, ℕ, ◌<◌, length, get_or};
 ghost use Rattle.lists.specs.Choice.{pick};
 ghost use Rattle.lists.specs.Members.{mem};
 ghost use Rattle.formula.specs.Words.{node_count, node_at, table_of};
@@ -77,11 +77,18 @@ fn mark_operands(marks: &mut [u32], kind: RowKind, left: usize, right: usize)
 {
     match kind {
         RowKind::Constant => {}
-        RowKind::Left => marks[left] = 1,
-        RowKind::Right => marks[right] = 1,
-        RowKind::And | RowKind::Xor => {
-            marks[left] = 1;
-            marks[right] = 1;
-        }
+        RowKind::Left => mark_two(marks, left, left),
+        RowKind::Right => mark_two(marks, right, right),
+        RowKind::And | RowKind::Xor => mark_two(marks, left, right),
     }
+}
+
+// Marks two nodes, or one that is given twice.
+fn mark_two(marks: &mut [u32], first: usize, second: usize)
+    requires { (first < length marks.old) × (second < length marks.old) }
+    ensures { (i : ℕ) → get_or marks.new i 0
+        ≡ pick (mem i (first ∷ second ∷ [])) 1 (get_or marks.old i 0) }
+{
+    marks[first] = 1;
+    marks[second] = 1;
 }

@@ -89,7 +89,9 @@ module _ (text rs ns ps : List ℕ) (q : Progress) (h : Holds text rs ns ps q) (
     end_spelled t =
         let w = h.within in
         let room = h.room in
-        record { accepted = accepts_end ∙ t; tokens_are = ap (λ s. s.tokens) (sym whole); few = omega arith }
+        let z = alive_end highest text (run highest start (take q.at text)) q.at end in
+        let lives = lives_here text rs ns ps q h going in
+        record { accepted = accepts_end ∙ t; position_is = omega arith; tokens_are = ap (λ s. s.tokens) (sym whole); few = omega arith }
 
     pub end_misspelled : eqb (entry_at q.place 10 % 256) 27 ≡ false → Misspelled text q.at
     end_misspelled t =

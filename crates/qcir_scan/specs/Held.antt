@@ -78,9 +78,10 @@ pub record Leads (place first second next : ℕ) : Type 0 where
 abbrev pub GoesOn : List ℕ → Progress → Progress → Type 0
 GoesOn text q r = (q.at ≤ r.at) × ((roles numbers positions : List ℕ) → Holds text roles numbers positions q → Holds text roles numbers positions r)
 
--- The text is a file, and the arrays hold its tokens.
+-- The text is a file, some file begins with all of its bytes, and the arrays hold its tokens.
 pub record Spelled (text roles numbers positions : List ℕ) (count : ℕ) : Type 0 where
   pub accepted : accepts highest text ≡ true
+  pub position_is : length text ≡ alive highest start text
   pub tokens_are : tokens_from roles numbers positions 0 count ≡ tokens_of highest text
   pub few : count ≤ token_limit
 

@@ -1,12 +1,13 @@
 -- What writing answers and leaves, by the laws of every text.
 -- Assumes nothing.
-use mathlib.Core.Path.{◌≡◌}
+use mathlib.Core.Path.{◌≡◌, refl, ap}
 use mathlib.Core.List.{List, ◌++◌}
 use Prim.Native.Nat.{ℕ, ◌/◌, ◌<◌, ◌≤◌}
 use lib.ListN.{length}
 use Rattle.formula.specs.Words.{node_count}
 use Rattle.formula.specs.Form.{prefix_width}
-use Rattle.refusals.specs.Outcome.{Outcome, refused}
+use Rattle.refusals.specs.declared.Verdict.{Verdict}
+use Rattle.refusals.specs.Outcome.{AnswerWith, Outcome, refused}
 use Rattle.form_check.specs.Verdict.{form_verdict}
 use Rattle.form_check.specs.Accepted.{AcceptedForm}
 use Rattle.form_check.specs.Answer.{refusal_of}
@@ -21,6 +22,15 @@ use Rattle.qdimacs_form.specs.Promise.{ClausesOf}
 use Rattle.qdimacs_form.proofs.Room.{text_room}
 use Rattle.qdimacs_form.proofs.Theorem.{clauses_written}
 use Rattle.qdimacs_writer.specs.Writing.{write_outcome, ClausesWritten, RoomSuffices}
+
+-- Answers of the same number, position and bytes are the same.
+pub same_answer : (r s : Answer) → r.number ≡ s.number → r.position ≡ s.position → r.bytes ≡ s.bytes → answer_of r ≡ answer_of s
+unfolding answer_of
+same_answer r s n p k = rw (n, p, k) refl
+
+pub no_bytes : (r : Answer) (v : Verdict) → answer_of r ≡ refused v 0 → r.bytes ≡ 0
+unfolding answer_of refused
+no_bytes r v e = ap (λ (a : AnswerWith ℕ). a.sizes) e
 
 module _ (ns ps xs before : List ℕ) where
   pub is_refused : (fault : Malformed) → refusal_of fault ≡ form_verdict ns ps xs → (r : Answer) → answer_of r ≡ refused (refusal_of fault) 0

@@ -1,25 +1,34 @@
--- Bytes copied, digits stored from the last to the first, and what is stored over.
+-- Bytes stored one at a time, from the front and from the back, and what is stored over.
 -- Assumes nothing.
 use mathlib.Core.List.{List, [], ◌∷◌, ◌++◌, append_assoc, append-nil}
 use mathlib.Core.Path.{◌≡◌, sym, ◌∙◌, ap}
 use Prim.Native.Nat.{ℕ, ◌+◌, ◌-◌, ◌≤◌, ◌<◌, ◌/◌, ◌%◌}
+use native.Mathlib.Numerals.{add-one}
 use native.Mathlib.Nat.{add-zero}
 use native.Mathlib.Omega.{arith}
-use lib.ListN.{length, set, take, drop, length-append}
-use lib.Seq.{length-take-le, drop-drop, take-append-le, take-take, take_at, drop_at}
-use borrow.Rule.Slice.PartMut.{put_mid}
+use lib.ListN.{length, get_or, set, take, drop, length-append}
+use lib.Seq.{length-take-le, take-suc, take_all, take-append-le, take-take, take_at, drop_at}
 use Rattle.lists.specs.Parts.{overwrite}
-use Rattle.lists.proofs.Overwrite.{overwrite_nil, set_one, length_overwrite, drop_overwrite}
+use Rattle.lists.proofs.Overwrite.{overwrite_nil, overwrite_append, set_one, length_overwrite, drop_overwrite}
 use Rattle.texts.specs.Numerals.{digits}
 use Rattle.texts.proofs.Numerals.{digits_below_ten, digits_step}
 use Rattle.texts.proofs.Lengths.{some_digit}
 
--- what a copy over a part of a buffer leaves
-pub copied : (out : List ℕ) (at : ℕ) (word part : List ℕ) → part ≡ word → put_mid at (at + length word - at) out part ≡ overwrite out at word
-unfolding overwrite
-copied out at word part e =
-    let k : at + length word - at ≡ length word = omega arith in
-    rw (k, e, drop-drop)
+-- one more byte of a word, the k before it being stored
+pub store_next : (out text : List ℕ) (at : ℕ) (word : List ℕ) (k : ℕ) → text ≡ overwrite out at (take k word) → k < length word
+    → at + length word ≤ length out → set text (at + k) (get_or word k 0) ≡ overwrite out at (take (k + 1) word)
+store_next out text at word k e h fits =
+    let l : length (take k word) ≡ k = length-take-le k word (omega arith) in
+    let w : length (overwrite out at (take k word)) ≡ length out = length_overwrite out at (take k word) (omega arith) in
+    ap (λ t. set t (at + k) (get_or word k 0)) e
+    ∙ set_one (overwrite out at (take k word)) (at + k) (get_or word k 0) (omega arith)
+    ∙ ap (λ n. overwrite (overwrite out at (take k word)) (at + n) (get_or word k 0 ∷ [])) (sym l)
+    ∙ overwrite_append out at (take k word) (get_or word k 0 ∷ []) (omega arith)
+    ∙ rw (add-one, take-suc word k 0)
+
+-- all of it
+pub store_all : (out text : List ℕ) (at : ℕ) (word : List ℕ) (k : ℕ) → text ≡ overwrite out at (take k word) → length word ≤ k → text ≡ overwrite out at word
+store_all out text at word k e h = e ∙ ap (overwrite out at) (take_all k word h)
 
 -- a part written before another
 pub overwrite_before : (out : List ℕ) (at : ℕ) (a b : List ℕ) → at + length a + length b ≤ length out

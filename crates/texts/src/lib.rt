@@ -9,6 +9,17 @@ ghost use Rattle.texts.specs.Numerals.{digits};
 ghost use Rattle.texts.specs.Put.{Put};
 ghost use Rattle.texts.specs.Bounds.{number_bound, last_piece};
 
+// Stores a word where it fits. Byte by byte, since words are short: a copy of a length that is not known is a call of the C
+// library, which takes longer, and which the archives for C would have to be given.
+fn store_word(text: &mut [u8], at: usize, word: &[u8])
+    requires { at + length word.now ≤ length text.old }
+    ensures { text.new ≡ overwrite text.old at word.now }
+{
+    for k in 0..word.len() {
+        text[at + k] = word[k];
+    }
+}
+
 // Puts a word: bytes as they are.
 pub fn put_word(text: &mut [u8], at: usize, word: &[u8]) -> usize
     requires { (at ≤ 2 * last_piece) × (length word.now ≤ 65536) }
@@ -16,7 +27,7 @@ pub fn put_word(text: &mut [u8], at: usize, word: &[u8]) -> usize
 {
     let next = at + word.len();
     if next <= text.len() {
-        text[at..next].copy_from_slice(word);
+        store_word(text, at, word);
     }
     next
 }
@@ -28,12 +39,12 @@ pub fn digit_count(x: u32) -> usize
     ensures { result ≡ length (digits x) }
 {
     match x {
-        0..=9 => 1,
-        10..=99 => 2,
-        100..=999 => 3,
-        1000..=9999 => 4,
+        100000.. => 6,
         10000..=99999 => 5,
-        _ => 6,
+        1000..=9999 => 4,
+        100..=999 => 3,
+        10..=99 => 2,
+        _ => 1,
     }
 }
 

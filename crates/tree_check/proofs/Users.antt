@@ -17,70 +17,61 @@ use Rattle.formula.specs.declared.NodeWords.{NodeWords}
 use Rattle.formula.specs.Tree.{users}
 use Rattle.formula.proofs.Nodes.{Kind, kind_of_lem, kind_constant, kind_variable, kind_negation, kind_operator, kind_exists, kind_for_all, kind_none}
 use Rattle.refusals.specs.Verdict.{first_two}
-use Rattle.refusals.specs.declared.Users.{Users}
 use Rattle.tree_check.specs.declared.FirstUsers.{FirstUsers}
-use Rattle.tree_check.specs.declared.FirstUsers.TheVariants.{Nobody, One, Two}
 use Rattle.tree_check.specs.Named.{named_by, users_below, first_users}
 use Rattle.tree_check.proofs.Named.{operands_are}
 
+-- the first users as two numbers
+pub two_first : (us : List ℕ) → record { first = (first_users us).first; second = (first_users us).second } ≡ first_two us
+unfolding first_users first_two
+two_first [] = refl
+two_first (a ∷ []) = refl
+two_first (a ∷ b ∷ us) = refl
+
+-- The first users of a list with one user more, by how many there were.
+more_none : (us : List ℕ) (i : ℕ) → (first_users us).count ≡ 0 → record { count = 1; first = i; second = 0 } ≡ first_users (us ++ i ∷ [])
+unfolding first_users
+more_none [] i e = refl
+more_none (a ∷ []) i e = absurd (omega arith)
+more_none (a ∷ b ∷ us) i e = absurd (omega arith)
+
+more_one : (us : List ℕ) (i : ℕ) → (first_users us).count ≡ 1 → record { count = 2; first = (first_users us).first; second = i } ≡ first_users (us ++ i ∷ [])
+unfolding first_users
+more_one [] i e = absurd (omega arith)
+more_one (a ∷ []) i e = refl
+more_one (a ∷ b ∷ us) i e = absurd (omega arith)
+
 -- two users stay the first, whatever comes after them
-two_stay : (us vs : List ℕ) (u : Users) → Two u ≡ first_users us → first_users us ≡ first_users (us ++ vs)
+two_stay : (us vs : List ℕ) → 2 ≤ (first_users us).count → first_users us ≡ first_users (us ++ vs)
 unfolding first_users
-two_stay [] vs u h = absurd (cc)
-two_stay (a ∷ []) vs u h = absurd (cc)
-two_stay (a ∷ b ∷ us) vs u h = refl
+two_stay [] vs h = absurd (omega arith)
+two_stay (a ∷ []) vs h = absurd (omega arith)
+two_stay (a ∷ b ∷ us) vs h = refl
 
--- one user more
-more_none : (us : List ℕ) (i : ℕ) → Nobody ≡ first_users us → One i ≡ first_users (us ++ i ∷ [])
-unfolding first_users
-more_none [] i h = refl
-more_none (a ∷ []) i h = absurd (cc)
-more_none (a ∷ b ∷ us) i h = absurd (cc)
-
-more_one : (us : List ℕ) (first i : ℕ) → One first ≡ first_users us → Two (record { first = first; second = i }) ≡ first_users (us ++ i ∷ [])
-unfolding first_users
-more_one [] first i h = absurd (cc)
-more_one (a ∷ []) first i h = cc
-more_one (a ∷ b ∷ us) first i h = absurd (cc)
-
--- Node i put to a list of users if it is one.
-module _ (us : List ℕ) (names : Bool) (i : ℕ) where
+-- Node i put to a list of users if it is one, where f holds the first of the list.
+module _ (us : List ℕ) (names : Bool) (i : ℕ) (f : FirstUsers) (h : f ≡ first_users us) where
   put : names ≡ true → us ++ i ∷ [] ≡ us ++ replicate (pick names 1 0) i
   unfolding pick
   put e = rw e
 
-  pub put_none : (f : FirstUsers) → f ≡ first_users us → names ≡ false → f ≡ first_users (us ++ replicate (pick names 1 0) i)
+  counted : (first_users us).count ≡ f.count
+  counted = ap (λ (g : FirstUsers). g.count) (sym h)
+
+  pub put_none : names ≡ false → f ≡ first_users (us ++ replicate (pick names 1 0) i)
   unfolding pick
-  put_none f h e = rw e (h ∙ ap first_users (sym (append-nil us)))
+  put_none e = rw e (h ∙ ap first_users (sym (append-nil us)))
 
-  pub put_first : Nobody ≡ first_users us → names ≡ true → One i ≡ first_users (us ++ replicate (pick names 1 0) i)
-  put_first h e = more_none us i h ∙ ap first_users (put e)
+  pub put_first : names ≡ true → f.count ≡ 0 → record { count = 1; first = i; second = 0 } ≡ first_users (us ++ replicate (pick names 1 0) i)
+  put_first e z = more_none us i (counted ∙ z) ∙ ap first_users (put e)
 
-  pub put_second : (first : ℕ) → One first ≡ first_users us → names ≡ true
-      → Two (record { first = first; second = i }) ≡ first_users (us ++ replicate (pick names 1 0) i)
-  put_second first h e = more_one us first i h ∙ ap first_users (put e)
+  pub put_second : names ≡ true → f.count ≡ 1 → record { count = 2; first = f.first; second = i } ≡ first_users (us ++ replicate (pick names 1 0) i)
+  put_second e o =
+      ap (λ (g : FirstUsers). record { count = 2; first = g.first; second = i }) h ∙ more_one us i (counted ∙ o) ∙ ap first_users (put e)
 
-  pub put_further : (u : Users) → Two u ≡ first_users us → Two u ≡ first_users (us ++ replicate (pick names 1 0) i)
-  put_further u h = h ∙ two_stay us (replicate (pick names 1 0) i) u h
-
--- The first users as two numbers.
-pub two_none : (us : List ℕ) → Nobody ≡ first_users us → record { first = 0; second = 0 } ≡ first_two us
-unfolding first_users first_two
-two_none [] h = refl
-two_none (a ∷ []) h = absurd (cc)
-two_none (a ∷ b ∷ us) h = absurd (cc)
-
-pub two_one : (us : List ℕ) (first : ℕ) → One first ≡ first_users us → record { first = first; second = 0 } ≡ first_two us
-unfolding first_users first_two
-two_one [] first h = absurd (cc)
-two_one (a ∷ []) first h = cc
-two_one (a ∷ b ∷ us) first h = absurd (cc)
-
-pub two_both : (us : List ℕ) (u : Users) → Two u ≡ first_users us → u ≡ first_two us
-unfolding first_users first_two
-two_both [] u h = absurd (cc)
-two_both (a ∷ []) u h = absurd (cc)
-two_both (a ∷ b ∷ us) u h = cc
+  pub put_further : names ≡ true → (f.count ≡ 0 → ⊥) → (f.count ≡ 1 → ⊥) → f ≡ first_users (us ++ replicate (pick names 1 0) i)
+  put_further e z o =
+      let c : (first_users us).count ≡ f.count = counted in
+      h ∙ two_stay us (i ∷ []) (omega arith) ∙ ap first_users (put e)
 
 -- Whether a node with these words names x as an operator's left operand, and whether otherwise.
 abbrev as_left : NodeWords → ℕ → Bool
@@ -131,12 +122,14 @@ module _ (ws : List ℕ) (x : ℕ) where
       ∙ ap first_users (sym (users_more i))
 
   -- two users below node i are the first of all n nodes
-  pub two_known : (u : Users) (i n : ℕ) → i ≤ n → Two u ≡ first_users (users_below ws x i) → u ≡ first_two (users_below ws x n)
+  pub two_known : (f : FirstUsers) (i n : ℕ) → i ≤ n → f ≡ first_users (users_below ws x i) → f.count ≡ 2
+      → f ≡ first_users (users_below ws x n)
   unfolding users_below
-  two_known u i n l h =
+  two_known f i n l h two =
       let r = up_to_split (λ j. replicate (times x (named_by (words_at ws j))) j) i (n - i) in
       let s : n - i + i ≡ n = omega arith in
-      two_both (users_below ws x n) u (h ∙ two_stay (users_below ws x i) r.0 u h ∙ ap first_users (sym r.1 ∙ ap (users_below ws x) s))
+      let e : f.count ≡ (first_users (users_below ws x i)).count = ap (λ (g : FirstUsers). g.count) h in
+      h ∙ two_stay (users_below ws x i) r.0 (omega arith) ∙ ap first_users (sym r.1 ∙ ap (users_below ws x) s)
 
 -- the table's users, by the words alone
 pub users_are : (ws ls : List ℕ) (x : ℕ) → users (table_of ws ls) x ≡ users_below ws x (node_count ws)

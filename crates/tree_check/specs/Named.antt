@@ -11,7 +11,6 @@ use Rattle.refusals.specs.Verdict.{first_two, not_a_tree, accepted}
 use Rattle.refusals.specs.declared.Verdict.{Verdict}
 use Rattle.acceptance.specs.Limits.{limit}
 use Rattle.tree_check.specs.declared.FirstUsers.{FirstUsers}
-use Rattle.tree_check.specs.declared.FirstUsers.TheVariants.{Nobody, One, Two}
 
 -- The nodes that a node with these words names.
 unfoldable pub named_by : NodeWords → List ℕ
@@ -39,11 +38,11 @@ pub record Room (named : List ℕ) (i : ℕ) : Type 0 where
 unfoldable pub users_below : List ℕ → ℕ → ℕ → List ℕ
 users_below ws x i = up_to (λ j. replicate (times x (named_by (words_at ws j))) j) i
 
--- The first users of a list, two at most.
+-- The first two of a list of users, and how many of the two there are.
 unfoldable pub first_users : List ℕ → FirstUsers
-first_users [] = Nobody
-first_users (a ∷ []) = One a
-first_users (a ∷ b ∷ us) = Two (record { first = a; second = b })
+first_users [] = record { count = 0; first = 0; second = 0 }
+first_users (a ∷ []) = record { count = 1; first = a; second = 0 }
+first_users (a ∷ b ∷ us) = record { count = 2; first = a; second = b }
 
 -- Refusal 8: of the lowest node below the last that is not named exactly once, with the first two of its users.
 unfoldable pub tree_verdict : List ℕ → Verdict

@@ -63,12 +63,13 @@ fn all_are<T: Copy + PartialEq>(counts: &[T], one: T) -> bool
     all
 }
 
-// The first users of a node, two at most.
+// The first two users of a node, and how many of the two there are; 0 for each that there is not. It is a struct of numbers
+// and no enum, since the bytes of an enum that hold nothing are copied through memory at each node.
 #[derive(Clone, Copy)]
-enum FirstUsers {
-    Nobody,
-    One(u32),
-    Two(Users),
+struct FirstUsers {
+    count: u32,
+    first: u32,
+    second: u32,
 }
 
 impl FirstUsers {
@@ -94,24 +95,30 @@ impl FirstUsers {
         if !names {
             return self;
         }
-        match self {
-            FirstUsers::Nobody => FirstUsers::One(i),
-            FirstUsers::One(first) => FirstUsers::Two(Users { first, second: i }),
-            FirstUsers::Two(users) => FirstUsers::Two(users),
+        if self.count == 0 {
+            return FirstUsers {
+                count: 1,
+                first: i,
+                second: 0,
+            };
         }
+        if self.count == 1 {
+            return FirstUsers {
+                count: 2,
+                first: self.first,
+                second: i,
+            };
+        }
+        self
     }
 
-    // The two users; 0 for each that there is not.
+    // The two users.
     fn users(self) -> Users
         ensures { (us : List ℕ) → self ≡ first_users us → result ≡ first_two us }
     {
-        match self {
-            FirstUsers::Nobody => Users {
-                first: 0,
-                second: 0,
-            },
-            FirstUsers::One(first) => Users { first, second: 0 },
-            FirstUsers::Two(users) => users,
+        Users {
+            first: self.first,
+            second: self.second,
         }
     }
 }
@@ -121,11 +128,15 @@ fn lowest_users(words: &[u32], x: u32) -> Users
     requires { node_count words.now ≤ limit }
     ensures { result ≡ first_two (users_below words.now x (node_count words.now)) }
 {
-    let mut found = FirstUsers::Nobody;
+    let mut found = FirstUsers {
+        count: 0,
+        first: 0,
+        second: 0,
+    };
     for i in 0..words.len() / formula::WIDTH {
         found = found.with_node(formula::node_at(words, i), x, i as u32);
-        if let FirstUsers::Two(users) = found {
-            return users;
+        if found.count == 2 {
+            return found.users();
         }
     }
     found.users()

@@ -2,12 +2,11 @@
 -- Assumes nothing.
 use mathlib.Core.Path.{refl}
 use native.Mathlib.Omega.{arith}
-use Rattle.texts.proofs.Stores.{copied}
 use Rattle.texts.proofs.Put.{put_held, put_counted}
 use Rattle.texts.proofs.put_word.Goals as goal
 
 pub returns-then-next-text : goal.returns-then-next-text
-returns-then-next-text c = put_held _ _ _ _ _ refl c.if-next-text.true (copied _ _ _ _ c.copy_from_slice.ensures.after)
+returns-then-next-text c = put_held _ _ _ _ _ refl c.if-next-text.true c.store_word.ensures
 
 pub returns-else-next-text : goal.returns-else-next-text
 returns-else-next-text c = put_counted _ _ _ _ refl (omega arith)
