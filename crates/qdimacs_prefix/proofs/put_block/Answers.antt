@@ -14,8 +14,8 @@ pub returns-then-is_empty : goal.returns-then-is_empty
 returns-then-is_empty c =
     let kept : Loose c.args.text.now c.args.line.at [] c.args.text.now c.args.line.at = loose_none in
     let none = eqb-true _ _ (sym c.is_empty.ensures ∙ c.if-is_empty.true) in record {
-      goes = block_empty (quantifier_kind c.args.quantifier) c.args.names.now none (omega arith) (omega (arith, unended_length)) (search);
-      at_bound = omega (arith, unended_length);
+      goes = block_empty (quantifier_kind c.args.quantifier) c.args.names.now none (grind arith) (grind (arith, unended_length)) (search);
+      at_bound = grind (arith, unended_length);
     }
 
 pub returns : goal.returns
