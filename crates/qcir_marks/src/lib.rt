@@ -83,7 +83,7 @@ fn mark_operands(marks: &mut [u32], kind: RowKind, left: usize, right: usize)
     }
 }
 
-// Marks two nodes, or one that is given twice.
+// Marks two nodes, or one that is given twice: so what each kind of row marks is told by its operands alone.
 fn mark_two(marks: &mut [u32], first: usize, second: usize)
     requires { (first < length marks.old) × (second < length marks.old) }
     ensures { (i : ℕ) → get_or marks.new i 0

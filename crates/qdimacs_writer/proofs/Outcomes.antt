@@ -23,11 +23,12 @@ use Rattle.qdimacs_form.proofs.Room.{text_room}
 use Rattle.qdimacs_form.proofs.Theorem.{clauses_written}
 use Rattle.qdimacs_writer.specs.Writing.{write_outcome, ClausesWritten, RoomSuffices}
 
--- Answers of the same number, position and bytes are the same.
+-- Answers of the same number, position and bytes are the same: an answer is compared field by field, so that an edit of one falls at its value.
 pub same_answer : (r s : Answer) → r.number ≡ s.number → r.position ≡ s.position → r.bytes ≡ s.bytes → answer_of r ≡ answer_of s
 unfolding answer_of
 same_answer r s n p k = rw (n, p, k) refl
 
+-- A refusal has no bytes.
 pub no_bytes : (r : Answer) (v : Verdict) → answer_of r ≡ refused v 0 → r.bytes ≡ 0
 unfolding answer_of refused
 no_bytes r v e = ap (λ (a : AnswerWith ℕ). a.sizes) e

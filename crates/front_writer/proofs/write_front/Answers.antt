@@ -1,4 +1,5 @@
 -- `front_writer::write_front` meets its contract. The loop's invariant: what stands in front of the blocks passed is written.
+-- The number of the block that is written is taken by `omega`, so that an edit of it falls at its value and not at its form.
 -- Assumes nothing.
 use mathlib.Core.Path.{◌≡◌, refl, ◌∙◌}
 use native.Mathlib.Omega.{arith}

@@ -1,4 +1,5 @@
--- `qdimacs_prefix::put_block` meets its contract.
+-- `qdimacs_prefix::put_block` meets its contract. The kind of the line after an empty block is found by `grind`, whatever makes the line, so
+-- that an edit of it falls at its value and not at its form.
 -- Assumes nothing.
 use mathlib.Core.Path.{sym, ◌∙◌}
 use mathlib.Core.List.{[]}

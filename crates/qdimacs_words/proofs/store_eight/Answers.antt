@@ -1,4 +1,4 @@
--- `qdimacs_words::store_eight` meets its contract.
+-- `qdimacs_words::store_eight` meets its contract. The word is taken by `omega`, so that an edit of it falls at its value and not at its form.
 -- Assumes nothing.
 use mathlib.Core.Path.{◌∙◌, ap}
 use native.Mathlib.Omega.{arith}
