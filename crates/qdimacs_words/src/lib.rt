@@ -100,13 +100,28 @@ pub fn store_end(text: &mut [u8], at: usize) -> usize
     at + 2
 }
 
+// How many bytes a number and the space behind it take. Nearly all numbers of a large form have five digits: these are told
+// by two tests, where `texts::digit_count` takes five.
+fn name_length(x: u32) -> usize
+    requires { x < number_bound }
+    ensures { result ≡ length (digits x) + 1 }
+{
+    if x < 10000 {
+        return texts::digit_count(x) + 1;
+    }
+    if x < 100000 {
+        return 6;
+    }
+    7
+}
+
 // Puts a number and the space behind it.
 pub fn put_name(text: &mut [u8], at: usize, x: u32) -> usize
     requires { (at ≤ last_piece) × (x < number_bound) }
     ensures loose { Loose text.old at (digits x ++ (32 ∷ [])) text.new result }
     ensures upper_bound { result ≤ at + 7 }
 {
-    let next = at + texts::digit_count(x) + 1;
+    let next = at + name_length(x);
     if next + STORED <= text.len() {
         let piece = positive(numeral_word(x));
         store_piece(text, at, piece);

@@ -13,9 +13,6 @@ overflow_add-next c = omega (arith, at_most_six c.args.x (omega arith))
 pub overflow_add-next-2 : goal.overflow_add-next-2
 overflow_add-next-2 c = omega (arith, at_most_six c.args.x (omega arith))
 
-pub overflow_add-next-3 : goal.overflow_add-next-3
-overflow_add-next-3 c = omega (arith, at_most_six c.args.x (omega arith))
-
 pub store_piece-requires : goal.store_piece-requires
 store_piece-requires c =
     let x = c.args.x in
